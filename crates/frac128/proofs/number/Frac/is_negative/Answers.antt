@@ -1,0 +1,7 @@
+use Rattle.frac128.proofs.ValueOrder.{below_zero}
+use Rattle.frac128.proofs.number.Frac.is_negative.Goals as goal
+
+pub returns : goal.returns
+returns c =
+    let i = below_zero c.self.inside.parts c.self.invariant.reduced.positive in
+    rw (← c.self.view_is) (λ e. i.1 (c.is_negative.ensures.0 e), λ h. c.is_negative.ensures.1 (i.0 h))

@@ -1,0 +1,10 @@
+pub mod Appends
+pub mod Narrow
+pub mod Numeral
+pub mod NumeralReading
+pub mod Pairs
+pub mod Printed
+pub mod Scaled
+pub mod Signed
+pub mod Trimmed
+pub mod Values

@@ -1,0 +1,8 @@
+// What is true of narrow numbers, for callers that reason about them.
+
+ghost use Rattle.frac128.specs.Narrow.{NarrowTests};
+
+/// Whether a number or a sum is narrow is told by a test.
+pub fn narrow_is_tested()
+    ensures { NarrowTests }
+{}

@@ -1,0 +1,25 @@
+//! Exact fractions whose parts fit 128 bits.
+#![tactic(auto)]
+
+mod fault;
+mod integers;
+mod laws;
+mod number;
+mod numeral;
+mod numeral_fault;
+mod parts;
+mod read;
+mod significand;
+mod write;
+
+pub use fault::{Memory, Wide};
+pub use laws::narrow_is_tested;
+pub use number::Frac;
+pub use numeral_fault::NumeralFault;
+pub use read::no_text_spells_two;
+pub use write::{places_are_least, printed_reads_back};
+
+#[cfg(test)]
+mod numeral_tests;
+#[cfg(test)]
+mod tests;
