@@ -1,0 +1,4 @@
+pub mod Order
+pub mod Digits
+pub mod Addresses
+pub mod NamesLemmas

@@ -1,0 +1,16 @@
+// What fails where memory runs out.
+ghost use Rattle.std.specs.Prelude.{⊤};
+
+use std::alloc::AllocError;
+use thiserror::Error;
+
+/// Memory ran out.
+#[derive(Clone, Copy, Debug, PartialEq, Eq, Error)]
+#[error("out of memory")]
+pub struct Memory;
+
+impl From<AllocError> for Memory {
+    fn from(_: AllocError) -> Memory {
+        Memory
+    }
+}
