@@ -1,0 +1,24 @@
+//! What permitted, better, optimal, infeasible and unbounded mean, for any problem.
+#![tactic(auto)]
+
+ghost use Rattle.optimality.specs.Laws.{AgreeingAnswers, AnswersExclude, OneBestValue, ReachedIsOptimal};
+
+/// No problem has two of the answers optimal, infeasible and unbounded.
+pub fn answers_exclude_each_other()
+    ensures { AnswersExclude }
+{}
+
+/// Where a value is to be reached, every permitted assignment is optimal.
+pub fn reached_is_optimal()
+    ensures { ReachedIsOptimal }
+{}
+
+/// Two optimal assignments have the same objective.
+pub fn one_best_value()
+    ensures { OneBestValue }
+{}
+
+/// Problems with the same permitted assignments and objective have the same answers.
+pub fn agreeing_problems_have_the_same_answers()
+    ensures { AgreeingAnswers }
+{}
