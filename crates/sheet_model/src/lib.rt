@@ -1,0 +1,14 @@
+//! What the cells of a plain sheet say: small numbers, references and sums of products.
+#![tactic(auto)]
+
+mod address;
+mod cut;
+mod formula;
+mod number;
+
+pub use address::{area, cell};
+pub use formula::{Factor, Product, Sign, Term, plain_formula};
+pub use number::small_number;
+
+#[cfg(test)]
+mod tests;
