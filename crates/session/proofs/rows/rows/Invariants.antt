@@ -1,0 +1,11 @@
+use Rattle.std.proofs.Common.{◌≡◌, true, take}
+use Rattle.session.specs.Plain.{rows_are_plain, rows_of}
+use Rattle.session.specs.Model.{StandForRows}
+use Rattle.session.proofs.rows.rows.Given as goal
+
+-- the rows of the constraints so far
+abbrev pub invariant-loop-one : goal.invariant-loop-one
+invariant-loop-one l = record {
+  plain : rows_are_plain l.contents (rows_of (take l.one-index l.constraints)) ≡ true;
+  stand : StandForRows l.contents l.decisions l.all.items (rows_of (take l.one-index l.constraints));
+}

@@ -1,0 +1,121 @@
+// The rows of a plain sheet.
+ghost use Rattle.std.specs.Prelude.{◌≡◌, ◌≤◌, ◌&&◌, ◌++◌, ◌⊎◌, ◌<◌, ◌==◌, if◌then◌else◌, IfOk, IfSome, IsTrue, All, MatchBool, MatchOption, is_some, length, true};
+ghost use Rattle.std.specs.List.{list_all};
+ghost use Rattle.cell_refs.specs.Areas.{IsInOrder, area_len, cell_at};
+ghost use Rattle.session.specs.Settings.{IsConstraintInOrder};
+ghost use Rattle.session.specs.Plain.{holds_number, holds_plain, rows_are_plain, rows_of, rows_of_one};
+ghost use Rattle.session.specs.Model.{PushesRows, StandForRows, StandsForRow};
+ghost use Rattle.session.specs.declared.statement.Constraint.{Constraint};
+
+use crate::contents::Contents;
+use crate::model::Sides;
+use crate::sides::side;
+use crate::statement::Constraint;
+use cell_refs::{Area, Cell};
+use std::alloc::{AllocError, Global};
+
+/// The rows of the constraints, in order; none where a side is not plain.
+pub(crate) fn rows(
+    alloc: Global,
+    contents: &Contents,
+    decisions: &[Cell],
+    constraints: &[Constraint],
+) -> Result<Option<Vec<Sides>>, AllocError>
+    requires few { length decisions.now ≤ 8 }
+    requires small { list_all (holds_number contents.now) decisions.now ≡ true }
+    requires order { All IsConstraintInOrder constraints.now }
+    ensures plain { IfOk result (λ found. is_some found ≡ rows_are_plain contents.now (rows_of constraints.now)) }
+    ensures stand { IfOk result (λ found. IfSome found (λ v. StandForRows contents.now decisions.now v.items (rows_of constraints.now))) }
+{
+    let mut all = Vec::new(alloc);
+    for one in constraints {
+        if !push_constraint(alloc, contents, decisions, *one, &mut all)? {
+            return Ok(None);
+        }
+    }
+    Ok(Some(all))
+}
+
+// Appends the rows of one constraint. Says whether all its sides are plain.
+fn push_constraint(
+    alloc: Global,
+    contents: &Contents,
+    decisions: &[Cell],
+    constraint: Constraint,
+    all: &mut Vec<Sides>,
+) -> Result<bool, AllocError>
+    requires few { length decisions.now ≤ 8 }
+    requires small { list_all (holds_number contents.now) decisions.now ≡ true }
+    requires order { IsConstraintInOrder constraint }
+    ensures { IfOk result (PushesRows contents.now decisions.now all.old.items all.new.items (rows_of_one constraint)) }
+{
+    match constraint {
+        Constraint::AtMost(left, right) => push_rows(
+            alloc,
+            contents,
+            decisions,
+            (left, right),
+            all,
+        ),
+        Constraint::Binary(_) => Ok(true),
+    }
+}
+
+// Appends a row for each cell of the left area.
+fn push_rows(
+    alloc: Global,
+    contents: &Contents,
+    decisions: &[Cell],
+    areas: (Area, Area),
+    all: &mut Vec<Sides>,
+) -> Result<bool, AllocError>
+    requires few { length decisions.now ≤ 8 }
+    requires small { list_all (holds_number contents.now) decisions.now ≡ true }
+    requires left { IsInOrder areas.0 }
+    requires right { IsInOrder areas.1 }
+    requires sizes { (area_len areas.1 ≡ 1) ⊎ (area_len areas.1 ≡ area_len areas.0) }
+    ensures { IfOk result (PushesRows contents.now decisions.now all.old.items all.new.items (rows_of_one (Constraint.AtMost areas.0 areas.1))) }
+{
+    let (left, right) = areas;
+    for place in 0..left.len() {
+        let opposite = opposite_cell(right, place);
+        let Some(sides) = row(alloc, contents, decisions, (left.at(place), opposite))? else {
+            return Ok(false);
+        };
+        all.push(sides)?;
+    }
+    Ok(true)
+}
+
+// The cell of the right area that stands beside the left cell at a place: the only one, or the one at that place.
+fn opposite_cell(right: Area, place: u32) -> Cell
+    requires order { IsInOrder right }
+    requires sizes { (area_len right ≡ 1) ⊎ (place < area_len right) }
+    ensures { result ≡ cell_at right (if area_len right == 1 then 0 else place) }
+{
+    if right.len() == 1 {
+        return right.at(0);
+    }
+    right.at(place)
+}
+
+// The sides of a row, if both are plain.
+fn row(
+    alloc: Global,
+    contents: &Contents,
+    decisions: &[Cell],
+    cells: (Cell, Cell),
+) -> Result<Option<Sides>, AllocError>
+    requires few { length decisions.now ≤ 8 }
+    requires small { list_all (holds_number contents.now) decisions.now ≡ true }
+    ensures plain { IfOk result (λ found. is_some found ≡ (holds_plain contents.now cells.0 && holds_plain contents.now cells.1)) }
+    ensures stand { IfOk result (λ found. IfSome found (λ sides. StandsForRow contents.now decisions.now sides cells)) }
+{
+    let Some(left) = side(alloc, contents, decisions, cells.0)? else {
+        return Ok(None);
+    };
+    let Some(right) = side(alloc, contents, decisions, cells.1)? else {
+        return Ok(None);
+    };
+    Ok(Some(Sides { left, right }))
+}
