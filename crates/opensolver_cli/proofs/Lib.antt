@@ -1,0 +1,4 @@
+pub mod Marks
+pub mod WordLaws
+pub mod StepLaws
+pub mod RunLaws

@@ -1,0 +1,5 @@
+pub mod Words
+pub mod Headline
+pub mod Inputs
+pub mod Opening
+pub mod Answering

@@ -1,0 +1,15 @@
+//! The run of the program, over a folder, a script and a sink that are handed in.
+#![tactic(auto)]
+
+mod answer;
+mod files;
+mod script;
+mod status;
+mod top;
+mod words;
+
+pub use status::Status;
+pub use top::run;
+
+#[cfg(test)]
+mod tests;
