@@ -12,4 +12,6 @@ pub use status::Status;
 pub use top::run;
 
 #[cfg(test)]
+mod plain_tests;
+#[cfg(test)]
 mod tests;

@@ -9,24 +9,24 @@ const NAMES: &str =
 
 const PLAN: &str = "0,0,0\n=5*A1+4*B1+3*C1\n=2*A1+3*B1+1*C1,4\n";
 
-const WORDS: [&str; 3] = ["--names", "names.csv", "plan.csv"];
+pub(crate) const WORDS: [&str; 3] = ["--names", "names.csv", "plan.csv"];
 
 // The numbers of the calls at which the folder, the source and the sink fail.
 #[derive(Clone, Copy)]
-struct Fails<'a> {
+pub(crate) struct Fails<'a> {
     folder: &'a [u64],
     source: &'a [u64],
     sink: &'a [u64],
 }
 
-const NEVER: Fails<'static> = Fails {
+pub(crate) const NEVER: Fails<'static> = Fails {
     folder: &[],
     source: &[],
     sink: &[],
 };
 
 // How a run over these files ends, and what it prints.
-fn ran(
+pub(crate) fn ran(
     alloc: Global,
     words: &[&str],
     files: &[(&str, &str)],
