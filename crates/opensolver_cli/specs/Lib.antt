@@ -3,3 +3,4 @@ pub mod Headline
 pub mod Inputs
 pub mod Opening
 pub mod Answering
+pub mod Numbers

@@ -1,0 +1,12 @@
+-- The number with which the program ends.
+use Rattle.std.specs.Prelude.{ℕ}
+use Rattle.opensolver_cli.specs.declared.status.Status.{Status}
+use Rattle.opensolver_cli.specs.declared.status.Status.TheVariants as status
+
+abbrev pub number_of : Status → ℕ
+number_of status.Done = 0
+number_of status.Refused = 1
+number_of status.Usage = 2
+number_of status.ReadFault = 3
+number_of status.WriteFault = 4
+number_of status.Memory = 5
