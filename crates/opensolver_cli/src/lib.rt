@@ -12,6 +12,8 @@ pub use status::Status;
 pub use top::run;
 
 #[cfg(test)]
+mod cut_tests;
+#[cfg(test)]
 mod plain_tests;
 #[cfg(test)]
 mod tests;

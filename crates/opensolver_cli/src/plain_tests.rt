@@ -11,8 +11,11 @@ const SMALL: &str =
 
 // What a run prints over these names and this sheet.
 fn printed(alloc: Global, names: &str, plan: &str) -> Result<Vec<u8>, Fail> {
-    let files = [("names.csv", names), ("plan.csv", plan)];
-    let (_, text) = ran(alloc, &WORDS, &files, "solve,plan\n", &NEVER)?;
+    let files = [
+        ("names.csv", names.as_bytes()),
+        ("plan.csv", plan.as_bytes()),
+    ];
+    let (_, text) = ran(alloc, &WORDS, &files, b"solve,plan\n", &NEVER)?;
     Ok(text)
 }
 

@@ -4,10 +4,10 @@ use solver_io::{MemFolder, MemSink, MemSource, has_distinct_names};
 use std::alloc::{AllocError, Global};
 use std::test::Fail;
 
-const NAMES: &str =
+pub(crate) const NAMES: &str =
     "plan,solver_adj,$A$1:$C$1\nplan,solver_opt,$A$2\nplan,solver_typ,1\nplan,solver_num,2\nplan,solver_lhs1,$A$3\nplan,solver_rel1,1\nplan,solver_rhs1,$B$3\nplan,solver_lhs2,$A$1:$C$1\nplan,solver_rel2,5\n";
 
-const PLAN: &str = "0,0,0\n=5*A1+4*B1+3*C1\n=2*A1+3*B1+1*C1,4\n";
+pub(crate) const PLAN: &str = "0,0,0\n=5*A1+4*B1+3*C1\n=2*A1+3*B1+1*C1,4\n";
 
 pub(crate) const WORDS: [&str; 3] = ["--names", "names.csv", "plan.csv"];
 
@@ -29,8 +29,8 @@ pub(crate) const NEVER: Fails<'static> = Fails {
 pub(crate) fn ran(
     alloc: Global,
     words: &[&str],
-    files: &[(&str, &str)],
-    script: &str,
+    files: &[(&str, &[u8])],
+    script: &[u8],
     fails: &Fails,
 ) -> Result<(Status, Vec<u8>), Fail> {
     let mut texts = Vec::new(alloc);
@@ -39,19 +39,13 @@ pub(crate) fn ran(
     }
     let mut held = Vec::new(alloc);
     for (name, text) in files {
-        held.push((
-            String::from_str(alloc, name)?,
-            text.as_bytes().to_vec(alloc)?,
-        ))?;
+        held.push((String::from_str(alloc, name)?, text.to_vec(alloc)?))?;
     }
     if !has_distinct_names(&held) {
         return Err(Fail::from(AllocError));
     }
     let mut folder = MemFolder::new(alloc, held, fails.folder.to_vec(alloc)?);
-    let mut source = MemSource::new(
-        script.as_bytes().to_vec(alloc)?,
-        fails.source.to_vec(alloc)?,
-    );
+    let mut source = MemSource::new(script.to_vec(alloc)?, fails.source.to_vec(alloc)?);
     let mut sink = MemSink::new(alloc, fails.sink.to_vec(alloc)?);
     let status = run(alloc, &texts, &mut folder, &mut source, &mut sink);
     Ok((status, sink.bytes().to_vec(alloc)?))
@@ -74,8 +68,11 @@ fn a_plain_sheet_is_solved(rt: HostRuntime) -> Result<(), Fail> {
             "infeasible\n",
         ),
     ] {
-        let files = [("names.csv", NAMES), ("plan.csv", plan)];
-        let (status, printed) = ran(rt.alloc(), &WORDS, &files, script, &NEVER)?;
+        let files = [
+            ("names.csv", NAMES.as_bytes()),
+            ("plan.csv", plan.as_bytes()),
+        ];
+        let (status, printed) = ran(rt.alloc(), &WORDS, &files, script.as_bytes(), &NEVER)?;
         assert!(rt; status == Status::Done);
         assert_eq!(rt; printed.as_slice(), want.as_bytes());
     }
@@ -103,8 +100,8 @@ fn what_is_not_built_yet_is_refused(rt: HostRuntime) -> Result<(), Fail> {
         ("names.csv", "plan.csv", PLAN, "solve,plan\nsolve,other\n"),
         ("names.csv", "plan.csv", PLAN, "solve,plan\nshow,plan!A1\n"),
     ] {
-        let files = [(names, NAMES), (sheet, plan)];
-        let (status, printed) = ran(rt.alloc(), &WORDS, &files, script, &NEVER)?;
+        let files = [(names, NAMES.as_bytes()), (sheet, plan.as_bytes())];
+        let (status, printed) = ran(rt.alloc(), &WORDS, &files, script.as_bytes(), &NEVER)?;
         assert!(rt; status == Status::Refused);
         assert_eq!(rt; printed.as_slice(), b"refused unbuilt\n".as_slice());
     }
@@ -113,8 +110,11 @@ fn what_is_not_built_yet_is_refused(rt: HostRuntime) -> Result<(), Fail> {
 
 #[test]
 fn a_record_of_two_fields_is_no_name(rt: HostRuntime) -> Result<(), Fail> {
-    let files = [("names.csv", "plan,solver_adj\n"), ("plan.csv", PLAN)];
-    let (status, printed) = ran(rt.alloc(), &WORDS, &files, "solve,plan\n", &NEVER)?;
+    let files = [
+        ("names.csv", b"plan,solver_adj\n".as_slice()),
+        ("plan.csv", PLAN.as_bytes()),
+    ];
+    let (status, printed) = ran(rt.alloc(), &WORDS, &files, b"solve,plan\n", &NEVER)?;
     assert!(rt; status == Status::Refused);
     assert_eq!(rt; printed.as_slice(), b"refused unbuilt\n".as_slice());
     Ok(())
@@ -130,8 +130,11 @@ fn other_words_get_the_usage_line(rt: HostRuntime) -> Result<(), Fail> {
         ["--names", "names.csv", "plan/.csv"].as_slice(),
         ["--names", "names.csv", "plan.csv", "plan.csv"].as_slice(),
     ] {
-        let files = [("names.csv", NAMES), ("plan.csv", PLAN)];
-        let (status, printed) = ran(rt.alloc(), words, &files, "solve,plan\n", &NEVER)?;
+        let files = [
+            ("names.csv", NAMES.as_bytes()),
+            ("plan.csv", PLAN.as_bytes()),
+        ];
+        let (status, printed) = ran(rt.alloc(), words, &files, b"solve,plan\n", &NEVER)?;
         assert!(rt; status == Status::Usage);
         assert_eq!(rt; printed.as_slice(), want.as_bytes());
     }
@@ -189,12 +192,15 @@ fn each_call_fails_in_turn(rt: HostRuntime) -> Result<(), Fail> {
             source,
             sink,
         };
-        let files = [("names.csv", NAMES), ("plan.csv", PLAN)];
+        let files = [
+            ("names.csv", NAMES.as_bytes()),
+            ("plan.csv", PLAN.as_bytes()),
+        ];
         let (status, printed) = ran(
             rt.alloc(),
             &WORDS,
             &files,
-            "solve,plan\nsolve,plan\n",
+            b"solve,plan\nsolve,plan\n",
             &fails,
         )?;
         assert!(rt; status == end);
