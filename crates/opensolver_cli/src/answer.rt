@@ -64,10 +64,10 @@ fn all_ask(alloc: Global, session: &Session, rows: &Rows) -> Result<bool, Memory
 }
 
 // Whether the record asks to solve the sheet.
-fn asks(alloc: Global, session: &Session, record: &Record) -> Result<bool, Memory>
-    ensures { IfOk result (λ asks. IsTrue asks ↔ AsksForSheet session.now record.now) }
+fn asks(alloc: Global, session: &Session, fields: &Record) -> Result<bool, Memory>
+    ensures { IfOk result (λ asks. IsTrue asks ↔ AsksForSheet session.now fields.now) }
 {
-    let command = command_of(alloc, record)?;
+    let command = command_of(alloc, fields)?;
     Ok(session.can_do(&command))
 }
 
@@ -90,14 +90,14 @@ fn answer_rows<K: Sink>(alloc: Global, mut session: Session, rows: &Rows, out: &
 fn answer_record<K: Sink>(
     alloc: Global,
     session: &mut Session,
-    record: &Record,
+    fields: &Record,
     out: &mut K,
 ) -> Result<(), PutEnd>
-    ensures answers { AnswersRecord session.old record.now (K.written out.old) (K.written out.new) session.new result }
+    ensures answers { AnswersRecord session.old fields.now (K.written out.old) (K.written out.new) session.new result }
     ensures later { K.faults out.old ≤ K.faults out.new }
     ensures cause { SinkCause (K.faults out.old) (K.faults out.new) result }
 {
-    let Ok(command) = command_of(alloc, record) else {
+    let Ok(command) = command_of(alloc, fields) else {
         return Err(PutEnd::Memory);
     };
     let Ok(answer) = session.apply(&command) else {

@@ -54,11 +54,11 @@ pub(crate) fn script_records(alloc: Global, script: &[u8]) -> Result<Option<Rows
 }
 
 /// The command of a record.
-pub(crate) fn command_of(alloc: Global, record: &Record) -> Result<Command, Memory>
-    ensures { IfOk result (IsCommandOf record.now) }
+pub(crate) fn command_of(alloc: Global, fields: &Record) -> Result<Command, Memory>
+    ensures { IfOk result (IsCommandOf fields.now) }
 {
-    if record.len() != 2 {
+    if fields.len() != 2 {
         return Ok(Command::Unknown);
     }
-    Command::of(alloc, &[record.text(0), record.text(1)])
+    Command::of(alloc, &[fields.text(0), fields.text(1)])
 }
