@@ -1,9 +1,10 @@
 -- The address of a cell on its sheet (OpenDocument 1.2, part 2, section 5.8): letters name the column and digits
 -- the row, each behind a dollar sign or not.
-use Rattle.std.specs.Prelude.{◌≡◌, ◌<◌, ◌+◌, ◌-◌, ◌*◌, ◌/◌, ◌%◌, ◌==◌, ◌∷◌, ◌++◌, ℕ, List, [], drop, take, if◌then◌else◌, nat_lt, fold}
+use Rattle.std.specs.Prelude.{◌≡◌, ◌<◌, ◌+◌, ◌-◌, ◌*◌, ◌/◌, ◌%◌, ◌==◌, ◌∷◌, ◌++◌, ◌&&◌, ℕ, List, [], drop, take, if◌then◌else◌, nat_le, nat_lt, fold, Option, Some, None}
 use Rattle.std.specs.Char.{is_ascii_alphabetic, to_ascii_uppercase}
 use Rattle.std.specs.List.{prefix_len}
 use Rattle.std.specs.Fmt.{decimal}
+use Rattle.std.specs.Str.{all_ascii_digits}
 use Rattle.std.specs.Str.Parse.{AllDigits, digits_value}
 use Rattle.cell_refs.specs.declared.limits.TheConstants.{COLUMNS, ROWS}
 
@@ -39,6 +40,14 @@ pub record IsAddress (text : List ℕ) (row column : ℕ) : Type 0 where
   pub number : digits_value 10 (behind_letters text) ≡ row + 1
   pub in_rows : row < ROWS
   pub in_columns : column < COLUMNS
+
+-- the row and the column of an address, from 0; none where the text is no address
+abbrev pub address_in : List ℕ → Option (ℕ × ℕ)
+address_in text =
+    let column = column_number (letters_of text) in
+    let row = digits_value 10 (behind_letters text) in
+    if all_ascii_digits (behind_letters text) && (nat_le 1 column && nat_le column COLUMNS) && (nat_le 1 row && nat_le row ROWS)
+    then Some (row - 1, column - 1) else None
 
 -- the letters of a column, from 0
 abbrev pub column_text : ℕ → List ℕ

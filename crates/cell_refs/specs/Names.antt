@@ -1,5 +1,5 @@
 -- The names of sheets, and how they stand before an address (OpenDocument 1.2, part 2, section 5.8).
-use Rattle.std.specs.Prelude.{◌≡◌, ◌==◌, ◌||◌, ◌&&◌, ◌∷◌, ◌++◌, ℕ, List, [], Bool, false, map, Some, slice_get, nat_le, if◌then◌else◌}
+use Rattle.std.specs.Prelude.{◌≡◌, ◌==◌, ◌||◌, ◌&&◌, ◌∷◌, ◌++◌, ℕ, suc, List, [], Bool, true, false, map, Option, Some, None, option_map, slice_get, nat_le, if◌then◌else◌}
 use Rattle.std.specs.Char.{is_ascii_alphabetic, is_ascii_digit, to_ascii_lowercase}
 use Rattle.std.specs.List.{list_all}
 use Rattle.cell_refs.specs.Address.{address_text}
@@ -7,6 +7,17 @@ use Rattle.cell_refs.specs.Address.{address_text}
 -- two names are the same but for the case of their ASCII letters
 abbrev pub IsSameName : List ℕ → List ℕ → Type 0
 IsSameName a b = map to_ascii_lowercase a ≡ map to_ascii_lowercase b
+
+-- the test of it
+abbrev pub same_letters : List ℕ → List ℕ → Bool
+same_letters [] [] = true
+same_letters (a ∷ first) (b ∷ second) = (to_ascii_lowercase a == to_ascii_lowercase b) && same_letters first second
+same_letters _ _ = false
+
+-- the place of a name among others
+abbrev pub place_in : List (List ℕ) → List ℕ → Option ℕ
+place_in [] name = None
+place_in (own ∷ names) name = if same_letters own name then Some 0 else option_map suc (place_in names name)
 
 -- the sheet at this place has the name
 pub record IsNamed (names : List (List ℕ)) (name : List ℕ) (id : ℕ) : Type 0 where

@@ -3,7 +3,7 @@ ghost use Rattle.std.specs.Prelude.{◌≡◌, ◌+◌, ◌<◌, ◌*◌, ◌-�
 ghost use Rattle.std.specs.Char.{is_ascii_alphabetic};
 ghost use Rattle.std.specs.List.{prefix_len};
 ghost use Rattle.std.specs.Str.Parse.{AllDigits, digits_value};
-ghost use Rattle.cell_refs.specs.Address.{IsAddress, column_number, letter_count_of, without_dollar};
+ghost use Rattle.cell_refs.specs.Address.{IsAddress, address_in, column_number, letter_count_of, without_dollar};
 
 use crate::{COLUMNS, ROWS};
 
@@ -12,8 +12,17 @@ use crate::{COLUMNS, ROWS};
 pub fn read_address(text: &str) -> Option<(u16, u16)>
     ensures address { IfSome result (λ a. IsAddress text.now a.0 a.1) }
     ensures none { IfNone result ((row column : ℕ) → ¬ (IsAddress text.now row column)) }
+    ensures reading { result ≡ address_in text.now }
 {
-    let behind = skip_dollar(text.as_bytes());
+    row_and_column(text.as_bytes())
+}
+
+// The row and the column of an address, from 0.
+fn row_and_column(text: &[u8]) -> Option<(u16, u16)>
+    ensures address { IfSome result (λ a. IsAddress text.now a.0 a.1) }
+    ensures none { IfNone result ((row column : ℕ) → ¬ (IsAddress text.now row column)) }
+{
+    let behind = skip_dollar(text);
     let letters = count_letters(behind);
     let column = number_of_column(&behind[..letters]);
     let row = number_of_row(skip_dollar(&behind[letters..]))?;

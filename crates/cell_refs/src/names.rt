@@ -1,6 +1,6 @@
 // The names of the sheets.
-ghost use Rattle.std.specs.Prelude.{◌≡◌, ◌≢◌, ◌<◌, ◌++◌, ◌∷◌, ◌↔◌, [], ℕ, length, IfSome, IfNone, IfOk, OnErr, IsErrOf, IsOk, IsTrue, slice_get, Some, map, string_bytes, ◌≤◌};
-ghost use Rattle.cell_refs.specs.Names.{IsNamed};
+ghost use Rattle.std.specs.Prelude.{◌≡◌, ◌≢◌, ◌<◌, ◌++◌, ◌∷◌, ◌↔◌, [], ℕ, length, IfSome, IfNone, IfOk, OnErr, IsErrOf, IsOk, IsTrue, slice_get, Some, map, option_map, string_bytes, ◌≤◌};
+ghost use Rattle.cell_refs.specs.Names.{IsNamed, place_in};
 
 use crate::{SHEETS, SheetId};
 use std::alloc::Global;
@@ -93,10 +93,12 @@ impl SheetNames {
     }
 
     /// The sheet of this name, whatever the case of its ASCII letters.
+    #[tactic(auto, using(crate::proofs::Places::told))]
     pub fn find(&self, name: &str) -> Option<SheetId>
         ensures found { IfSome result (λ id. IsNamed self.now name.now id.0) }
         ensures only { IfSome result (λ id. (other : ℕ) → IsNamed self.now name.now other → other ≡ id.0) }
         ensures none { IfNone result ((id : ℕ) → ¬ (IsNamed self.now name.now id)) }
+        ensures place { option_map (λ id. id.0) result ≡ place_in self.now name.now }
     {
         let Some(place) = place_of(&self.names, name) else {
             return None;
@@ -108,6 +110,7 @@ impl SheetNames {
 // The first place of a name that is the same but for case.
 fn place_of(names: &[String], name: &str) -> Option<usize>
     ensures found { IfSome result (IsNamed (map string_bytes names.now) name.now) }
+    ensures first { IfSome result (λ place. (k : ℕ) → k < place → ¬ (IsNamed (map string_bytes names.now) name.now k)) }
     ensures none { IfNone result ((id : ℕ) → ¬ (IsNamed (map string_bytes names.now) name.now id)) }
 {
     for (place, other) in names.iter().enumerate() {

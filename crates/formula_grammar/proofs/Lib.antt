@@ -1,0 +1,10 @@
+pub mod Turns
+pub mod Signs
+pub mod LeafBegins
+pub mod LeafRoom
+pub mod LeafSound
+pub mod LeafRead
+pub mod Sound
+pub mod Complete
+pub mod Whole
+pub mod Marks

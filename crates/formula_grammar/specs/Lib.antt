@@ -1,0 +1,14 @@
+pub mod Symbols
+pub mod Words
+pub mod References
+pub mod Arrays
+pub mod Leaves
+pub mod Parts
+pub mod Depth
+pub mod Grammar
+pub mod Making
+pub mod Loops
+pub mod LeafReading
+pub mod Reading
+pub mod Formula
+pub mod Faults

@@ -1,0 +1,79 @@
+-- References: which symbols spell which cells (OpenDocument 1.2 part 2, sections 5.8 and 5.5.11; the forms without brackets are
+-- those that spreadsheets show).
+use Rattle.std.specs.Prelude.{◌≡◌, ◌⊎◌, ℕ, Bool, true, false, min, max, if◌then◌else◌, ◌==◌, List, [], ◌∷◌, ◌++◌, Option, Some, None}
+use Rattle.cell_refs.specs.Address.{address_in}
+use Rattle.cell_refs.specs.Names.{place_in, same_letters}
+use Rattle.formula_ast.specs.Tree.{Referred, Listed, Unlisted}
+use Rattle.formula_grammar.specs.Symbols.{Setting, bytes_of}
+use Rattle.formula_grammar.specs.Words.{Given, Own, Named, Corner, corner_on, sheet_of, split_corner, word_corner}
+use Rattle.formula_grammar.specs.declared.symbol.Sign.TheVariants as sign
+use Rattle.formula_grammar.specs.declared.symbol.Symbol.{Symbol}
+
+-- a sheet that is listed, by its number, or one that isn't, by its name
+pub data Sheet : Type 0 where
+  At : (id : ℕ) → Sheet
+  Lost : (name : List ℕ) → Sheet
+
+abbrev pub listed_or_lost : List ℕ → Option ℕ → Sheet
+listed_or_lost name (Some id) = At id
+listed_or_lost name None = Lost name
+
+-- the sheet that is given
+abbrev pub sheet_given : Setting → Given → Sheet
+sheet_given S Own = At S.home
+sheet_given S (Named name) = listed_or_lost name (place_in S.sheets name)
+
+abbrev pub same_sheet : Sheet → Sheet → Bool
+same_sheet (At i) (At j) = i == j
+same_sheet (Lost a) (Lost b) = same_letters a b
+same_sheet _ _ = false
+
+-- the second corner gives no sheet, or the sheet of the first
+abbrev pub agrees : Setting → Given → Given → Bool
+agrees S first Own = true
+agrees S first (Named name) = same_sheet (sheet_given S first) (sheet_given S (Named name))
+
+abbrev pub cells_between : Sheet → Corner → Corner → Referred
+cells_between (At id) c d = Listed (record {
+  sheet = record { 0 = id };
+  top = min c.row d.row;
+  left = min c.column d.column;
+  bottom = max c.row d.row;
+  right = max c.column d.column;
+})
+cells_between (Lost name) c d = Unlisted name
+
+-- the cells between two corners of one sheet, with their corners put in order
+abbrev pub area_between : Setting → Corner → Corner → Option Referred
+area_between S c d = if agrees S c.sheet d.sheet then Some (cells_between (sheet_given S c.sheet) c d) else None
+
+-- a corner outside brackets
+pub data SpellsCorner (S : Setting) : List Symbol → Corner → Type 0 where
+  word : {c : Corner} (s : Symbol) → s.sign ≡ sign.Word → word_corner S (bytes_of S s) ≡ Some c → SpellsCorner S (s ∷ []) c
+  on_sheet : {name : List ℕ} {c : Corner} (s t u : Symbol) → sheet_of S s ≡ Some name → (t.sign ≡ sign.Exclamation) ⊎ (t.sign ≡ sign.Point)
+      → u.sign ≡ sign.Word → corner_on (Named name) (address_in (bytes_of S u)) ≡ Some c → SpellsCorner S (s ∷ t ∷ u ∷ []) c
+
+-- a corner within brackets: a point and an address, with the sheet before the point or none
+pub data SpellsInner (S : Setting) : List Symbol → Corner → Type 0 where
+  own : {c : Corner} (t u : Symbol) → t.sign ≡ sign.Point → u.sign ≡ sign.Word → corner_on Own (address_in (bytes_of S u)) ≡ Some c
+      → SpellsInner S (t ∷ u ∷ []) c
+  after_sheet : {name : List ℕ} {c : Corner} (s t u : Symbol) → sheet_of S s ≡ Some name → t.sign ≡ sign.Point → u.sign ≡ sign.Word
+      → corner_on (Named name) (address_in (bytes_of S u)) ≡ Some c → SpellsInner S (s ∷ t ∷ u ∷ []) c
+  split_word : {c : Corner} (s : Symbol) → s.sign ≡ sign.Word → split_corner (bytes_of S s) ≡ Some c → SpellsInner S (s ∷ []) c
+
+-- a reference: one corner or two, within brackets or without
+pub data SpellsReference (S : Setting) : List Symbol → Referred → Type 0 where
+  cell : {a : List Symbol} {c : Corner} {r : Referred} → SpellsCorner S a c → area_between S c c ≡ Some r → SpellsReference S a r
+  area : {a b : List Symbol} {c d : Corner} {r : Referred} (s : Symbol) → s.sign ≡ sign.Colon → SpellsCorner S a c → SpellsCorner S b d
+      → area_between S c d ≡ Some r → SpellsReference S (a ++ s ∷ b) r
+  inner_cell : {a : List Symbol} {c : Corner} {r : Referred} (s t : Symbol) → s.sign ≡ sign.OpenSquare → t.sign ≡ sign.CloseSquare
+      → SpellsInner S a c → area_between S c c ≡ Some r → SpellsReference S (s ∷ (a ++ t ∷ [])) r
+  inner_area : {a b : List Symbol} {c d : Corner} {r : Referred} (s t u : Symbol) → s.sign ≡ sign.OpenSquare → t.sign ≡ sign.Colon
+      → u.sign ≡ sign.CloseSquare → SpellsInner S a c → SpellsInner S b d → area_between S c d ≡ Some r
+      → SpellsReference S (s ∷ (a ++ t ∷ (b ++ u ∷ []))) r
+
+-- one reference, or several joined by ~
+pub data SpellsUnion (S : Setting) : List Symbol → List Referred → Type 0 where
+  one : {a : List Symbol} {r : Referred} → SpellsReference S a r → SpellsUnion S a (r ∷ [])
+  joined : {a b : List Symbol} {rs : List Referred} {r : Referred} (s : Symbol) → s.sign ≡ sign.Tilde → SpellsUnion S a rs
+      → SpellsReference S b r → SpellsUnion S (a ++ s ∷ b) (rs ++ r ∷ [])
