@@ -21,3 +21,6 @@ pub use command::Command;
 pub use memory::Memory;
 pub use session::{Session, one_statement};
 pub use workbook::{OpenFault, Workbook};
+
+#[cfg(test)]
+mod tests;

@@ -19,7 +19,7 @@ use std::marker::Model;
 #[derive(Drop)]
 pub struct Session {
     alloc: Global,
-    book: Workbook,
+    pub(crate) book: Workbook,
 }
 
 impl Model for Session {

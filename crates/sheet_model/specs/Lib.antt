@@ -1,3 +1,4 @@
 pub mod Texts
 pub mod Formulas
+pub mod Spelling
 pub mod Worth

@@ -1,6 +1,8 @@
 // Plain formulas: sums of products of digits and addresses.
-ghost use Rattle.std.specs.Prelude.{◌≡◌, ◌⊎◌, ◌↔◌, ◌<◌, ◌∷◌, option_map, IfOk, IfSome, IsTrue, length};
+ghost use Rattle.std.specs.Prelude.{◌≡◌, ◌⊎◌, ◌↔◌, ◌<◌, ◌∷◌, List, option_map, IfNone, IfOk, IfSome, IsTrue, length};
 ghost use Rattle.sheet_model.specs.Formulas.{factor_in, formula_in, pieces_behind, product_in, sign_from, signed_pieces};
+ghost use Rattle.sheet_model.specs.Spelling.{ReadAsSpelled, Spells};
+ghost use Rattle.sheet_model.specs.declared.formula.Term.{Term};
 
 use crate::address::cell;
 use crate::cut::cut;
@@ -38,12 +40,15 @@ pub struct Term {
 }
 
 /// The terms of a plain formula; none where the text isn't one.
+#[tactic(auto, using(crate::proofs::Spelling::read_as_spelled))]
 pub fn plain_formula(
     alloc: Global,
     text: &[u8],
     home: SheetId,
 ) -> Result<Option<Vec<Term>>, AllocError>
-    ensures { IfOk result (λ found. option_map (λ v. v.items) found ≡ formula_in home text.now) }
+    ensures reading { IfOk result (λ found. option_map (λ v. v.items) found ≡ formula_in home text.now) }
+    ensures spelled { IfOk result (λ found. IfSome found (λ v. Spells home text.now v.items)) }
+    ensures unspelled { IfOk result (λ found. IfNone found ((ts : List Term) → ¬ (Spells home text.now ts))) }
 {
     let [b'=', sum @ ..] = text else {
         return Ok(None);
@@ -64,6 +69,11 @@ pub fn plain_formula(
         rest = others;
     }
 }
+
+/// What a plain formula is read as is what it spells.
+pub fn formulas_are_read_as_spelled()
+    ensures { ReadAsSpelled }
+{}
 
 // What stands before the first sign, and that sign with what stands behind it.
 fn first_piece(text: &[u8]) -> (&[u8], Option<(Sign, &[u8])>)

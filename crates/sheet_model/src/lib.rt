@@ -7,7 +7,7 @@ mod formula;
 mod number;
 
 pub use address::{area, cell};
-pub use formula::{Factor, Product, Sign, Term, plain_formula};
+pub use formula::{Factor, Product, Sign, Term, formulas_are_read_as_spelled, plain_formula};
 pub use number::small_number;
 
 #[cfg(test)]

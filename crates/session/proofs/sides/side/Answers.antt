@@ -8,4 +8,4 @@ returns-in-Some-clause-stands c = number_side c.args.contents.now c.args.decisio
 pub returns-clause-stands : goal.returns-clause-stands
 returns-clause-stands c =
     formula_side c.args.contents.now c.args.decisions.now c.args.cell c.in-Some-get.text.now c.in-Some-2.terms.items c.in-Some-3.found.items c.requires.small c.in_default.ensures.plain c.in-Some-get.ensures
-    (rw c.in-Some-2.is at c.in_ok-terms.ensures) (rw (c.in-Some-3.is, c.deref.ensures.value) at c.in_ok-found.ensures.stand)
+    (rw c.in-Some-2.is at c.in_ok-terms.ensures.reading) (rw (c.in-Some-3.is, c.deref.ensures.value) at c.in_ok-found.ensures.stand)
