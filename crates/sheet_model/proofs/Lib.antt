@@ -6,3 +6,8 @@ pub mod SpellingFactors
 pub mod SpellingProducts
 pub mod SpellingSums
 pub mod Spelling
+pub mod NumberTests
+pub mod Calculated
+pub mod Spreading
+pub mod InfixAnswers
+pub mod Orders

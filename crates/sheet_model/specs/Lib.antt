@@ -2,3 +2,10 @@ pub mod Texts
 pub mod Formulas
 pub mod Spelling
 pub mod Worth
+pub mod Tests
+pub mod Conversions
+pub mod Comparison
+pub mod Grids
+pub mod Operators
+pub mod Answers
+pub mod Sides

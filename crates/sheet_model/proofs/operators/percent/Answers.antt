@@ -1,0 +1,7 @@
+use Rattle.std.proofs.Common.{rules}
+use Rattle.sheet_model.specs.Operators.{percent_of, percent_value}
+use Rattle.sheet_model.proofs.Calculated.{answer-exact}
+use Rattle.sheet_model.proofs.operators.percent.Goals as goal
+
+pub returns-clause-exact : goal.returns-clause-exact
+returns-clause-exact c = answer-exact (percent_of c.args.a.now) c.on_each.result (c.on_each.ensures percent_value (λ x r called. search rules))
