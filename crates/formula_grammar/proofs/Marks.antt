@@ -12,7 +12,7 @@ use Rattle.formula_grammar.proofs.LeafBegins.{leaf_begins}
 use Rattle.formula_grammar.proofs.Whole.{one}
 
 -- how a part begins: not with an equals sign
-record Starts (a : List Symbol) : Type 0 where
+pub record Starts (a : List Symbol) : Type 0 where
   pub front : Symbol
   pub behind : List Symbol
   pub is : a ≡ front ∷ behind
@@ -32,7 +32,7 @@ prefix_differs _ prefix e = absurd cc
 longer : {a : List Symbol} → Starts a → (b : List Symbol) → Starts (a ++ b)
 longer r b = record { front = r.front; behind = r.behind ++ b; is = ap (λ c. c ++ b) r.is; no_equal = r.no_equal }
 
-starts : {S : Setting} {k : Kind} {a : List Symbol} {x : Part} → Spells S k a x → Starts a
+pub starts : {S : Setting} {k : Kind} {a : List Symbol} {x : Part} → Spells S k a x → Starts a
 starts (alone p) = starts p
 starts (infixed {b = b} s op is level p q) = longer (starts p) (s ∷ b)
 starts (whole p) = starts p
@@ -45,7 +45,7 @@ starts (no_args s t u word_s left right) = record { front = s; behind = t ∷ u 
 starts (call {a = a} s t u word_s left right some p) = record { front = s; behind = t ∷ (a ++ u ∷ []); is = refl; no_equal = word_differs s.sign word_s }
 
 -- no part begins with an equals sign
-no_part : {S : Setting} {k : Kind} {a : List Symbol} {x : Part} → Spells S k a x → (v : Symbol) (b : List Symbol) → a ≡ v ∷ b → v.sign ≡ sign.Equal → ⊥
+pub no_part : {S : Setting} {k : Kind} {a : List Symbol} {x : Part} → Spells S k a x → (v : Symbol) (b : List Symbol) → a ≡ v ∷ b → v.sign ≡ sign.Equal → ⊥
 no_part p v b e is = let r = starts p in let same : r.front ≡ v = cc (sym r.is ∙ e) in r.no_equal (ap (λ (s : Symbol). s.sign) same ∙ is)
 
 head_is : (s t : Symbol) (a b : List Symbol) → s ∷ a ≡ t ∷ b → s ≡ t

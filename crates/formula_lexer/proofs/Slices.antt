@@ -69,7 +69,7 @@ quoted_within q n (b ∷ c ∷ bytes) h = by (nat_eq b q) (nat_eq c q) (λ m e. 
     by false u two one h = let m = mapped 1 n (quoted_len q (c ∷ bytes)) h in omega (arith, one m.0 m.1, m.2)
 
 -- a token has a byte, and is no longer than the bytes
-record Fits (bytes : List ℕ) (f : Front) : Type 0 where
+pub record Fits (bytes : List ℕ) (f : Front) : Type 0 where
   pub fits : (kind : TokenKind) (len : ℕ) → f ≡ Some (kind, len) → (0 < len) × (len ≤ length bytes)
 
 no_front : (bytes : List ℕ) → Fits bytes None
@@ -126,7 +126,7 @@ no_pair : (t u : Bool) → ((false && (t || u)) || (t && false)) ≡ true → �
 no_pair true u h = cc h
 no_pair false u h = cc h
 
-front_fits : (b : ℕ) (bytes : List ℕ) → Fits (b ∷ bytes) (front_of b bytes)
+pub front_fits : (b : ℕ) (bytes : List ℕ) → Fits (b ∷ bytes) (front_of b bytes)
 front_fits b bytes =
     choice (b ∷ bytes) (starts_number b bytes) _ _ (λ e. this_long (b ∷ bytes) token.Number (number_len (b ∷ bytes)) (number_some b bytes e) (number_within (b ∷ bytes)))
     (choice (b ∷ bytes) (nat_eq b 34) _ _ (λ e. of_kind_fits (b ∷ bytes) token.Text 1 (quoted_len 34 bytes) (λ n h. (omega arith, omega (arith, quoted_within 34 n bytes h))))

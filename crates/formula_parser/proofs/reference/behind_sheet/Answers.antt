@@ -1,0 +1,27 @@
+use Rattle.std.proofs.Common.{ap, string_bytes}
+use Rattle.formula_grammar.specs.LeafReading.{is_point}
+use Rattle.formula_parser.specs.Settings.{seen}
+use Rattle.formula_parser.proofs.Corners.{gives_as, mark_none, mark_some, no_point, one_none, one_other, one_such, sheet_none}
+use Rattle.formula_parser.proofs.reference.behind_sheet.Goals as goal
+
+pub returns-in_default-clause-gives : goal.returns-in_default-clause-gives
+returns-in_default-clause-gives c = sheet_none (seen c.args.setting.now) is_point c.args.sheet c.args.symbols.now (rw c.in_default.is at c.in_ok-name.ensures)
+
+pub returns-in_default-first-clause-gives : goal.returns-in_default-first-clause-gives
+returns-in_default-first-clause-gives c =
+    mark_none (seen c.args.setting.now) is_point c.args.sheet c.args.symbols.now (string_bytes c.in-Some.name) (rw c.in-Some.is at c.in_ok-name.ensures) (one_none is_point c.args.symbols.now c.in_default-first.ensures.front)
+
+pub returns-in-Point-clause-gives : goal.returns-in-Point-clause-gives
+returns-in-Point-clause-gives c =
+    gives_as _ c.address.result _ _ c.address.ensures.gives
+    (mark_some (seen c.args.setting.now) is_point c.args.sheet c.args.symbols.now (string_bytes c.in-Some.name) c.in-Some-first.mark c.in-Some-first.rest.now (rw c.in-Some.is at c.in_ok-name.ensures)
+    (one_such is_point c.args.symbols.now c.in-Some-first.mark c.in-Some-first.rest.now c.in-Some-first.ensures.front (ap is_point c.in-Point.is)))
+
+pub returns-in_default-sign : goal.returns-in_default-sign
+returns-in_default-sign c = record {
+  gives =
+      mark_none (seen c.args.setting.now) is_point c.args.sheet c.args.symbols.now (string_bytes c.in-Some.name) (rw c.in-Some.is at c.in_ok-name.ensures)
+      (one_other is_point c.args.symbols.now c.in-Some-first.mark c.in-Some-first.rest.now c.in-Some-first.ensures.front (no_point c.in-Some-first.mark.sign c.in_default-sign.not-Point));
+  on_sheet = tt;
+  rest = tt;
+}
