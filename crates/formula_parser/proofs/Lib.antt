@@ -20,3 +20,4 @@ pub mod LeafParts
 pub mod Corners
 pub mod Unions
 pub mod JoinedAreas
+pub mod TextTrees

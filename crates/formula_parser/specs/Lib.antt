@@ -4,3 +4,4 @@ pub mod Built
 pub mod Given
 pub mod Leaves
 pub mod Answers
+pub mod TextTrees

@@ -4,6 +4,7 @@ ghost use Rattle.formula_ast.specs.Sound.{IsSound};
 ghost use Rattle.formula_parser.specs.Answers.{Answers, Settles, SymbolAnswers, behind_equals, behind_mark, is_of};
 ghost use Rattle.formula_parser.specs.Placed.{AreSymbols, IsInText};
 ghost use Rattle.formula_parser.specs.Settings.{seen};
+ghost use Rattle.formula_parser.specs.TextTrees.{IsTreeIn};
 
 use crate::branch::Branch;
 use crate::fault::ParseFault;
@@ -13,7 +14,7 @@ use crate::stop::Stop;
 use crate::symbols::{BRACKETS, is_too_deep, symbols_of};
 use cell_refs::{SheetId, SheetNames};
 use formula_ast::Expr;
-use formula_grammar::{Sign, Symbol};
+use formula_grammar::{Sign, Symbol, no_text_spells_two_trees};
 use formula_lexer::{LexFault, one_list, tokens};
 use std::alloc::Global;
 
@@ -123,9 +124,11 @@ pub fn parse(
     requires length { length text.now ≤ 8193 }
     requires listed { home.0 < length sheets.now }
     ensures answer { Answers (record { text = text.now; home = home.0; sheets = sheets.now }) result }
+    ensures tree { IsTreeIn (record { text = text.now; home = home.0; sheets = sheets.now }) result }
     ensures sound { IfOk result IsSound }
 {
     one_list();
+    no_text_spells_two_trees();
     let cut = match tokens(alloc, text) {
         Ok(cut) => cut,
         Err(LexFault::At(_)) => return Err(ParseFault::Syntax),

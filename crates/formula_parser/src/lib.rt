@@ -5,7 +5,9 @@ mod array;
 mod branch;
 mod fault;
 mod formula;
+mod laws;
 mod leaf;
+mod name;
 mod reading;
 mod reference;
 mod setting;
@@ -16,7 +18,11 @@ mod words;
 
 pub use fault::ParseFault;
 pub use formula::parse;
+pub use laws::trees_are_spelled;
+pub use name::parse_reference;
 
+#[cfg(test)]
+mod name_tests;
 #[cfg(test)]
 mod tests;
 #[cfg(test)]

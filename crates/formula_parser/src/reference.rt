@@ -419,7 +419,7 @@ fn brackets<'a>(alloc: Global, setting: &Setting, symbols: &'a [Symbol]) -> Read
 }
 
 // One reference.
-fn reference<'a>(alloc: Global, setting: &Setting, symbols: &'a [Symbol]) -> ReadArea<'a>
+pub fn reference<'a>(alloc: Global, setting: &Setting, symbols: &'a [Symbol]) -> ReadArea<'a>
     requires { AreSymbols setting.now.text.now symbols.now }
     ensures gives { Gives {Y = Option Area × List Symbol} (λ x. (x.0, x.1.now)) result (option_map (λ f. (area_of f.0, f.1)) (reference_at (seen setting.now) symbols.now)) }
     ensures on_sheet { IfOk result (λ x. IfSome x.0 IsOnSheet) }
