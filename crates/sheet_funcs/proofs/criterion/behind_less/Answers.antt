@@ -1,0 +1,8 @@
+use Rattle.std.proofs.Common.{lit<, None}
+use Rattle.std.proofs.lemmas.Str.Pattern.{strip_prefix_char}
+use Rattle.sheet_funcs.proofs.Signs.{less_alone}
+use Rattle.sheet_funcs.proofs.criterion.behind_less.Goals as goal
+
+pub returns : goal.returns
+returns c =
+    less_alone c.args.text.now (strip_prefix_char 61 c.args.text.now None c.in_default.ensures.cases (lit< tt)) (strip_prefix_char 62 c.args.text.now None c.in_default-strip_prefix.ensures.cases (lit< tt))

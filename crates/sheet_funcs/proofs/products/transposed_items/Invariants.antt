@@ -1,0 +1,10 @@
+use Rattle.std.proofs.Common.{◌≡◌, ◌++◌, ◌-◌, flat_map}
+use Rattle.std.specs.List.{range_with_len}
+use Rattle.sheet_funcs.specs.Arguments.{column_of, grid_of}
+use Rattle.sheet_funcs.specs.Products.{transposed}
+use Rattle.sheet_funcs.proofs.products.transposed_items.Given as goal
+
+-- the rest of the columns behind the items so far
+abbrev pub invariant-loop-column : goal.invariant-loop-column
+invariant-loop-column l =
+    (transposed (grid_of l.arg)).items ≡ l.items.items ++ flat_map (column_of (grid_of l.arg)) (range_with_len l.column ((grid_of l.arg).columns - l.column))

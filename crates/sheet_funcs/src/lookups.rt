@@ -1,0 +1,225 @@
+// MATCH, VLOOKUP and HLOOKUP.
+ghost use Rattle.std.specs.Prelude.{◌≡◌, ◌≢◌, ◌<◌, ◌≤◌, ◌+◌, ◌||◌, ◌==◌, IfOk, length, pos, true};
+ghost use Rattle.calculations.specs.Calculation.{exact};
+ghost use Rattle.cell_refs.specs.declared.error_kind.ErrorKind.{ErrorKind};
+ghost use Rattle.formula_ast.specs.Functions.{Takes};
+ghost use Rattle.formula_ast.specs.declared.func.Func.TheVariants as func;
+ghost use Rattle.sheet_model.specs.Answers.{Answers};
+ghost use Rattle.sheet_model.specs.Grids.{Rectangle};
+ghost use Rattle.sheet_model.specs.declared.value.Value.TheVariants.{Error};
+ghost use Rattle.sheet_funcs.specs.Arguments.{grid_of};
+ghost use Rattle.sheet_funcs.specs.Lookups.{hlookup_of, is_sorted, kind_of, looked_up, lookup_of, lookup_pick, match_of, pick_in, place_value, vlookup_of};
+ghost use Rattle.sheet_funcs.specs.Rounding.{number_of};
+ghost use Rattle.sheet_funcs.specs.Fields.{field_at, kind_where};
+ghost use Rattle.sheet_funcs.specs.TableViews.{IsIndexed, IsTable};
+ghost use Rattle.sheet_funcs.specs.Within.{IsWithin};
+
+use crate::answers::fault;
+use crate::given::{full_elements, value_or_error};
+use crate::items::{columns_of, logical_of, number_of, place_of, rows_of};
+use crate::pick::Pick;
+use crate::search::found;
+use crate::table_view::{TableView, across, down};
+use cell_refs::ErrorKind;
+use frac128::Frac;
+use sheet_model::{Arg, FuncStop, Memory, Value};
+use std::alloc::Global;
+
+/// Which value a lookup is for: an equal one, or the last before a greater one, or the last before one that is less.
+#[derive(Clone, Copy, Debug, PartialEq, Eq)]
+pub enum MatchKind {
+    Equal,
+    Rising,
+    Falling,
+}
+
+/// MATCH: the place of a key in a row or a column, counted from 1.
+pub fn match_place(args: &[Arg]) -> Result<Arg, FuncStop>
+    requires { Takes func.Match (length args.now) }
+    ensures exact { IfOk result (λ answer. answer ≡ exact (match_of args.now)) }
+    ensures narrow { Answers (match_of args.now) result }
+{
+    match args {
+        [key, keys] => Ok(Arg::One(place_value(pick_by(key, keys, Ok(Frac::from_whole(1)))))),
+        [key, keys, kind] => Ok(Arg::One(place_value(lookup_at(key, keys, kind)))),
+        _ => unreachable!(),
+    }
+}
+
+/// The place of a key in a row or a column, as a part of that grid.
+pub fn lookup_at(key: &Arg, keys: &Arg, kind: &Arg) -> Pick
+    ensures pick { result ≡ lookup_pick key.now keys.now (number_of kind.now) }
+    ensures within { IsWithin (grid_of keys.now).rows (grid_of keys.now).columns result }
+{
+    pick_by(key, keys, number_of(kind))
+}
+
+// The same with the kind's number.
+fn pick_by(key: &Arg, keys: &Arg, kind: Result<Frac, ErrorKind>) -> Pick
+    ensures pick { result ≡ lookup_pick key.now keys.now kind }
+    ensures within { IsWithin (grid_of keys.now).rows (grid_of keys.now).columns result }
+{
+    let key = match value_or_error(key) {
+        Ok(key) => key,
+        Err(kind) => return Pick::Fault(kind),
+    };
+    let kind = match kind {
+        Ok(number) => kind_of(number),
+        Err(kind) => return Pick::Fault(kind),
+    };
+    let (rows, columns) = (rows_of(keys), columns_of(keys));
+    if rows != 1 && columns != 1 {
+        return Pick::Fault(ErrorKind::NotAvailable);
+    }
+    let place = found(kind, key, full_elements(keys), 1, rows.max(columns));
+    pick_in(keys, place)
+}
+
+// The place in a row or in a column.
+fn pick_in(keys: &Arg, place: Option<u32>) -> Pick
+    ensures { result ≡ pick_in (grid_of keys.now) place }
+{
+    match place {
+        None => Pick::Fault(ErrorKind::NotAvailable),
+        Some(place) if rows_of(keys) == 1 => Pick::Part(0, place, 0, place),
+        Some(place) => Pick::Part(place, 0, place, 0),
+    }
+}
+
+// What a number asks for.
+fn kind_of(number: Frac) -> MatchKind
+    ensures { result ≡ kind_of number }
+{
+    if number.is_zero() {
+        MatchKind::Equal
+    } else if number.is_negative() {
+        MatchKind::Falling
+    } else {
+        MatchKind::Rising
+    }
+}
+
+// A place in a row or a column, counted from 1.
+fn place_value(pick: Pick) -> Value
+    ensures { result ≡ place_value pick }
+{
+    match pick {
+        Pick::Part(top, left, _, _) => {
+            Value::Number(Frac::from_whole(top as i64 + left as i64 + 1))
+        }
+        Pick::Fault(kind) => Value::Error(kind),
+    }
+}
+
+/// VLOOKUP: the element in a column, counted from 1, of the row whose first element is found.
+pub fn vlookup(alloc: Global, args: &[Arg]) -> Result<Arg, FuncStop>
+    requires { Takes func.VLookup (length args.now) }
+    ensures exact { IfOk result (λ answer. answer ≡ exact (vlookup_of args.now)) }
+    ensures narrow { Answers (vlookup_of args.now) result }
+{
+    let [key, table, column, rest @ ..] = args else {
+        unreachable!();
+    };
+    lookup(alloc, &down(table), key, column, rest)
+}
+
+/// HLOOKUP: the element in a row, counted from 1, of the column whose first element is found.
+pub fn hlookup(alloc: Global, args: &[Arg]) -> Result<Arg, FuncStop>
+    requires { Takes func.HLookup (length args.now) }
+    ensures exact { IfOk result (λ answer. answer ≡ exact (hlookup_of args.now)) }
+    ensures narrow { Answers (hlookup_of args.now) result }
+{
+    let [key, table, row, rest @ ..] = args else {
+        unreachable!();
+    };
+    lookup(alloc, &across(table), key, row, rest)
+}
+
+// What is looked up in a table.
+fn lookup(
+    alloc: Global,
+    table: &TableView<'_>,
+    key: &Arg,
+    place: &Arg,
+    rest: &[Arg],
+) -> Result<Arg, FuncStop>
+    requires { IsIndexed table.now }
+    ensures { (g : Rectangle) → IsTable table.now g → Answers (lookup_of g key.now place.now (is_sorted rest.now)) result }
+{
+    let key = match value_or_error(key) {
+        Ok(key) => key,
+        Err(kind) => return Ok(fault(kind)),
+    };
+    let place = match place_of(place) {
+        Ok(place) => place,
+        Err(kind) => return Ok(fault(kind)),
+    };
+    let sorted = match is_sorted(rest) {
+        Ok(sorted) => sorted,
+        Err(kind) => return Ok(fault(kind)),
+    };
+    Ok(Arg::One(looked_up(alloc, table, key, place, sorted)?))
+}
+
+// Whether the keys are taken as sorted, which they are where nothing is said.
+fn is_sorted(rest: &[Arg]) -> Result<bool, ErrorKind>
+    ensures { result ≡ is_sorted rest.now }
+{
+    match rest {
+        [] => Ok(true),
+        [sorted, ..] => logical_of(sorted),
+    }
+}
+
+// The field at a place, counted from 1, beside the key that is found.
+fn looked_up(
+    alloc: Global,
+    table: &TableView<'_>,
+    key: &Value,
+    place: i128,
+    sorted: bool,
+) -> Result<Value, Memory>
+    requires table { IsIndexed table.now }
+    requires key { (k : ErrorKind) → key.now ≢ Error k }
+    ensures { (g : Rectangle) → IsTable table.now g → IfOk result (λ value. value ≡ looked_up g key.now place sorted) }
+{
+    let field = match field_at(table.fields, place) {
+        Ok(field) => field,
+        Err(kind) => return Ok(Value::Error(kind)),
+    };
+    match found(
+        kind_where(sorted),
+        key,
+        table.items,
+        table.key_step,
+        table.keys,
+    ) {
+        Some(row) => table.at(row, field).copy(alloc),
+        None => Ok(Value::Error(ErrorKind::NotAvailable)),
+    }
+}
+
+// The field, from 0, at a place that is counted from 1.
+fn field_at(fields: u32, place: i128) -> Result<u32, ErrorKind>
+    ensures value { result ≡ field_at fields place }
+    ensures within { IfOk result (λ field. field < fields) }
+{
+    if place <= 0 {
+        return Err(ErrorKind::Value);
+    }
+    if place > fields as i128 {
+        return Err(ErrorKind::Ref);
+    }
+    Ok((place - 1) as u32)
+}
+
+// What is looked for among keys that are taken as sorted, or aren't.
+fn kind_where(sorted: bool) -> MatchKind
+    ensures { result ≡ kind_where sorted }
+{
+    if sorted {
+        MatchKind::Rising
+    } else {
+        MatchKind::Equal
+    }
+}
