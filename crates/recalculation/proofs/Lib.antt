@@ -1,0 +1,14 @@
+pub mod Lists
+pub mod Walking
+pub mod Circles
+pub mod Reading
+pub mod Knowing
+pub mod GridCells
+pub mod Calculating
+pub mod SeenGrids
+pub mod Agreeing
+pub mod WithinAreas
+pub mod Values
+pub mod Knowns
+pub mod Wide
+pub mod Reached
