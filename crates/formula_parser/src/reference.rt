@@ -64,7 +64,7 @@ impl Setting<'_> {
         match (self.sheet(first), self.sheet(second)) {
             (Some(one), Some(other)) => one == other,
             (None, None) => match first {
-                Given::Named(own) => is_same(own.as_str(), name.as_str()),
+                Given::Named(earlier) => is_same(earlier.as_str(), name.as_str()),
                 Given::Own => false,
             },
             _ => false,

@@ -12,3 +12,4 @@ pub mod Values
 pub mod Knowns
 pub mod Wide
 pub mod Reached
+pub mod Without

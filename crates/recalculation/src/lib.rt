@@ -3,7 +3,7 @@
 #![tactic(auto)]
 
 ghost use Rattle.recalculation.specs.Laws.{CircularIsAnError, CircularIsEndless, FreeRefersToFree, KnownIsTheValue, OverriddenHasItsNumber, WalksGetShorter};
-ghost use Rattle.recalculation.specs.Ordered.{BoundIsEnoughInOrder, DependsOnReachedInOrder, KnownBoundIsEnoughInOrder, KnownEquationInOrder, LookedIsReferredInOrder, RecalculationEquationInOrder, WideIsLookedAtInOrder};
+ghost use Rattle.recalculation.specs.Ordered.{BlockedInOrder, BoundIsEnoughInOrder, DependsOnReachedInOrder, KnownBoundIsEnoughInOrder, KnownEquationInOrder, KnownLooksAtNoneWideInOrder, LookedIsReferredInOrder, RecalculationEquationInOrder, WideHasNoValueInOrder, WideIsLookedAtInOrder};
 
 /// Which cells are circular, by walks along references.
 pub fn walk_laws()
@@ -30,10 +30,14 @@ pub fn narrow_laws()
     ensures value { KnownIsTheValue }
 {}
 
-/// The value of a cell on narrow numbers where all areas of the workbook are in order: where there is none a wide cell is looked at.
+/// The value of a cell on narrow numbers where all areas of the workbook are in order: where there is none a wide
+/// cell is looked at, and only there.
 pub fn ordered_narrow_laws()
     ensures bound { KnownBoundIsEnoughInOrder }
     ensures equation { KnownEquationInOrder }
     ensures wide { WideIsLookedAtInOrder }
+    ensures none { WideHasNoValueInOrder }
+    ensures blocked { BlockedInOrder }
+    ensures known { KnownLooksAtNoneWideInOrder }
     ensures referred { LookedIsReferredInOrder }
 {}
