@@ -80,12 +80,13 @@ module _ (book : Book) (over : Overriding) (order : HasAreasInOrder book) where
   all_known a v free e b itself = (free, (v, e))
   all_known a v free e c (further b _ before look) =
       let there = all_known a v free e b before in
-      let step : steps_to book (λ d. is_some (over d)) b c ≡ true = both _ _ (ap (λ o. not (is_some o)) look.0) (looked_referred book over order b c look) in
-      ( free_refers_to_free book (λ d. is_some (over d)) b c there.0 step
-      , elim (known book over c) as (λ o. known book over c ≡ o → (w : Value) × (o ≡ Some w)) [
+      let step : steps_to book (λ d. is_some (over d)) b c ≡ true = both _ _ (ap (λ o. not (is_some o)) look.0) (looked_referred book over order b c look) in (
+        free_refers_to_free book (λ d. is_some (over d)) b c there.0 step,
+        elim (known book over c) as (λ o. known book over c ≡ o → (w : Value) × (o ≡ Some w)) [
           | Some w ↦ λ h. (w, refl)
           | None ↦ λ h. absurd (is_known (known book over b) there.1.0 there.1.1 (blocked b c there.0 look h))
-        ] refl )
+        ] refl,
+      )
 
   -- so none of them is wide
   pub none_wide : (a : Cell) (v : Value) → is_circular book (λ c. is_some (over c)) a ≡ false → known book over a ≡ Some v → NoneIsWide book over a
