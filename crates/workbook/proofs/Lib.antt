@@ -1,0 +1,11 @@
+pub mod NamedTrees
+pub mod Texts
+pub mod Counting
+pub mod NameLaws
+pub mod Gathering
+pub mod Keeping
+pub mod Filling
+pub mod Listing
+pub mod OpenLaws
+pub mod NameRows
+pub mod NextCells

@@ -1,0 +1,89 @@
+-- What plain texts say.
+use Rattle.std.proofs.Common.{◌≡◌, ◌≢◌, ℕ, ◌<◌, ◌^◌, Bool, true, false, List, [], ◌∷◌, Option, Some, None, refl, sym, ap, ◌∙◌, arith}
+use Rattle.std.specs.Prelude.{◌&&◌, ◌==◌, if◌then◌else◌, nat_lt, codes}
+use Rattle.std.specs.Option.{option_map_or}
+use Rattle.std.specs.Str.Parse.{digits_value}
+use Rattle.std.proofs.lemmas.Bool.{eqb-true}
+use Rattle.std.proofs.lemmas.Bool.Decides.{nat_tests}
+use Rattle.fractions.specs.Rational.{ℚ}
+use Rattle.frac128.specs.Narrow.{is_narrow}
+use Rattle.frac128.specs.Numeral.{Numeral, Spells, IsNarrowNumeral, all_digits, significant, value}
+use Rattle.frac128.specs.NumeralReading.{reading}
+use Rattle.frac128.proofs.NarrowLaws.{narrow_test}
+use Rattle.frac128.proofs.Spelling.{reading-sound, reading-complete}
+use Rattle.cell_refs.specs.Names.{same_letters}
+use Rattle.formula_grammar.specs.Words.{logical_in}
+use Rattle.sheet_funcs.specs.Numerals.{narrow_value}
+use Rattle.sheet_model.specs.declared.value.Value.TheVariants as sheet_value
+use Rattle.recalculation.specs.Entries.{Entry, Constant, Malformed}
+use Rattle.workbook.specs.Kinds.{behind_equals, logical_or_text, number_or_other}
+
+-- ---- numerals
+both_true : (b : Bool) (m n : ℕ) → b ≡ true → m < n → (b && nat_lt m n) ≡ true
+both_true b m n e h = grind (arith, nat_tests)
+
+both_say : (b : Bool) (m n : ℕ) → (b && nat_lt m n) ≡ true → (b ≡ true) × (m < n)
+both_say false m n e = absurd cc
+both_say true m n e = (refl, grind (arith, nat_tests))
+
+abbrev passes : Numeral → Bool
+passes n = is_narrow (value n) && nat_lt (digits_value 10 (significant (all_digits n))) (2 ^ 127)
+
+narrow_has_value : (n : Numeral) → IsNarrowNumeral n → narrow_value n ≡ Some (value n)
+narrow_has_value n h =
+    let e : passes n ≡ true = both_true (is_narrow (value n)) (digits_value 10 (significant (all_digits n))) (2 ^ 127) ((narrow_test (value n)).1 h.value) h.digits in
+    ap (λ b. if b then Some (value n) else None) e
+
+wide_has_none : (n : Numeral) → (IsNarrowNumeral n → ⊥) → narrow_value n ≡ None
+wide_has_none n h = by_case (passes n) refl
+  where
+    by_case : (b : Bool) → passes n ≡ b → narrow_value n ≡ None
+    by_case false e = ap (λ b. if b then Some (value n) else None) e
+    by_case true e =
+        let k = both_say (is_narrow (value n)) (digits_value 10 (significant (all_digits n))) (2 ^ 127) e in
+        absurd (h (record { value = (narrow_test (value n)).0 k.0; digits = k.1 }))
+
+abbrev number_entry : Option ℚ → Entry
+number_entry o = option_map_or (λ (x : ℚ). Constant (sheet_value.Number x)) o Malformed
+
+pub says_number : (text : List ℕ) (x : ℚ) → (n : Numeral) × (Spells text n × IsNarrowNumeral n × (x ≡ value n)) → Constant (sheet_value.Number x) ≡ number_or_other text (reading text)
+says_number text x (n, (spelled, narrow, is)) =
+    sym (ap (number_or_other text) (reading-complete text n spelled) ∙ ap number_entry (narrow_has_value n narrow) ∙ ap (λ y. Constant (sheet_value.Number y)) (sym is))
+
+pub says_wide : (text : List ℕ) → (n : Numeral) × (Spells text n × (IsNarrowNumeral n → ⊥)) → Malformed ≡ number_or_other text (reading text)
+says_wide text (n, (spelled, wide)) =
+    sym (ap (number_or_other text) (reading-complete text n spelled) ∙ ap number_entry (wide_has_none n wide))
+
+-- another text is a logical or a plain one
+pub says_other : (text : List ℕ) (o : Option Bool) → ((n : Numeral) → Spells text n → ⊥) → o ≡ logical_in text → logical_or_text text o ≡ number_or_other text (reading text)
+says_other text o none is = by_case (reading text) refl
+  where
+    by_case : (r : Option Numeral) → reading text ≡ r → logical_or_text text o ≡ number_or_other text (reading text)
+    by_case None e = ap (logical_or_text text) is ∙ sym (ap (number_or_other text) e)
+    by_case (Some n) e = absurd (none n (reading-sound text n e))
+
+-- ---- words
+pub first_word : (text : List ℕ) → true ≡ same_letters text (codes "TRUE") → Some true ≡ logical_in text
+first_word text e = ap (λ b. if b then Some true else if same_letters text (codes "FALSE") then Some false else None) e
+
+pub second_word : (text : List ℕ) → false ≡ same_letters text (codes "TRUE") → true ≡ same_letters text (codes "FALSE") → Some false ≡ logical_in text
+second_word text e f =
+    ap (λ b. if b then Some false else None) f
+    ∙ ap (λ b. if b then Some true else if same_letters text (codes "FALSE") then Some false else None) e
+
+pub no_word : (text : List ℕ) → false ≡ same_letters text (codes "TRUE") → false ≡ same_letters text (codes "FALSE") → None ≡ logical_in text
+no_word text e f =
+    ap (λ b. if b then Some false else None) f
+    ∙ ap (λ b. if b then Some true else if same_letters text (codes "FALSE") then Some false else None) e
+
+-- ---- equals signs
+other_byte : (c b : ℕ) (bytes : List ℕ) → ((rest : List ℕ) → (b ∷ bytes) ≢ c ∷ rest) → (b == c) ≡ false
+other_byte c b bytes none = by_case (b == c) refl
+  where
+    by_case : (t : Bool) → (b == c) ≡ t → t ≡ false
+    by_case false e = refl
+    by_case true e = absurd (none bytes (ap (λ x. x ∷ bytes) (eqb-true b c e)))
+
+pub no_equals : (text : List ℕ) → ((rest : List ℕ) → text ≢ 61 ∷ rest) → text ≡ behind_equals text
+no_equals [] none = refl
+no_equals (b ∷ bytes) none = rw (other_byte 61 b bytes none) refl

@@ -1,0 +1,42 @@
+use Rattle.std.proofs.Common.{◌≡◌, ◌+◌, ◌-◌, ◌∙◌, ap, arith, subst, sym}
+use Rattle.std.specs.FinMap.{insert}
+use Rattle.workbook.specs.Contents.{content_of}
+use Rattle.workbook.specs.Held.{IsHeld, contents_of, entry_of}
+use Rattle.workbook.specs.Kinds.{says}
+use Rattle.workbook.specs.Room.{HasRoom}
+use Rattle.workbook.specs.State.{is_formula_text}
+use Rattle.workbook.specs.declared.held.Held.{Held}
+use Rattle.workbook.proofs.Counting.{one}
+use Rattle.workbook.proofs.Keeping.{had_fits, kept_put, text_put, the_state}
+use Rattle.workbook.proofs.workbook.Workbook.put.Goals as goal
+
+pub overflow_sub-self : goal.overflow_sub-self
+overflow_sub-self c =
+    let es = c.self.inside.cells.entries in
+    let was : c.one-2.result ≡ one (is_formula_text (content_of (contents_of es) c.args.cell)) =
+    c.one-2.ensures ∙ ap one (c.has_formula-was_one.ensures ∙ ap (λ s. is_formula_text (content_of s.contents c.args.cell)) (sym c.self.view_is)) in
+    omega (arith, was, had_fits c.self.inside.sheets c.self.inside.names es c.args.cell c.self.inside.formulas c.self.invariant)
+
+pub invariant_of-self-2 : goal.invariant_of-self-2
+invariant_of-self-2 c =
+    let sheets = c.self.inside.sheets in
+    let names = c.self.inside.names in
+    let es = c.self.inside.cells.entries in
+    let was : c.one-2.result ≡ one (is_formula_text (content_of (contents_of es) c.args.cell)) =
+    c.one-2.ensures ∙ ap one (c.has_formula-was_one.ensures ∙ ap (λ s. is_formula_text (content_of s.contents c.args.cell)) (sym c.self.view_is)) in
+    let is : c.one.result ≡ one (is_formula_text c.args.text) = c.one.ensures ∙ ap one (c.is_formula-is_one.ensures ∙ ap is_formula_text c.as_str-2.ensures) in
+    let held : Held = record { text = c.args.text; said = c.in_ok-said.said } in
+    let own : IsHeld sheets names c.args.cell held = record {
+      some = c.requires.some;
+      agrees = subst (λ t. entry_of t c.in_ok-said.said ≡ says sheets names c.args.cell t) c.as_str.ensures c.in_ok-said.ensures;
+    } in
+    let room : HasRoom (contents_of es) c.args.cell c.args.text = subst (λ s. HasRoom s.contents c.args.cell c.args.text) (sym c.self.view_is) c.requires.room in
+    kept_put sheets names es c.put_in.new.cells.entries c.args.cell c.self.inside.formulas (c.self.inside.formulas + c.one.result - c.one-2.result) c.self.invariant
+    held own room c.in_ok-put_in.ensures.put c.in_ok-put_in.ensures.len
+    (omega (arith, was, is, had_fits sheets names es c.args.cell c.self.inside.formulas c.self.invariant))
+
+pub returns-clause-ok : goal.returns-clause-ok
+returns-clause-ok c =
+    ap (λ m. the_state c.self.inside.sheets m c.self.inside.names)
+    (text_put c.self.inside.cells.entries c.put_in.new.cells.entries c.args.cell (record { text = c.args.text; said = c.in_ok-said.said }) c.in_ok-put_in.ensures.put)
+    ∙ ap (λ s. the_state s.sheets (insert s.contents c.args.cell c.args.text) s.names) c.self.view_is

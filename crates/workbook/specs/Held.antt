@@ -1,0 +1,57 @@
+-- What is held of the cells.
+use Rattle.std.specs.Prelude.{◌≡◌, ◌≢◌, ◌≤◌, ℕ, List, [], ◌∷◌, length, map, All, Option, Some}
+use Rattle.std.specs.FinMap.{from_entries, insert}
+use Rattle.std.specs.BTreeMap.{is_at}
+use Rattle.std.specs.Map.{lookup}
+use Rattle.cell_refs.specs.declared.cell.Cell.{Cell}
+use Rattle.cell_refs.specs.Cells.{cell_cmp}
+use Rattle.sheet_model.specs.declared.value.Value.TheVariants as value
+use Rattle.recalculation.specs.Entries.{Contents, Entry, Constant, Formula, Malformed}
+use Rattle.workbook.specs.declared.held.Held.{Held}
+use Rattle.workbook.specs.declared.held.Said.{Said}
+use Rattle.workbook.specs.declared.held.Said.TheVariants as said
+use Rattle.workbook.specs.declared.limits.TheConstants.{FORMULAS, TEXTS}
+use Rattle.workbook.specs.Kinds.{says}
+use Rattle.workbook.specs.Scoped.{IsShort}
+use Rattle.workbook.specs.State.{Name, formula_count, text_count}
+
+-- what a text says, as it is held
+abbrev pub entry_of : List ℕ → Said → Entry
+entry_of text (said.Number x) = Constant (value.Number x)
+entry_of text (said.Logical b) = Constant (value.Logical b)
+entry_of text said.Plain = Constant (value.Text text)
+entry_of text (said.Formula t) = Formula t
+entry_of text said.Malformed = Malformed
+
+-- the texts of what is held
+abbrev pub text_entry : Cell × Held → Cell × List ℕ
+text_entry e = (e.0, e.1.text)
+
+abbrev pub contents_of : List (Cell × Held) → Contents
+contents_of es = from_entries (map text_entry es)
+
+-- what is held of a cell says what its text says, which is not empty
+pub record IsHeld (sheets : List (List ℕ)) (names : List Name) (cell : Cell) (held : Held) : Type 0 where
+  pub some : held.text ≢ []
+  pub agrees : entry_of held.text held.said ≡ says sheets names cell held.text
+
+-- what is held of a cell
+abbrev pub held_at : List (Cell × Held) → Cell → Option Held
+held_at es cell = lookup (is_at (cell_cmp cell)) es
+
+abbrev pub AllAreHeld : List (List ℕ) → List Name → List (Cell × Held) → Type 0
+AllAreHeld sheets names es = (cell : Cell) (held : Held) → held_at es cell ≡ Some held → IsHeld sheets names cell held
+
+-- what holds of a workbook: names have short texts, each text is held with what it says, and texts and formulas are counted
+pub record IsKept (sheets : List (List ℕ)) (names : List Name) (es : List (Cell × Held)) (formulas : ℕ) : Type 0 where
+  pub short : All IsShort names
+  pub held : AllAreHeld sheets names es
+  pub counted : length es ≡ text_count (contents_of es)
+  pub few : length es ≤ TEXTS
+  pub numbered : formulas ≡ formula_count (contents_of es)
+  pub few_formulas : formulas ≤ FORMULAS
+
+-- texts put into cells, the last of them first
+abbrev pub put_all : List (Cell × List ℕ) → Contents → Contents
+put_all [] contents = contents
+put_all (e ∷ es) contents = insert (put_all es contents) e.0 e.1

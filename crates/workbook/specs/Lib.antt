@@ -1,0 +1,13 @@
+pub mod State
+pub mod Kinds
+pub mod Edits
+pub mod Files
+pub mod Opening
+pub mod Contents
+pub mod Codes
+pub mod Held
+pub mod Keyed
+pub mod Scoped
+pub mod Room
+pub mod Gathered
+pub mod Opened

@@ -1,0 +1,86 @@
+// What is held of a cell.
+ghost use Rattle.std.specs.Prelude.{◌≡◌, ◌+◌, if◌then◌else◌, None, OnErr, OnOk, Some, is_some, length, option_map};
+ghost use Rattle.std.specs.BTreeMap.{is_at};
+ghost use Rattle.cell_refs.specs.declared.cell.Cell.{Cell};
+ghost use Rattle.cell_refs.specs.Cells.{cell_cmp};
+ghost use Rattle.workbook.specs.Contents.{kind_of, tree_of};
+ghost use Rattle.workbook.specs.Held.{entry_of, held_at};
+
+use crate::Kind;
+use crate::memory::Memory;
+use cell_refs::Cell;
+use formula_ast::Expr;
+use frac128::Frac;
+use sheet_model::Text;
+use std::collections::BTreeMap;
+use std::mem::drop;
+
+/// What a text says.
+#[derive(Drop)]
+pub(crate) enum Said {
+    Number(Frac),
+    Logical(bool),
+    Plain,
+    Formula(Expr),
+    Malformed,
+}
+
+/// The text of a cell, and what it says.
+#[derive(Drop)]
+pub(crate) struct Held {
+    pub(crate) text: Text,
+    pub(crate) said: Said,
+}
+
+impl Held {
+    /// The kind of what is said.
+    pub(crate) fn kind(&self) -> Kind
+        ensures { result ≡ kind_of (Some (entry_of self.now.text self.now.said)) }
+    {
+        match &self.said {
+            Said::Number(number) => Kind::Number(*number),
+            Said::Logical(holds) => Kind::Logical(*holds),
+            Said::Plain => Kind::Plain,
+            Said::Formula(_) => Kind::Formula,
+            Said::Malformed => Kind::Malformed,
+        }
+    }
+
+    /// The tree of a formula.
+    pub(crate) fn tree(&self) -> Option<&Expr>
+        ensures { option_map (λ t. t.now) result ≡ tree_of (Some (entry_of self.now.text self.now.said)) }
+    {
+        match &self.said {
+            Said::Formula(tree) => Some(tree),
+            _ => None,
+        }
+    }
+}
+
+/// Takes away what is held of a cell.
+pub(crate) fn take_away(cells: &mut BTreeMap<Cell, Held>, cell: Cell)
+    ensures taken { (q : Cell) → held_at cells.new.entries q
+        ≡ (if is_at (cell_cmp cell) q then None else held_at cells.old.entries q) }
+    ensures len { length cells.new.entries + (if is_some (held_at cells.old.entries cell) then 1 else 0)
+        ≡ length cells.old.entries }
+{
+    drop(cells.remove(&cell));
+}
+
+/// Puts into a cell what is held of it, in place of what was.
+pub(crate) fn put_in(
+    cells: &mut BTreeMap<Cell, Held>,
+    cell: Cell,
+    held: Held,
+) -> Result<(), Memory>
+    ensures put { OnOk result ((q : Cell) → held_at cells.new.entries q
+        ≡ (if is_at (cell_cmp cell) q then Some held else held_at cells.old.entries q)) }
+    ensures len { OnOk result (length cells.new.entries
+        ≡ length cells.old.entries + (if is_some (held_at cells.old.entries cell) then 0 else 1)) }
+    ensures err { OnErr result (cells.new.entries ≡ cells.old.entries) }
+{
+    match cells.insert(cell, held) {
+        Ok(_) => Ok(()),
+        Err(_) => Err(Memory),
+    }
+}

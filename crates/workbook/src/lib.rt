@@ -1,0 +1,25 @@
+//! Workbooks: the texts of cells, the names, and what the texts say.
+#![tactic(auto)]
+
+mod fault;
+mod file;
+mod gather;
+mod held;
+mod kind;
+mod limits;
+mod memory;
+mod named;
+mod names;
+mod naming;
+mod open;
+mod say;
+mod workbook;
+mod words;
+
+pub use fault::{EditFault, OpenFault};
+pub use file::File;
+pub use kind::Kind;
+pub use workbook::Workbook;
+
+#[cfg(test)]
+mod tests;

@@ -1,0 +1,280 @@
+// A workbook.
+ghost use Rattle.std.specs.Prelude.{◌≡◌, ◌&&◌, ◌<◌, ◌≤◌, ◌≢◌, [], All, MatchOption, None, OnErr, OnOk, Some, false, length, nat_le, nat_lt, not, option_map};
+ghost use Rattle.std.specs.FinMap as finmap;
+ghost use Rattle.workbook.specs.Contents.{IsLast, IsNext, content_of, kind_of, tree_of};
+ghost use Rattle.recalculation.specs.Entries.{entry};
+ghost use Rattle.workbook.specs.Edits.{Sets, after_set, is_outside, set_fault};
+ghost use Rattle.workbook.specs.Held.{IsHeld};
+ghost use Rattle.workbook.specs.Kinds.{book_of};
+ghost use Rattle.workbook.specs.State.{formula_count, is_formula_text, text_count, text_of, with_text};
+ghost use Rattle.workbook.specs.Room.{HasRoom};
+ghost use Rattle.workbook.specs.Scoped.{IsShort};
+
+use crate::held::{Held, put_in, take_away};
+use crate::limits::{FIELD, FORMULAS, TEXTS};
+use crate::memory::Memory;
+use crate::named::Scope;
+use crate::names::Names;
+use crate::say::say;
+use crate::words::{is_formula, one};
+use crate::{EditFault, Kind};
+use cell_refs::{COLUMNS, Cell, ROWS, SheetId, SheetNames};
+use formula_ast::Expr;
+use sheet_model::Text;
+use std::alloc::Global;
+use std::collections::BTreeMap;
+use std::marker::Model;
+use std::ops::Bound;
+
+/// The sheets of a workbook, the texts of their cells, and the names.
+#[derive(Drop)]
+pub struct Workbook {
+    alloc: Global,
+    sheets: SheetNames,
+    names: Names,
+    cells: BTreeMap<Cell, Held>,
+    formulas: usize,
+}
+
+impl Model for Workbook {
+    ghost use Rattle.workbook.specs.State.{State};
+    ghost use Rattle.workbook.specs.Codes.{state_code};
+    ghost use Rattle.workbook.specs.Held.{IsKept, contents_of};
+
+    ghost Value = { State };
+
+    ghost coded = { state_code };
+
+    ghost view = { λ w. record { sheets = w.sheets; contents = contents_of w.cells.entries; names = w.names } };
+
+    ghost invariant = { λ w. IsKept w.sheets w.names w.cells.entries w.formulas };
+}
+
+impl Workbook {
+    // A workbook without texts.
+    pub(crate) fn empty(alloc: Global, sheets: SheetNames, names: Names) -> Workbook
+        requires { All IsShort names }
+        ensures { result ≡ record { sheets = sheets; contents = finmap.empty; names = names } }
+    {
+        Workbook {
+            alloc,
+            sheets,
+            names,
+            cells: BTreeMap::new(alloc),
+            formulas: 0,
+        }
+    }
+
+    /// Puts a text into a cell; an empty one takes away what the cell has. After a fault nothing has changed.
+    pub fn set(&mut self, cell: Cell, text: &str) -> Result<(), EditFault>
+        requires listed { cell.sheet.0 < length self.old.sheets }
+        ensures { Sets self.old cell text.now result self.new }
+    {
+        if let Some(fault) = self.fault_of(cell, text) {
+            return Err(fault);
+        }
+        if text.is_empty() {
+            self.clear(cell);
+            return Ok(());
+        }
+        let Ok(text) = String::from_str(self.alloc, text) else {
+            return Err(EditFault::Memory);
+        };
+        let Ok(()) = self.put(cell, Text::new(text)) else {
+            return Err(EditFault::Memory);
+        };
+        Ok(())
+    }
+
+    // Why a text isn't put into a cell, if it isn't.
+    fn fault_of(&self, cell: Cell, text: &str) -> Option<EditFault>
+        ensures { result ≡ set_fault self.now cell text.now }
+    {
+        if is_outside(cell) {
+            return Some(EditFault::OutOfSheet);
+        }
+        if is_long(text) {
+            return Some(EditFault::FieldTooLong);
+        }
+        if self.would_be_full(cell, text) {
+            return Some(EditFault::TooManyCells);
+        }
+        if self.would_have_too_many(cell, text) {
+            return Some(EditFault::TooManyFormulas);
+        }
+        None
+    }
+
+    // Whether there would be too many texts with this one in the cell.
+    fn would_be_full(&self, cell: Cell, text: &str) -> bool
+        ensures { result ≡ nat_lt TEXTS (text_count (with_text self.now.contents cell text.now)) }
+    {
+        let count = self.cells.len();
+        if text.is_empty() {
+            return false;
+        }
+        let has_text = self.cells.contains_key(&cell);
+        is_one_more(count, TEXTS, !has_text)
+    }
+
+    // Whether too many texts would begin a formula with this one in the cell.
+    fn would_have_too_many(&self, cell: Cell, text: &str) -> bool
+        ensures { result ≡ nat_lt FORMULAS (formula_count (with_text self.now.contents cell text.now)) }
+    {
+        let count = self.formulas;
+        if text.is_empty() {
+            return false;
+        }
+        let was_one = self.has_formula(cell);
+        is_one_more(count, FORMULAS, is_one_now(text, was_one))
+    }
+
+    // Whether the cell has a text that begins a formula.
+    fn has_formula(&self, cell: Cell) -> bool
+        ensures { result ≡ is_formula_text (content_of self.now.contents cell) }
+    {
+        match self.cells.get(&cell) {
+            Some(held) => is_formula(held.text.as_str()),
+            None => false,
+        }
+    }
+
+    // Puts a text into a cell.
+    pub(crate) fn put(&mut self, cell: Cell, text: Text) -> Result<(), Memory>
+        requires listed { cell.sheet.0 < length self.old.sheets }
+        requires some { text ≢ [] }
+        requires short { length text ≤ 8192 }
+        requires room { HasRoom self.old.contents cell text }
+        ensures ok { OnOk result (self.new ≡ record self.old { contents = finmap.insert self.old.contents cell text }) }
+        ensures err { OnErr result (self.new ≡ self.old) }
+    {
+        let scope = Scope {
+            home: cell.sheet,
+            sheets: &self.sheets,
+            names: &self.names,
+        };
+        let said = say(self.alloc, &scope, cell, text.as_str())?;
+        let is_one = is_formula(text.as_str());
+        let was_one = self.has_formula(cell);
+        put_in(&mut self.cells, cell, Held { text, said })?;
+        self.formulas = self.formulas + one(is_one) - one(was_one);
+        Ok(())
+    }
+
+    /// Takes away the text of a cell.
+    pub fn clear(&mut self, cell: Cell)
+        requires listed { cell.sheet.0 < length self.old.sheets }
+        requires inside { is_outside cell ≡ false }
+        ensures { self.new ≡ after_set self.old cell [] }
+    {
+        let was_one = self.has_formula(cell);
+        take_away(&mut self.cells, cell);
+        self.formulas -= one(was_one);
+    }
+
+    /// The text of a cell; empty where it has none.
+    pub fn content(&self, cell: Cell) -> &str
+        requires listed { cell.sheet.0 < length self.now.sheets }
+        ensures { result.now ≡ content_of self.now.contents cell }
+    {
+        match self.cells.get(&cell) {
+            Some(held) => held.text.as_str(),
+            None => "",
+        }
+    }
+
+    /// The kind of a cell's text.
+    pub fn kind(&self, cell: Cell) -> Kind
+        requires listed { cell.sheet.0 < length self.now.sheets }
+        ensures { result ≡ kind_of (entry (book_of self.now) cell) }
+    {
+        match self.cells.get(&cell) {
+            Some(held) => held.kind(),
+            None => Kind::Empty,
+        }
+    }
+
+    /// The tree of a cell's formula, with what names stand for in their places.
+    pub fn tree(&self, cell: Cell) -> Option<&Expr>
+        requires listed { cell.sheet.0 < length self.now.sheets }
+        ensures { option_map (λ t. t.now) result ≡ tree_of (entry (book_of self.now) cell) }
+    {
+        match self.cells.get(&cell) {
+            Some(held) => held.tree(),
+            None => None,
+        }
+    }
+
+    /// The text for which a name stands, on the sheet or in the whole workbook.
+    pub fn text_of(&self, sheet: Option<SheetId>, name: &str) -> Option<&str>
+        ensures { option_map (λ t. t.now) result ≡ text_of self.now.names (option_map (λ s. s.0) sheet) name.now }
+    {
+        self.names.find(sheet, name)
+    }
+
+    /// The names of the sheets, in their order.
+    pub fn sheets(&self) -> &SheetNames
+        ensures { result.now ≡ self.now.sheets }
+    {
+        &self.sheets
+    }
+
+    /// The next cell with a text, by sheet, row and column: the first of all, or the first behind a cell.
+    pub fn next_cell(&self, after: Option<Cell>) -> Option<Cell>
+        ensures { MatchOption result (IsLast self.now.contents after) (λ cell. IsNext self.now.contents after cell) }
+    {
+        match after {
+            Some(cell) => self.cell_behind(cell),
+            None => self.first_cell(),
+        }
+    }
+
+    // The first cell with a text.
+    fn first_cell(&self) -> Option<Cell>
+        ensures { MatchOption result (IsLast self.now.contents None) (λ cell. IsNext self.now.contents None cell) }
+    {
+        match self.cells.first_key_value() {
+            Some((cell, _)) => Some(*cell),
+            None => None,
+        }
+    }
+
+    // The first cell with a text behind another.
+    fn cell_behind(&self, after: Cell) -> Option<Cell>
+        ensures { MatchOption result (IsLast self.now.contents (Some after)) (λ cell. IsNext self.now.contents (Some after) cell) }
+    {
+        let behind = (Bound::Excluded(after), Bound::Unbounded);
+        match self.cells.range(behind).next() {
+            Some((cell, _)) => Some(*cell),
+            None => None,
+        }
+    }
+}
+
+// Whether the cell lies past the last row or column.
+fn is_outside(cell: Cell) -> bool
+    ensures { result ≡ is_outside cell }
+{
+    cell.row >= ROWS || cell.col >= COLUMNS
+}
+
+// Whether a text is longer than a field.
+fn is_long(text: &str) -> bool
+    ensures { result ≡ nat_lt FIELD (length text.now) }
+{
+    text.len() > FIELD as usize
+}
+
+// Whether it is one more than there may be.
+fn is_one_more(count: usize, most: usize, is_new: bool) -> bool
+    ensures { result ≡ (nat_le most count && is_new) }
+{
+    count >= most && is_new
+}
+
+// Whether a text begins a formula where none was.
+fn is_one_now(text: &str, was_one: bool) -> bool
+    ensures { result ≡ (is_formula_text text.now && not was_one) }
+{
+    is_formula(text) && !was_one
+}
