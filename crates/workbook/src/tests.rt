@@ -2,6 +2,7 @@
 ghost use Rattle.std.specs.Prelude.{◌≡◌, ◌≢◌, ◌≤◌, ◌<◌, [], All, IfOk, length};
 ghost use Rattle.workbook.specs.Files.{SheetFile};
 
+use crate::workbook::is_outside;
 use crate::{EditFault, File, Kind, OpenFault, Workbook};
 use cell_refs::{Cell, SheetId};
 use formula_ast::Node;
@@ -28,13 +29,14 @@ fn files(alloc: Global, sheets: &[(&str, &[u8])]) -> Result<Vec<File>, Fail>
 {
     let mut files = Vec::new(alloc);
     for (stem, text) in sheets {
-        files.push(file(alloc, stem, text)?)?;
+        let file = sheet_file(alloc, stem, text)?;
+        files.push(file)?;
     }
     Ok(files)
 }
 
 // The file of a sheet with a short text.
-fn file(alloc: Global, stem: &str, text: &[u8]) -> Result<File, Fail>
+fn sheet_file(alloc: Global, stem: &str, text: &[u8]) -> Result<File, Fail>
     ensures stem { IfOk result (λ f. f.stem ≢ []) }
     ensures size { IfOk result (λ f. length f.bytes ≤ 16777216) }
 {
@@ -94,6 +96,16 @@ fn set(workbook: &mut Workbook, cell: Cell, text: &str) -> Result<Option<EditFau
         Ok(()) => Ok(None),
         Err(fault) => Ok(Some(fault)),
     }
+}
+
+// Takes away the text of a cell.
+fn clear(workbook: &mut Workbook, cell: Cell) -> Result<(), Fail> {
+    listed(workbook, cell)?;
+    if is_outside(cell) {
+        return Err(Fail::new("the cell is outside"));
+    }
+    workbook.clear(cell);
+    Ok(())
 }
 
 fn kind(workbook: &Workbook, cell: Cell) -> Result<Kind, Fail> {
@@ -171,8 +183,9 @@ fn a_name_in_a_formula(rt: HostRuntime) -> Result<(), Fail> {
     let Some(half) = Frac::new(1, 2) else {
         return Err(Fail::new("a half"));
     };
-    listed(&workbook, at(0, 0, 0))?;
-    let Some(tree) = workbook.tree(at(0, 0, 0)) else {
+    let cell = at(0, 0, 0);
+    listed(&workbook, cell)?;
+    let Some(tree) = workbook.tree(cell) else {
         return Err(Fail::new("there is no tree"));
     };
     let Node::Infix(_, left, _) = &tree.node else {
@@ -239,8 +252,7 @@ fn texts_that_are_set(rt: HostRuntime) -> Result<(), Fail> {
         assert!(rt; has(&workbook, cell, text)?, "{text:?}");
         assert!(rt; kind(&workbook, cell)? == want, "{text:?}");
     }
-    listed(&workbook, at(0, 0, 0))?;
-    workbook.clear(at(0, 0, 0));
+    clear(&mut workbook, at(0, 0, 0))?;
     assert!(rt; workbook.next_cell(None) == Some(at(0, 0, 2)));
     let fault = set(&mut workbook, at(0, 4096, 0), "1")?;
     assert!(rt; fault == Some(EditFault::OutOfSheet));

@@ -251,8 +251,8 @@ impl Workbook {
     }
 }
 
-// Whether the cell lies past the last row or column.
-fn is_outside(cell: Cell) -> bool
+/// Whether the cell lies past the last row or column.
+pub(crate) fn is_outside(cell: Cell) -> bool
     ensures { result ≡ is_outside cell }
 {
     cell.row >= ROWS || cell.col >= COLUMNS
