@@ -75,7 +75,7 @@ found_among m k q =
 entries-others : (m : Contents) (k : Cell) → entries (remove m k) ≡ others m k
 entries-others m k =
     ap entries (same_map cells_total exact_cells (remove m k) (from_sorted (others m k)) (λ q.
-        get-remove cells_total m k q ∙ sym (get-from_sorted cell_cmp (others m k) q (others_sorted m k) ∙ found_among m k q)))
+    get-remove cells_total m k q ∙ sym (get-from_sorted cell_cmp (others m k) q (others_sorted m k) ∙ found_among m k q)))
     ∙ entries-from_sorted cell_cmp (others m k) (others_sorted m k)
 
 module _ (p : List ℕ → Bool) (nothing : p [] ≡ false) where
@@ -99,7 +99,7 @@ module _ (p : List ℕ → Bool) (nothing : p [] ≡ false) where
   count-put k v [] h = let a = count-cons (k, v) [] in let b = had_none in omega arith
   count-put k v (e ∷ es) h =
       elim (cell_cmp k e.0) as (λ r. cell_cmp k e.0 ≡ r → count (by_order r ((k, v) ∷ e ∷ es) ((e.0, v) ∷ es) (e ∷ put cell_cmp k v es))
-          + had (cond (is_eq r) (Some e.1) (find cell_cmp k es)) ≡ count (e ∷ es) + one (p v)) [
+      + had (cond (is_eq r) (Some e.1) (find cell_cmp k es)) ≡ count (e ∷ es) + one (p v)) [
         | Less ↦ λ t.
             let a = count-cons (k, v) (e ∷ es) in
             let b : had (find cell_cmp k es) ≡ 0 = ap had (none_below k e.0 es t (front _ _ h)) ∙ had_none in

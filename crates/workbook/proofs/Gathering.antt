@@ -37,7 +37,7 @@ one_text sheet row column [] rest e = absurd (let k : true ≡ false = e in cc)
 one_text sheet row column (b ∷ text) rest e = refl
 
 module _ (sheet row column : ℕ) (fields : Record) (text : List ℕ) (before total : Texts) (at : slice_get fields column ≡ Some text)
-  (so_far : before ++ texts_in_record sheet row column (drop column fields) ≡ total) where
+    (so_far : before ++ texts_in_record sheet row column (drop column fields) ≡ total) where
   split : texts_in_record sheet row column (drop column fields) ≡ texts_in_record sheet row column (text ∷ drop (column + 1) fields)
   split = ap (texts_in_record sheet row column) (left_from fields column text at)
 

@@ -103,9 +103,9 @@ one_less false a n m e f = omega arith
 
 module _ (sheets : List (List ℕ)) (names : List Name) (m n : HeldCells) (k : Cell) (formulas count : ℕ) (kept : IsKept sheets names m formulas) where
   module _ (h : Held) (own : IsHeld sheets names k h) (room : HasRoom (contents_of m) k h.text)
-    (is : (q : Cell) → held_at n q ≡ cond (is_at (cell_cmp k) q) (Some h) (held_at m q))
-    (longer : length n ≡ length m + cond (is_some (held_at m k)) 0 1)
-    (sum : count + one (is_formula_text (content_of (contents_of m) k)) ≡ formulas + one (is_formula_text h.text)) where
+      (is : (q : Cell) → held_at n q ≡ cond (is_at (cell_cmp k) q) (Some h) (held_at m q))
+      (longer : length n ≡ length m + cond (is_some (held_at m k)) 0 1)
+      (sum : count + one (is_formula_text (content_of (contents_of m) k)) ≡ formulas + one (is_formula_text h.text)) where
     at_key : (q : Cell) (g : Held) → is_eq (cell_cmp k q) ≡ true → Some h ≡ Some g → IsHeld sheets names q g
     at_key q g same e = subst (IsHeld sheets names q) (same_held h g e) (subst (λ a. IsHeld sheets names a h) (exact_cells k q (equal_of (cell_cmp k q) same)) own)
 
@@ -140,8 +140,8 @@ module _ (sheets : List (List ℕ)) (names : List Name) (m n : HeldCells) (k : C
     }
 
   module _ (is : (q : Cell) → held_at n q ≡ cond (is_at (cell_cmp k) q) None (held_at m q))
-    (shorter : length n + cond (is_some (held_at m k)) 1 0 ≡ length m)
-    (sum : count + one (is_formula_text (content_of (contents_of m) k)) ≡ formulas) where
+      (shorter : length n + cond (is_some (held_at m k)) 1 0 ≡ length m)
+      (sum : count + one (is_formula_text (content_of (contents_of m) k)) ≡ formulas) where
     other : (q : Cell) (g : Held) (b : Bool) → cond b None (held_at m q) ≡ Some g → IsHeld sheets names q g
     other q g true e = absurd cc
     other q g false e = kept.held q g e
@@ -220,19 +220,19 @@ module _ (sheets : List (List ℕ)) (names : List Name) (es : HeldCells) (k : Ce
   pub empty_fits : (length text == 0) ≡ true → false ≡ nat_lt TEXTS (text_count (with_text (contents_of es) k text))
   empty_fits e = within TEXTS _
       (let a = count_removed (contents_of es) k in
-       let b = removed_less (contains_key (contents_of es) k) (text_count (contents_of es)) in
-       let c = kept.counted in
-       let d = kept.few in
-       let f : text_count (with_text (contents_of es) k text) ≡ text_count (remove (contents_of es) k) = ap text_count (gone (contents_of es) k text e) in
-       omega arith)
+      let b = removed_less (contains_key (contents_of es) k) (text_count (contents_of es)) in
+      let c = kept.counted in
+      let d = kept.few in
+      let f : text_count (with_text (contents_of es) k text) ≡ text_count (remove (contents_of es) k) = ap text_count (gone (contents_of es) k text e) in
+      omega arith)
 
   pub empty_counts : (length text == 0) ≡ true → false ≡ nat_lt FORMULAS (formula_count (with_text (contents_of es) k text))
   empty_counts e = within FORMULAS _
       (let a = formulas_removed (contents_of es) k in
-       let c = kept.numbered in
-       let d = kept.few_formulas in
-       let f : formula_count (with_text (contents_of es) k text) ≡ formula_count (remove (contents_of es) k) = ap formula_count (gone (contents_of es) k text e) in
-       omega arith)
+      let c = kept.numbered in
+      let d = kept.few_formulas in
+      let f : formula_count (with_text (contents_of es) k text) ≡ formula_count (remove (contents_of es) k) = ap formula_count (gone (contents_of es) k text e) in
+      omega arith)
 
   pub text_fits : (length text == 0) ≡ false → (nat_le TEXTS (length es) && not (is_some (held_at es k))) ≡ nat_lt TEXTS (text_count (with_text (contents_of es) k text))
   text_fits some =

@@ -76,7 +76,7 @@ pub named_nowhere : (names : List (List ℕ)) (name : List ℕ) → ((id : ℕ) 
 named_nowhere names name none = any_placed names name ∙ ap is_some (missing names name none)
 
 module _ (sheet : ℕ) (files : List SheetFile) (f : SheetFile) (before : List (List ℕ)) (at : drop sheet files ≡ f ∷ drop (sheet + 1) files)
-  (so_far : first_twin [] (stems_of files) ≡ moved sheet (first_twin before (stems_of (drop sheet files)))) where
+    (so_far : first_twin [] (stems_of files) ≡ moved sheet (first_twin before (stems_of (drop sheet files)))) where
   pub twin_here : list_any (λ b. same_letters b f.stem) before ≡ true → first_twin [] (stems_of files) ≡ Some sheet
   twin_here e =
       so_far ∙ ap (λ l. moved sheet (first_twin before (stems_of l))) at
@@ -136,7 +136,7 @@ unread files sheet file sheet_fault.Memory at before e = tt
 
 -- ---- names
 module _ (sheets : List (List ℕ)) (row : ℕ) (rows : List Record) (one : Record) (before : List Name) (at : drop row rows ≡ one ∷ drop (row + 1) rows)
-  (so_far : bad_name_row sheets [] rows ≡ moved row (bad_name_row sheets before (drop row rows))) where
+    (so_far : bad_name_row sheets [] rows ≡ moved row (bad_name_row sheets before (drop row rows))) where
   pub bad_here : is_new before (name_in sheets one) ≡ false → bad_name_row sheets [] rows ≡ Some row
   bad_here e =
       so_far ∙ ap (λ l. moved row (bad_name_row sheets before l)) at

@@ -68,11 +68,7 @@ pub(crate) fn take_away(cells: &mut BTreeMap<Cell, Held>, cell: Cell)
 }
 
 /// Puts into a cell what is held of it, in place of what was.
-pub(crate) fn put_in(
-    cells: &mut BTreeMap<Cell, Held>,
-    cell: Cell,
-    held: Held,
-) -> Result<(), Memory>
+pub(crate) fn put_in(cells: &mut BTreeMap<Cell, Held>, cell: Cell, held: Held) -> Result<(), Memory>
     ensures put { OnOk result ((q : Cell) → held_at cells.new.entries q
         ≡ (if is_at (cell_cmp cell) q then Some held else held_at cells.old.entries q)) }
     ensures len { OnOk result (length cells.new.entries

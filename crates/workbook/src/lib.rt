@@ -13,8 +13,8 @@ mod names;
 mod naming;
 mod open;
 mod say;
-mod workbook;
 mod words;
+mod workbook;
 
 pub use fault::{EditFault, OpenFault};
 pub use file::File;

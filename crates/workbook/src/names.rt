@@ -32,10 +32,10 @@ impl Model for Name {
     ghost coded = { name_code };
 
     ghost view = { λ n. record {
-        sheet = option_map (λ s. s.0) n.sheet;
-        sheet_text = string_bytes n.sheet_text;
-        name = string_bytes n.name;
-        text = string_bytes n.text;
+      sheet = option_map (λ s. s.0) n.sheet;
+      sheet_text = string_bytes n.sheet_text;
+      name = string_bytes n.name;
+      text = string_bytes n.text;
     } };
 }
 

@@ -60,11 +60,7 @@ fn opened(
 }
 
 // The fault of a workbook that is not opened.
-fn fault(
-    alloc: Global,
-    sheets: &[(&str, &[u8])],
-    names: &[u8],
-) -> Result<Option<OpenFault>, Fail> {
+fn fault(alloc: Global, sheets: &[(&str, &[u8])], names: &[u8]) -> Result<Option<OpenFault>, Fail> {
     match opened(alloc, sheets, names)? {
         Ok(_) => Ok(None),
         Err(fault) => Ok(Some(fault)),
@@ -126,13 +122,25 @@ fn faults_of_files(rt: HostRuntime) -> Result<(), Fail> {
     let spoilt: &[(&str, &[u8])] = &[("plan", b"1"), ("data", b"ab\xff")];
     for (sheets, names, want) in [
         (twins, "", Some(OpenFault::DuplicateSheet(1))),
-        (spoilt, "", Some(OpenFault::Sheet(1, SheetFault::NotUtf8(2)))),
+        (
+            spoilt,
+            "",
+            Some(OpenFault::Sheet(1, SheetFault::NotUtf8(2))),
+        ),
         (two, "", None),
         (two, NAMES, None),
         (two, "plan,a\n", Some(OpenFault::BadNameRow(0))),
         (two, ",rate,1\nnone,b,1\n", Some(OpenFault::BadNameRow(1))),
-        (two, ",rate,1\n,Rate,2\nnone,b,1\n", Some(OpenFault::BadNameRow(1))),
-        (two, "PLAN,rate,1\nplan,rate,2\n", Some(OpenFault::BadNameRow(1))),
+        (
+            two,
+            ",rate,1\n,Rate,2\nnone,b,1\n",
+            Some(OpenFault::BadNameRow(1)),
+        ),
+        (
+            two,
+            "PLAN,rate,1\nplan,rate,2\n",
+            Some(OpenFault::BadNameRow(1)),
+        ),
         (two, "plan,rate,1\ndata,rate,2\n,rate,3\n", None),
         (two, ",A1,1\n", Some(OpenFault::BadNameRow(0))),
         (two, ",true,1\n", Some(OpenFault::BadNameRow(0))),
@@ -217,7 +225,11 @@ fn texts_of_names(rt: HostRuntime) -> Result<(), Fail> {
 
 // A workbook of two sheets, with the texts 1 and x in the first row, a formula in the third, and 7 on the other sheet.
 fn two(alloc: Global) -> Result<Workbook, Fail> {
-    match opened(alloc, &[("plan", b"1,,x\n,\n,=A1\n"), ("data", b",\n7\n")], b"")? {
+    match opened(
+        alloc,
+        &[("plan", b"1,,x\n,\n,=A1\n"), ("data", b",\n7\n")],
+        b"",
+    )? {
         Ok(workbook) => Ok(workbook),
         Err(_) => Err(Fail::new("it is not opened")),
     }

@@ -11,8 +11,7 @@ pub returns : goal.returns
 returns c =
     let read = c.in-Ok.ensures.reads in
     let named = c.in_ok-names.ensures.1 ∙ ap (names_in c.args.sheets.now []) read.0 in
-    let rows = ap length read.0 in
-    (
+    let rows = ap length read.0 in (
       (refl, read.1, read.2, read.3, read.4),
       omega (arith, c.if-len-gt-NAMES.false, c.len.ensures, rows),
       subst (λ l. All IsShort l) (sym named) (short_names c.args.sheets.now [] (sheet_records c.args.bytes.now) (All-nil IsShort) read.4),

@@ -19,7 +19,7 @@ pub loop-place-preserved : goal.loop-place-preserved
 loop-place-preserved c =
     let file = c.index-files-place.result in
     let read = is_read file c.in-Ok.rows
-        (read_as file (Ok c.in-Ok.rows) c.from.result c.from-2.result c.deref.result.now c.from.ensures c.from-2.ensures (c.deref.ensures.value ∙ ap (λ f. f.bytes) c.file.view_is) c.in-Ok.ensures.reads) in
+    (read_as file (Ok c.in-Ok.rows) c.from.result c.from-2.result c.deref.result.now c.from.ensures c.from-2.ensures (c.deref.ensures.value ∙ ap (λ f. f.bytes) c.file.view_is) c.in-Ok.ensures.reads) in
     record {
       read = all_read c.args.files.now c.loop-place.place file c.loop-place-test.true c.index-files-place.is c.loop-place.invariant.read read.0;
       records = records_up_to c.args.files.now c.loop-place.place file c.loop-place.sheets.items c.push_rows.new.sheets.items c.in-Ok.rows c.loop-place-test.true c.index-files-place.is

@@ -22,8 +22,8 @@ loop-place-preserved c =
     let at = from_index c.args.files.now c.loop-place.place file c.loop-place-test.true c.index-files-place.is in
     let is : c.add.new.self ≡ c.loop-place.sheets ++ file.stem ∷ [] = c.in-Ok.ensures.ok.1 ∙ ap (λ s. c.loop-place.sheets ++ s ∷ []) stem in
     let none : list_any (λ b. same_letters b file.stem) c.loop-place.sheets ≡ false =
-        ap (λ s. list_any (λ b. same_letters b s) c.loop-place.sheets) (sym stem)
-        ∙ named_nowhere c.loop-place.sheets c.as_str.result.now (λ id h. let k = c.in-Ok.ensures.taken.1 (id, h) in cc) in
+    ap (λ s. list_any (λ b. same_letters b s) c.loop-place.sheets) (sym stem)
+    ∙ named_nowhere c.loop-place.sheets c.as_str.result.now (λ id h. let k = c.in-Ok.ensures.taken.1 (id, h) in cc) in
     record {
       twins = twin_later c.loop-place.place c.args.files.now file c.loop-place.sheets at c.loop-place.invariant.twins c.add.new.self is none;
       listed = sheet_listed c.loop-place.place c.args.files.now file c.loop-place.sheets at c.loop-place.invariant.twins c.add.new.self is c.loop-place.invariant.listed;

@@ -11,9 +11,8 @@ use Rattle.workbook.proofs.names.Names.add.Goals as goal
 pub returns-then-is_some : goal.returns-then-is_some
 returns-then-is_some c =
     let small : c.in_ok-key.key.letters.items ≡ map to_ascii_lowercase c.args.name.name =
-        c.in_ok-key.ensures.letters ∙ ap (map to_ascii_lowercase) (c.as_str.ensures.value ∙ ap (λ n. n.name) c.name.view_is) in
-    let sheet : c.in_ok-key.key.sheet ≡ c.args.name.sheet = c.in_ok-key.ensures.sheet ∙ ap (λ n. n.sheet) c.name.view_is in
-    (
+    c.in_ok-key.ensures.letters ∙ ap (map to_ascii_lowercase) (c.as_str.ensures.value ∙ ap (λ n. n.name) c.name.view_is) in
+    let sheet : c.in_ok-key.key.sheet ≡ c.args.name.sheet = c.in_ok-key.ensures.sheet ∙ ap (λ n. n.sheet) c.name.view_is in (
       ap (λ s. list_any (is_called s c.args.name.name) c.args.self.now) (sym sheet)
           ∙ sym (is_there c.text.result c.args.self.now c.in_ok-key.key.sheet c.args.name.name (c.text.ensures c.args.name.name small))
           ∙ sym c.is_some.ensures ∙ c.if-is_some.true,
@@ -23,14 +22,14 @@ returns-then-is_some c =
 pub insert_new-requires : goal.insert_new-requires
 insert_new-requires c =
     let small : c.in_ok-key.key.letters.items ≡ map to_ascii_lowercase c.args.name.name =
-        c.in_ok-key.ensures.letters ∙ ap (map to_ascii_lowercase) (c.as_str.ensures.value ∙ ap (λ n. n.name) c.name.view_is) in
+    c.in_ok-key.ensures.letters ∙ ap (map to_ascii_lowercase) (c.as_str.ensures.value ∙ ap (λ n. n.name) c.name.view_is) in
     not_there c.in_ok-key.key c.args.name.name c.self.inside.names.entries c.args.self.now c.self.view_is small c.self.invariant
     (sym (is_there c.text.result c.args.self.now c.in_ok-key.key.sheet c.args.name.name (c.text.ensures c.args.name.name small)) ∙ sym c.is_some.ensures ∙ c.if-is_some.false)
 
 pub invariant_of-self-2 : goal.invariant_of-self-2
 invariant_of-self-2 c =
     let small : c.in_ok-key.key.letters.items ≡ map to_ascii_lowercase c.args.name.name =
-        c.in_ok-key.ensures.letters ∙ ap (map to_ascii_lowercase) (c.as_str.ensures.value ∙ ap (λ n. n.name) c.name.view_is) in
+    c.in_ok-key.ensures.letters ∙ ap (map to_ascii_lowercase) (c.as_str.ensures.value ∙ ap (λ n. n.name) c.name.view_is) in
     let sheet : c.in_ok-key.key.sheet ≡ c.args.name.sheet = c.in_ok-key.ensures.sheet ∙ ap (λ n. n.sheet) c.name.view_is in
     subst AllAreKeyed (sym c.in_ok-insert_new.ensures.ok)
     (keyed-push c.self.inside.names.entries (c.in_ok-key.key, c.args.name) c.self.invariant (record { sheet = sheet; letters = small }))
@@ -38,9 +37,8 @@ invariant_of-self-2 c =
 pub returns : goal.returns
 returns c =
     let small : c.in_ok-key.key.letters.items ≡ map to_ascii_lowercase c.args.name.name =
-        c.in_ok-key.ensures.letters ∙ ap (map to_ascii_lowercase) (c.as_str.ensures.value ∙ ap (λ n. n.name) c.name.view_is) in
-    let sheet : c.in_ok-key.key.sheet ≡ c.args.name.sheet = c.in_ok-key.ensures.sheet ∙ ap (λ n. n.sheet) c.name.view_is in
-    (
+    c.in_ok-key.ensures.letters ∙ ap (map to_ascii_lowercase) (c.as_str.ensures.value ∙ ap (λ n. n.name) c.name.view_is) in
+    let sheet : c.in_ok-key.key.sheet ≡ c.args.name.sheet = c.in_ok-key.ensures.sheet ∙ ap (λ n. n.sheet) c.name.view_is in (
       ap (λ s. list_any (is_called s c.args.name.name) c.args.self.now) (sym sheet)
           ∙ sym (is_there c.text.result c.args.self.now c.in_ok-key.key.sheet c.args.name.name (c.text.ensures c.args.name.name small))
           ∙ sym c.is_some.ensures ∙ c.if-is_some.false,

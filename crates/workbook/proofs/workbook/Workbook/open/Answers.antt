@@ -23,7 +23,7 @@ returns-in_err-texts c =
 pub returns-in_err-names : goal.returns-in_err-names
 returns-in_err-names c =
     let fit : ContentsFit c.args.files.now = opened c.args.files.now c.deref.result.now (c.deref.ensures.value ∙ c.in_ok-rows.ensures.1) c.in_ok-sheets.ensures.0 c.in_ok-rows.ensures.0
-        c.in_ok-texts.ensures.1 c.in_ok-texts.ensures.2 in
+    c.in_ok-texts.ensures.1 c.in_ok-texts.ensures.2 in
     let p = err_from_is_err_and c.from_residual-in_err-names.result c.from_residual-in_err-names.ensures.1 in
     rw (p.1, p.2) (name_fault c.args.files.now c.args.names.now c.in_err-names.field-0.0 c.in_ok-sheets.sheets c.in_ok-sheets.ensures.1 fit c.in_err-names.ensures)
 
@@ -41,9 +41,8 @@ returns c =
     let rows = c.deref.ensures.value ∙ c.in_ok-rows.ensures.1 in
     let texts = c.in_ok-texts.ensures.0 ∙ ap (texts_in_sheets 0) rows ∙ same_texts 0 c.args.files.now in
     let fit : ContentsFit c.args.files.now = opened c.args.files.now c.deref.result.now rows c.in_ok-sheets.ensures.0 c.in_ok-rows.ensures.0
-        c.in_ok-texts.ensures.1 c.in_ok-texts.ensures.2 in
-    let told = c.in_ok-names.ensures in
-    (
+    c.in_ok-texts.ensures.1 c.in_ok-texts.ensures.2 in
+    let told = c.in_ok-names.ensures in (
       record {
         contents = fit;
         read = told.0;
