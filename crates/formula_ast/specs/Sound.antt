@@ -1,6 +1,6 @@
 -- What holds of every formula's tree: the span of a part lies within that of the part around it, a call has as many arguments
--- as its function takes, and an array is rectangular.
-use Rattle.std.specs.Prelude.{◌≡◌, ◌<◌, ◌≤◌, ℕ, suc, ◌*◌, All}
+-- as its function takes, an array is rectangular, and a reference has at least one area.
+use Rattle.std.specs.Prelude.{◌≡◌, ◌<◌, ◌≤◌, ℕ, suc, ◌*◌, length, All}
 use Rattle.cell_refs.specs.declared.span.Span.{Span}
 use Rattle.cell_refs.specs.declared.cell.Area.{Area}
 use Rattle.cell_refs.specs.declared.limits.TheConstants.{COLUMNS, ROWS}
@@ -62,7 +62,7 @@ abbrev mutual
   IsSound (tree.Fault at k) = IsForward at
   IsSound (tree.Missing at) = IsForward at
   IsSound (tree.Array at rows columns items) = IsForward at × IsRectangular rows columns items × AreSoundWithin at items
-  IsSound (tree.Reference at areas) = IsForward at × All IsOnItsSheet areas
+  IsSound (tree.Reference at areas) = IsForward at × (0 < length areas) × All IsOnItsSheet areas
   IsSound (tree.Name at name) = IsForward at
   IsSound (tree.Unknown at name args) = IsForward at × AreSoundWithin at args
   IsSound (tree.Call at func args) = IsForward at × Takes func (count args) × AreSoundWithin at args

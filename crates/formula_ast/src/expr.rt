@@ -187,8 +187,8 @@ impl Expr {
         }
     }
 
-    /// Every tree is sound: the spans of its parts nest, its calls have as many arguments as their functions take, and its
-    /// arrays are rectangular.
+    /// Every tree is sound: the spans of its parts nest, its calls have as many arguments as their functions take, its
+    /// arrays are rectangular, and its references have at least one area, each on its sheet.
     pub fn soundness(&self)
         ensures { IsSound self.now }
     {

@@ -1,5 +1,5 @@
 -- References joined in a union, as they are read and kept.
-use Rattle.std.proofs.Common.{◌≡◌, ◌≤◌, ◌-◌, ℕ, Bool, true, false, List, [], ◌∷◌, ◌++◌, length, take, map, Option, Some, None, refl, sym, ap, subst, ◌∙◌, arith}
+use Rattle.std.proofs.Common.{◌≡◌, ◌≤◌, ◌<◌, ◌-◌, ℕ, Bool, true, false, List, [], ◌∷◌, ◌++◌, length, take, map, Option, Some, None, refl, sym, ap, subst, ◌∙◌, arith}
 use Rattle.std.specs.Prelude.{All}
 use Rattle.std.specs.Option.{option_map, option_and_then}
 use Rattle.std.proofs.lemmas.List.Elements.{All-cons, All-head, All-nil, All-tail}
@@ -12,7 +12,7 @@ use Rattle.formula_grammar.specs.declared.symbol.Symbol.{Symbol}
 use Rattle.formula_grammar.specs.Symbols.{Setting, last_end, place_of}
 use Rattle.formula_grammar.specs.Faults.{some_unlisted}
 use Rattle.formula_grammar.specs.Leaves as leaves
-use Rattle.formula_grammar.specs.References.{SpellsUnion}
+use Rattle.formula_grammar.specs.References.{SpellsUnion, one, joined}
 use Rattle.formula_grammar.specs.Loops.{Found}
 use Rattle.formula_grammar.specs.LeafReading.{references_at, union_at}
 use Rattle.formula_grammar.proofs.Turns.{Reads, shorter, some_is}
@@ -46,6 +46,15 @@ all_listed (Unlisted sheet ∷ rs) e = absurd cc
 pub on_sheets : (areas : List Area) → All IsOnSheet areas → All IsOnItsSheet (map Listed areas)
 on_sheets [] h = All-nil IsOnItsSheet
 on_sheets (a ∷ areas) h = All-cons IsOnItsSheet (Listed a) (map Listed areas) (All-head IsOnSheet a areas h) (on_sheets areas (All-tail IsOnSheet a areas h))
+
+-- what is spelled is at least one reference
+some_behind : (rs : List Referred) (r : Referred) → 0 < length (rs ++ r ∷ [])
+some_behind [] r = omega arith
+some_behind (x ∷ rs) r = omega arith
+
+spelled_some : {S : Setting} {a : List Symbol} {rs : List Referred} → SpellsUnion S a rs → 0 < length rs
+spelled_some (one {a} {r} p) = omega arith
+spelled_some (joined {a} {b} {rs} {r} s e p q) = some_behind rs r
 
 -- a tree of listed areas has no faults
 pub listed_faults : (at : Span) (areas : List Area) → faults_of (Reference at (map Listed areas)) ≡ no_faults
@@ -155,6 +164,12 @@ module _ (S : Setting) where
         let at = place_of (take (length ss - length rest) ss) in
         let same : the_read.references ≡ map Listed areas = all_listed the_read.references (sym the_read.lost_is ∙ is) ∙ ap (map Listed) (sym the_read.areas_are) in
         ap leaf_found references_are ∙ ap (λ rs. Some (leaf_part (Reference at rs), rest)) same ∙ ap (λ (q : Part). Some (q, rest)) (sym made)
+
+    -- it has at least one area
+    pub union_some : lost ≡ false → 0 < length (map Listed areas)
+    union_some is =
+        let same : the_read.references ≡ map Listed areas = all_listed the_read.references (sym the_read.lost_is ∙ is) ∙ ap (map Listed) (sym the_read.areas_are) in
+        subst (λ rs. 0 < length rs) same (spelled_some the_spelled.spells)
 
     -- either stands in front of the rest
     pub union_front : AreSymbols S.text ss → (p : Part) → leaf_found (references_at S ss) ≡ Some (p, rest) → IsInFront ss p rest

@@ -15,7 +15,7 @@ use sheet_model::{Arg, Memory, Value, to_logical, to_number};
 use std::alloc::Global;
 
 /// The single value, or the one element of an area; the error stands for an area of another size.
-pub(crate) fn value_of(arg: &Arg) -> Result<&Value, ErrorKind>
+pub fn value_of(arg: &Arg) -> Result<&Value, ErrorKind>
     ensures { MatchResult result (λ value. value.now ≡ value_of arg.now) (λ kind. Error kind ≡ value_of arg.now) }
 {
     match elements_of(arg) {
@@ -35,7 +35,7 @@ pub(crate) fn number_of(arg: &Arg) -> Result<Frac, ErrorKind>
 }
 
 /// The one value as a place: a number rounded down.
-pub(crate) fn place_of(arg: &Arg) -> Result<i128, ErrorKind>
+pub fn place_of(arg: &Arg) -> Result<i128, ErrorKind>
     ensures { result ≡ place_of arg.now }
 {
     match number_of(arg) {
@@ -45,7 +45,7 @@ pub(crate) fn place_of(arg: &Arg) -> Result<i128, ErrorKind>
 }
 
 /// The one value as a logical.
-pub(crate) fn logical_of(arg: &Arg) -> Result<bool, ErrorKind>
+pub fn logical_of(arg: &Arg) -> Result<bool, ErrorKind>
     ensures { result ≡ logical_in (value_of arg.now) }
 {
     match value_of(arg) {

@@ -21,8 +21,10 @@ mod table_view;
 
 pub use criteria::{countif, sumif};
 pub use criterion::meets;
+pub use given::value_or_error;
 pub use indexing::{index, index_at};
 pub use information::{columns, isblank, isnumber, n_, rows};
+pub use items::{logical_of, place_of, value_of};
 pub use logic::{and_, false_, not_, or_, true_};
 pub use lookups::{MatchKind, hlookup, lookup_at, match_place, vlookup};
 pub use pick::Pick;

@@ -7,7 +7,7 @@ use Rattle.formula_grammar.specs.Symbols.{place_of}
 use Rattle.formula_parser.specs.declared.branch.Part.{Part}
 use Rattle.formula_parser.specs.Leaves.{leaf_part}
 use Rattle.formula_parser.specs.Settings.{seen}
-use Rattle.formula_parser.proofs.Unions.{listed_faults, on_sheets, references_fail, same_place, union_front, union_listed, union_lost, union_shorter, union_stands}
+use Rattle.formula_parser.proofs.Unions.{listed_faults, on_sheets, references_fail, same_place, union_front, union_listed, union_lost, union_shorter, union_some, union_stands}
 use Rattle.formula_parser.proofs.leaf.joined_references.Goals as goal
 
 pub returns-in_err-union-clause-gives : goal.returns-in_err-union-clause-gives
@@ -34,7 +34,7 @@ returns-then-union-clause-placed c =
 pub invariant_of-part_of : goal.invariant_of-part_of
 invariant_of-part_of c =
     let place : c.place_of-place.result ≡ place_of (take (length c.args.symbols.now - length c.in_ok-union.rest.now) c.args.symbols.now) = same_place c.args.symbols.now _ (length c.args.symbols.now - length c.in_ok-union.rest.now) c.place_of-place.result c.place_of-place.ensures (omega arith) in
-    (subst (λ (q : Span). q.start ≤ q.end) (sym place) (union_stands (seen c.args.setting.now) c.args.symbols.now c.in_ok-union.union.areas.items c.in_ok-union.union.lost c.in_ok-union.rest.now c.in_ok-union.ensures.gives c.requires).forward, on_sheets c.in_ok-union.union.areas.items c.in_ok-union.ensures.on_sheet)
+    (subst (λ (q : Span). q.start ≤ q.end) (sym place) (union_stands (seen c.args.setting.now) c.args.symbols.now c.in_ok-union.union.areas.items c.in_ok-union.union.lost c.in_ok-union.rest.now c.in_ok-union.ensures.gives c.requires).forward, union_some (seen c.args.setting.now) c.args.symbols.now c.in_ok-union.union.areas.items c.in_ok-union.union.lost c.in_ok-union.rest.now c.in_ok-union.ensures.gives c.if-union.false, on_sheets c.in_ok-union.union.areas.items c.in_ok-union.ensures.on_sheet)
 
 pub part_of-part-requires-clause-faults : goal.part_of-part-requires-clause-faults
 part_of-part-requires-clause-faults c =
