@@ -1,10 +1,11 @@
 -- What is held of the cells.
-use Rattle.std.specs.Prelude.{◌≡◌, ◌≢◌, ◌≤◌, ℕ, List, [], ◌∷◌, length, map, All, Option, Some}
+use Rattle.std.specs.Prelude.{◌≡◌, ◌≢◌, ◌≤◌, ℕ, List, [], ◌∷◌, length, map, All, Option, Some, ⊤}
 use Rattle.std.specs.FinMap.{from_entries, insert}
 use Rattle.std.specs.BTreeMap.{is_at}
 use Rattle.std.specs.Map.{lookup}
 use Rattle.cell_refs.specs.declared.cell.Cell.{Cell}
 use Rattle.cell_refs.specs.Cells.{cell_cmp}
+use Rattle.formula_ast.specs.Sound.{IsSound}
 use Rattle.sheet_model.specs.declared.value.Value.TheVariants as value
 use Rattle.recalculation.specs.Entries.{Contents, Entry, Constant, Formula, Malformed}
 use Rattle.workbook.specs.declared.held.Held.{Held}
@@ -30,10 +31,16 @@ text_entry e = (e.0, e.1.text)
 abbrev pub contents_of : List (Cell × Held) → Contents
 contents_of es = from_entries (map text_entry es)
 
+-- a formula's tree, as it is held, is sound
+abbrev pub IsSoundly : Said → Type 0
+IsSoundly (said.Formula t) = IsSound t
+IsSoundly _ = ⊤
+
 -- what is held of a cell says what its text says, which is not empty
 pub record IsHeld (sheets : List (List ℕ)) (names : List Name) (cell : Cell) (held : Held) : Type 0 where
   pub some : held.text ≢ []
   pub agrees : entry_of held.text held.said ≡ says sheets names cell held.text
+  pub sound : IsSoundly held.said
 
 -- what is held of a cell
 abbrev pub held_at : List (Cell × Held) → Cell → Option Held

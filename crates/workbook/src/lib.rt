@@ -22,4 +22,6 @@ pub use kind::Kind;
 pub use workbook::Workbook;
 
 #[cfg(test)]
+mod size_tests;
+#[cfg(test)]
 mod tests;

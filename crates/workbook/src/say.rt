@@ -2,7 +2,7 @@
 ghost use Rattle.std.specs.Prelude.{◌≡◌, ◌<◌, ◌≤◌, All, IfOk, length};
 ghost use Rattle.std.specs.Option.{option_map_or};
 ghost use Rattle.recalculation.specs.Entries.{Formula, Malformed};
-ghost use Rattle.workbook.specs.Held.{entry_of};
+ghost use Rattle.workbook.specs.Held.{IsSoundly, entry_of};
 ghost use Rattle.workbook.specs.Kinds.{formula_tree, number_or_other, says};
 ghost use Rattle.frac128.specs.NumeralReading.{reading};
 ghost use Rattle.workbook.specs.Scoped.{IsShort};
@@ -23,7 +23,8 @@ pub(crate) fn say(alloc: Global, scope: &Scope, cell: Cell, text: &str) -> Resul
     requires listed { scope.now.home.0 < length scope.now.sheets.now }
     requires short { All IsShort scope.now.names.now }
     requires length { length text.now ≤ 8192 }
-    ensures { IfOk result (λ said. entry_of text.now said ≡ says scope.now.sheets.now scope.now.names.now cell text.now) }
+    ensures agrees { IfOk result (λ said. entry_of text.now said ≡ says scope.now.sheets.now scope.now.names.now cell text.now) }
+    ensures sound { IfOk result IsSoundly }
 {
     if is_formula(text) {
         return formula(alloc, scope, text);
@@ -36,8 +37,9 @@ fn formula(alloc: Global, scope: &Scope, text: &str) -> Result<Said, Memory>
     requires listed { scope.now.home.0 < length scope.now.sheets.now }
     requires short { All IsShort scope.now.names.now }
     requires length { length text.now ≤ 8192 }
-    ensures { IfOk result (λ said. entry_of text.now said
+    ensures agrees { IfOk result (λ said. entry_of text.now said
         ≡ option_map_or Formula (formula_tree scope.now.sheets.now scope.now.names.now scope.now.home.0 text.now) Malformed) }
+    ensures sound { IfOk result IsSoundly }
 {
     let expr = match parse(alloc, text, scope.home, scope.sheets) {
         Ok(expr) => expr,
@@ -45,14 +47,18 @@ fn formula(alloc: Global, scope: &Scope, text: &str) -> Result<Said, Memory>
         Err(_) => return Ok(Said::Malformed),
     };
     match named(alloc, scope, &expr)? {
-        Some(tree) => Ok(Said::Formula(tree)),
+        Some(tree) => {
+            tree.soundness();
+            Ok(Said::Formula(tree))
+        }
         None => Ok(Said::Malformed),
     }
 }
 
 // What another text says.
 fn constant(text: &str) -> Said
-    ensures { entry_of text.now result ≡ number_or_other text.now (reading text.now) }
+    ensures agrees { entry_of text.now result ≡ number_or_other text.now (reading text.now) }
+    ensures sound { IsSoundly result }
 {
     match Frac::read(text) {
         Ok(number) => Said::Number(number),

@@ -3,6 +3,7 @@ ghost use Rattle.std.specs.Prelude.{◌≡◌, ◌&&◌, ◌<◌, ◌≤◌, ◌
 ghost use Rattle.std.specs.FinMap as finmap;
 ghost use Rattle.workbook.specs.Contents.{IsLast, IsNext, content_of, kind_of, tree_of};
 ghost use Rattle.recalculation.specs.Entries.{entry};
+ghost use Rattle.recalculation.specs.Ordered.{HasAreasInOrder};
 ghost use Rattle.workbook.specs.Edits.{Sets, after_set, is_outside, set_fault};
 ghost use Rattle.workbook.specs.Held.{IsHeld};
 ghost use Rattle.workbook.specs.Kinds.{book_of};
@@ -174,7 +175,6 @@ impl Workbook {
 
     /// The text of a cell; empty where it has none.
     pub fn content(&self, cell: Cell) -> &str
-        requires listed { cell.sheet.0 < length self.now.sheets }
         ensures { result.now ≡ content_of self.now.contents cell }
     {
         match self.cells.get(&cell) {
@@ -185,7 +185,6 @@ impl Workbook {
 
     /// The kind of a cell's text.
     pub fn kind(&self, cell: Cell) -> Kind
-        requires listed { cell.sheet.0 < length self.now.sheets }
         ensures { result ≡ kind_of (entry (book_of self.now) cell) }
     {
         match self.cells.get(&cell) {
@@ -196,7 +195,6 @@ impl Workbook {
 
     /// The tree of a cell's formula, with what names stand for in their places.
     pub fn tree(&self, cell: Cell) -> Option<&Expr>
-        requires listed { cell.sheet.0 < length self.now.sheets }
         ensures { option_map (λ t. t.now) result ≡ tree_of (entry (book_of self.now) cell) }
     {
         match self.cells.get(&cell) {
@@ -219,6 +217,13 @@ impl Workbook {
         &self.sheets
     }
 
+    /// How many cells have a text.
+    pub fn texts(&self) -> usize
+        ensures { result ≡ text_count self.now.contents }
+    {
+        self.cells.len()
+    }
+
     /// The next cell with a text, by sheet, row and column: the first of all, or the first behind a cell.
     pub fn next_cell(&self, after: Option<Cell>) -> Option<Cell>
         ensures { MatchOption result (IsLast self.now.contents after) (λ cell. IsNext self.now.contents after cell) }
@@ -227,6 +232,13 @@ impl Workbook {
             Some(cell) => self.cell_behind(cell),
             None => self.first_cell(),
         }
+    }
+
+    /// Each area to which a formula refers has its top left corner first.
+    pub fn areas_are_in_order(&self)
+        ensures { HasAreasInOrder (book_of self.now) }
+    {
+        let _formulas = self.formulas;
     }
 
     // The first cell with a text.

@@ -28,7 +28,8 @@ invariant_of-self-2 c =
     let held : Held = record { text = c.args.text; said = c.in_ok-said.said } in
     let own : IsHeld sheets names c.args.cell held = record {
       some = c.requires.some;
-      agrees = subst (λ t. entry_of t c.in_ok-said.said ≡ says sheets names c.args.cell t) c.as_str.ensures c.in_ok-said.ensures;
+      agrees = subst (λ t. entry_of t c.in_ok-said.said ≡ says sheets names c.args.cell t) c.as_str.ensures c.in_ok-said.ensures.agrees;
+      sound = c.in_ok-said.ensures.sound;
     } in
     let room : HasRoom (contents_of es) c.args.cell c.args.text = subst (λ s. HasRoom s.contents c.args.cell c.args.text) (sym c.self.view_is) c.requires.room in
     kept_put sheets names es c.put_in.new.cells.entries c.args.cell c.self.inside.formulas (c.self.inside.formulas + c.one.result - c.one-2.result) c.self.invariant
