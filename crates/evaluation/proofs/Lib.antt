@@ -1,1 +1,2 @@
+pub mod AreaCells
 pub mod Composing

@@ -4,6 +4,7 @@
 mod cells;
 mod part;
 mod reference;
+mod values;
 
 pub use cells::Cells;
 pub use part::Part;
