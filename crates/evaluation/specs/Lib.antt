@@ -1,3 +1,4 @@
 pub mod Parts
 pub mod Composed
 pub mod Known
+pub mod Picking
