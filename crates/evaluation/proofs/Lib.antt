@@ -1,2 +1,3 @@
 pub mod AreaCells
 pub mod Composing
+pub mod Nodes
