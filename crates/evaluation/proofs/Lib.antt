@@ -1,0 +1,3 @@
+pub mod LookLists
+pub mod LookMet
+pub mod LookRows

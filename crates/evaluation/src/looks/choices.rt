@@ -119,5 +119,6 @@ fn push_chosen(
     if place < 1 || place > args.len() as i128 {
         return Ok(());
     }
-    push_all(&args[(place - 1) as usize].looks, to)
+    let chosen = &args[(place - 1) as usize];
+    push_all(&chosen.looks, to)
 }
