@@ -1,3 +1,4 @@
+pub mod LookKeys
 pub mod LookLists
 pub mod LookMet
 pub mod LookRows

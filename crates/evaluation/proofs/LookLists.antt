@@ -25,7 +25,7 @@ front_more values y None = refl
 front_more values y (Some ys) = ap Some (sym (append_assoc values (y ∷ []) ys))
 
 module _ {A B : Type 0} (f : A → Option B) (all_of : List A → Option (List B)) (empty : all_of [] ≡ Some []) (step : (x : A) (xs : List A) → all_of (x ∷ xs) ≡ both (f x) (all_of xs)) (xs : List A) (i : ℕ) (values : List B)
-  (whole : Option (List B)) (all : whole ≡ in_front values (all_of (drop i xs))) where
+    (whole : Option (List B)) (all : whole ≡ in_front values (all_of (drop i xs))) where
   -- the first value and those of the rest
   first_value : (x : A) → i < length xs → x ≡ get_or xs i x → whole ≡ in_front values (both (f x) (all_of (drop (i + 1) xs)))
   first_value x h e = all ∙ ap (λ ys. in_front values (all_of ys)) (rest_from xs i x h e) ∙ ap (in_front values) (step x (drop (i + 1) xs))

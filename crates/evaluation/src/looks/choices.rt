@@ -1,5 +1,6 @@
 // What IF, IFERROR and CHOOSE look at.
-ghost use Rattle.std.specs.Prelude.{◌≡◌, ◌++◌, IfOk, OnOk, slice_get};
+ghost use Rattle.std.specs.Prelude.{◌≡◌, ◌++◌, IfOk, OnOk, option_map, slice_get};
+ghost use Rattle.recalculation.specs.Evaluation.{at_place};
 ghost use Rattle.recalculation.specs.Looking.{at_chosen, branch, choose_looks, if_looks, iferror_looks, looks_of, on_error};
 ghost use Rattle.sheet_model.specs.Operators.{single};
 ghost use Rattle.sheet_model.specs.declared.grid.Arg.TheVariants.{One};
@@ -116,9 +117,18 @@ fn push_chosen(
     let Ok(place) = place else {
         return Ok(());
     };
-    if place < 1 || place > args.len() as i128 {
-        return Ok(());
+    match at_place(args, place) {
+        Some(chosen) => push_all(&chosen.looks, to),
+        None => Ok(()),
     }
-    let chosen = &args[(place - 1) as usize];
-    push_all(&chosen.looks, to)
+}
+
+// The argument at a place, counted from 1.
+fn at_place(args: &[Part], place: i128) -> Option<&Part>
+    ensures { option_map (λ part. part.now) result ≡ at_place args.now place }
+{
+    if place < 1 || place > args.len() as i128 {
+        return None;
+    }
+    Some(&args[(place - 1) as usize])
 }

@@ -78,6 +78,7 @@ fn first_column(alloc: Global, grid: &Reference) -> Result<Vec<Cell>, Memory>
     ensures cells { IfOk result (λ keys. keys.items ≡ column_cells grid.now 0) }
     ensures count { IfOk result (λ keys. length keys.items ≡ grid.now.rows) }
 {
+    prove!(grid.cols > 0);
     let mut keys = Vec::new(alloc);
     push_column(grid, 0, &mut keys)?;
     Ok(keys)
