@@ -38,29 +38,7 @@ pub(crate) fn call_looks<C: Cells>(
         Func::HLookup => table_looks(alloc, cells, args, true),
         Func::SumIf => sumif_looks(alloc, args),
         Func::Rows | Func::Columns => size_looks(alloc, args),
-        Func::Sum
-        | Func::Average
-        | Func::Count
-        | Func::SumProduct
-        | Func::MMult
-        | Func::Transpose
-        | Func::Match
-        | Func::CountIf
-        | Func::And
-        | Func::Or
-        | Func::Not
-        | Func::True
-        | Func::False
-        | Func::Abs
-        | Func::Min
-        | Func::Max
-        | Func::Int
-        | Func::Mod
-        | Func::Round
-        | Func::Power
-        | Func::N
-        | Func::IsNumber
-        | Func::IsBlank => all_looks(alloc, args),
+        _ => all_looks(alloc, args),
     }
 }
 
