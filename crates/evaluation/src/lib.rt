@@ -20,3 +20,5 @@ pub use reference::Reference;
 
 #[cfg(test)]
 mod looks_tests;
+#[cfg(test)]
+mod tests;
