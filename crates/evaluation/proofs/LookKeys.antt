@@ -9,13 +9,12 @@ use Rattle.fractions.proofs.Order.{le_of_lt, lt_irrefl, lt_of_lt_of_le, zero_lt_
 use Rattle.cell_refs.specs.declared.error_kind.ErrorKind.{ErrorKind}
 use Rattle.cell_refs.specs.declared.error_kind.ErrorKind.TheVariants as kind
 use Rattle.sheet_model.specs.Grids.{Rectangle}
-use Rattle.sheet_model.specs.Tests.{is_zero, is_negative}
+use Rattle.sheet_model.specs.Tests.{is_negative}
 use Rattle.sheet_model.specs.declared.value.Value.{Value}
 use Rattle.sheet_model.proofs.NumberTests.{is_zero-told, is_negative-told}
 use Rattle.sheet_funcs.specs.Lookups.{found, kind_of, pick_by, pick_in}
 use Rattle.sheet_funcs.specs.declared.pick.Pick.{Pick}
 use Rattle.sheet_funcs.specs.declared.pick.Pick.TheVariants.{Part, Fault}
-use Rattle.sheet_funcs.specs.declared.lookups.MatchKind.{MatchKind}
 use Rattle.sheet_funcs.specs.declared.lookups.MatchKind.TheVariants.{Equal, Falling, Rising}
 use Rattle.recalculation.proofs.Lists.{either_second}
 use Rattle.evaluation.specs.FoundRows.{found_row, kind_where}

@@ -1,7 +1,7 @@
 -- Cells in places that meet a criterion.
-use Rattle.std.proofs.Common.{◌≡◌, ℕ, ◌+◌, ◌<◌, true, false, cond, List, ◌∷◌, ◌++◌, [], length, get_or, drop, map, refl, sym, ap, ◌∙◌, append_assoc, append-nil, arith}
+use Rattle.std.proofs.Common.{◌≡◌, ℕ, ◌+◌, ◌<◌, true, false, cond, List, ◌∷◌, ◌++◌, [], length, get_or, drop, map, sym, ap, ◌∙◌, append_assoc, arith}
 use Rattle.std.specs.Prelude.{filter, zip}
-use Rattle.std.proofs.lemmas.List.{get_or_default, drop_all}
+use Rattle.std.proofs.lemmas.List.{get_or_default}
 use Rattle.cell_refs.specs.declared.cell.Cell.{Cell}
 use Rattle.sheet_model.specs.declared.value.Value.{Value}
 use Rattle.sheet_model.proofs.Spreading.{pairs_from}

@@ -1,12 +1,10 @@
 -- The row whose key is found, and the values of the keys.
-use Rattle.std.specs.Prelude.{◌≡◌, ℕ, ◌+◌, Bool, if◌then◌else◌, List, map, Option, Some, None, Result, Ok, Err}
+use Rattle.std.specs.Prelude.{◌≡◌, ℕ, Bool, if◌then◌else◌, List, map, Option, Some, None, Result, Ok, Err}
 use Rattle.cell_refs.specs.declared.cell.Cell.{Cell}
 use Rattle.cell_refs.specs.declared.error_kind.ErrorKind.{ErrorKind}
 use Rattle.sheet_model.specs.Grids.{Rectangle}
 use Rattle.sheet_model.specs.declared.value.Value.{Value}
 use Rattle.sheet_funcs.specs.Lookups.{found}
-use Rattle.sheet_funcs.specs.declared.pick.Pick.{Pick}
-use Rattle.sheet_funcs.specs.declared.pick.Pick.TheVariants.{Part as Picked, Fault}
 use Rattle.sheet_funcs.specs.declared.lookups.MatchKind.{MatchKind}
 use Rattle.sheet_funcs.specs.declared.lookups.MatchKind.TheVariants.{Equal, Rising}
 use Rattle.recalculation.specs.Evaluation.{CellGrid}

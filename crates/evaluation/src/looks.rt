@@ -1,5 +1,5 @@
 // What a call of a function looks at.
-ghost use Rattle.std.specs.Prelude.{◌≡◌, IfOk, if◌then◌else◌};
+ghost use Rattle.std.specs.Prelude.{◌≡◌, IfOk};
 ghost use Rattle.recalculation.specs.Looking.{call_looks, size_looks};
 
 mod arguments;

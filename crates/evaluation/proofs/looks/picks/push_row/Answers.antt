@@ -1,4 +1,4 @@
-use Rattle.std.proofs.Common.{◌∙◌, ap, sym, arith}
+use Rattle.std.proofs.Common.{sym, arith}
 use Rattle.recalculation.specs.Looking.{cell_in}
 use Rattle.evaluation.proofs.LookRows.{range_part_more}
 use Rattle.evaluation.proofs.looks.picks.push_row.Goals as goal
