@@ -1,12 +1,10 @@
 -- The cells of areas.
-use Rattle.std.proofs.Common.{◌≡◌, ◌<◌, ◌+◌, ◌-◌, ◌*◌, ◌++◌, ℕ, zero, suc, List, [], ◌∷◌, length, map, flat_map, refl, sym, ap, ◌∙◌, append_assoc, append-nil, length-append, arith}
-use Rattle.std.specs.Prelude.{All}
+use Rattle.std.proofs.Common.{◌≡◌, ◌<◌, ◌+◌, ◌-◌, ◌*◌, ◌++◌, ℕ, List, [], ◌∷◌, length, map, flat_map, sym, ap, ◌∙◌, append_assoc, length-append, arith}
 use Rattle.std.specs.List.{range_with_len}
 use Rattle.std.proofs.lemmas.List.FromFn.{length-map-range_with_len, map-range_with_len_more}
 use Rattle.cell_refs.specs.declared.cell.Cell.{Cell}
 use Rattle.cell_refs.specs.declared.cell.Area.{Area}
 use Rattle.cell_refs.specs.Areas.{IsInOrder, area_len, area_width, cell_at, cells_of}
-use Rattle.recalculation.specs.Evaluation.{grid_of_areas}
 use Rattle.evaluation.specs.Parts.{IsFullGrid}
 
 -- one cell more of an area

@@ -23,12 +23,12 @@ use Rattle.sheet_model.specs.declared.grid.Arg.TheVariants.{One, Area as Element
 use Rattle.sheet_funcs.specs.Arguments.{value_of, on_ok}
 use Rattle.sheet_funcs.specs.Rounding.{place_of}
 use Rattle.sheet_funcs.specs.Table.{called}
-use Rattle.recalculation.specs.Evaluation.{CellGrid, chosen, otherwise, or_else, at_place, chosen_at, call_of, evaluated, all_evaluated}
-use Rattle.recalculation.specs.Looking.{Argument, known_or_empty, are_known, outcome_of, reference_in, all_looks, both, outcomes, then_cells, looks_of, branch, on_error, at_chosen, column_cells, exchanged, lookup_in, table_looks, index_looks, summed_looks, size_looks, call_looks, looked_at, arguments}
+use Rattle.recalculation.specs.Evaluation.{CellGrid, chosen, otherwise, or_else, at_place, chosen_at, evaluated, all_evaluated}
+use Rattle.recalculation.specs.Looking.{known_or_empty, are_known, outcome_of, reference_in, all_looks, both, outcomes, then_cells, looks_of, branch, on_error, at_chosen, column_cells, exchanged, lookup_in, table_looks, index_looks, summed_looks, size_looks, call_looks, looked_at, arguments}
 use Rattle.recalculation.proofs.Calculating.{in_order}
 use Rattle.recalculation.proofs.Lists.{both as both_true, first_true, second_true, either_first, either_second}
 use Rattle.evaluation.specs.Parts.{part_of}
-use Rattle.evaluation.specs.Composed.{turned, joined, chosen_outcome, branch_outcome, otherwise_outcome, or_else_outcome, place_outcome, at_place_outcome, filled_or, all_filled, narrow_called, call_outcome, call_part}
+use Rattle.evaluation.specs.Composed.{turned, joined, chosen_outcome, branch_outcome, or_else_outcome, place_outcome, at_place_outcome, filled_or, all_filled, narrow_called, call_outcome, call_part}
 
 module _ (known : Cell → Option Value) where
   -- the values of a formula's cells, and Empty where there is none

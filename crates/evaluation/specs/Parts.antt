@@ -1,6 +1,6 @@
 -- A part of a formula as what a function takes of it: the cells at which it looks, its narrow value, and its cells where it is a
 -- reference.
-use Rattle.std.specs.Prelude.{◌≡◌, ◌<◌, ℕ, ◌*◌, length, Option}
+use Rattle.std.specs.Prelude.{◌≡◌, ◌<◌, ◌*◌, length, Option}
 use Rattle.cell_refs.specs.declared.cell.Cell.{Cell}
 use Rattle.formula_ast.specs.Tree.{Tree}
 use Rattle.sheet_model.specs.declared.value.Value.{Value}

@@ -1,7 +1,6 @@
 -- Each part of an expression, and the arguments one by one.
-use Rattle.std.proofs.Common.{arith, ap, sym, subst, ◌∙◌, ◌≡◌, ◌++◌, ◌∷◌, [], IfOk}
-use Rattle.calculations.specs.Calculation.{narrow}
-use Rattle.formula_ast.proofs.Parts.{node_count-le, listed-map, count-trees}
+use Rattle.std.proofs.Common.{arith, ap, sym, subst, ◌∙◌, ◌≡◌, IfOk}
+use Rattle.formula_ast.proofs.Parts.{node_count-le, listed-map}
 use Rattle.formula_ast.specs.Sound.{IsSound}
 use Rattle.formula_ast.specs.Tree.{trees}
 use Rattle.formula_ast.specs.View.{tree_of}
