@@ -1,6 +1,7 @@
 -- Each part of an expression, and the arguments one by one.
-use Rattle.std.proofs.Common.{arith, ap, sym, subst, ◌∙◌, ◌≡◌, IfOk}
+use Rattle.std.proofs.Common.{arith, ap, sym, subst, ◌∙◌, ◌≡◌, IfOk, length}
 use Rattle.formula_ast.proofs.Parts.{node_count-le, listed-map}
+use Rattle.formula_ast.specs.Functions.{Takes}
 use Rattle.formula_ast.specs.Sound.{IsSound}
 use Rattle.formula_ast.specs.Tree.{trees}
 use Rattle.formula_ast.specs.View.{tree_of}
@@ -10,7 +11,7 @@ use Rattle.sheet_model.specs.Operators.{minus_of, percent_of}
 use Rattle.evaluation.specs.Composed.{call_part, joined, referred, turned}
 use Rattle.evaluation.specs.Parts.{part_of}
 use Rattle.evaluation.proofs.Composing.{minus_part, percent_part, infix_part, call_part_is}
-use Rattle.evaluation.proofs.Nodes.{in_order, arguments_go, of_node}
+use Rattle.evaluation.proofs.Nodes.{in_order, arguments_go, arguments-count, of_node}
 use Rattle.evaluation.proofs.formula.+evaluating.Goals as goal
 
 pub arguments-evaluate-requires : goal.arguments-evaluate-requires
@@ -34,6 +35,16 @@ evaluate-returns-in-Reference g t c =
     (ap (λ areas. referred known (grid_of_areas areas)) (c.deref-in-Reference.ensures.value ∙ sym (listed-map c.in-Reference.areas.items))
     ∙ sym (of_node known c.args.expr.now c.expr.inside.span c.expr.inside.node _ c.expr.view_is c.in-Reference.is))
     c.reference_part.ensures
+
+-- a call has as many arguments as its function takes
+pub evaluate-call_part-requires : goal.evaluate-call_part-requires
+evaluate-call_part-requires g t c =
+    let known = g.C.Cells.known c.args.cells.now in
+    let sound = subst (λ n. IsSound (tree_of c.expr.inside.span n)) c.in-Call.is c.expr.invariant in
+    subst (λ n. Takes c.in-Call.function n)
+    (sym (ap length (c.deref-in-Call-2.ensures.value ∙ c.in_ok-args-in-Call.ensures ∙ ap (λ xs. arguments known (trees xs)) c.deref-in-Call.ensures.value)
+    ∙ arguments-count known (trees c.in-Call.args.items)))
+    sound.1
 
 pub evaluate-returns-in_ok-args-in-Call : goal.evaluate-returns-in_ok-args-in-Call
 evaluate-returns-in_ok-args-in-Call g t c =
