@@ -1,0 +1,86 @@
+-- Each part of an expression, and the arguments one by one.
+use Rattle.std.proofs.Common.{arith, ap, sym, subst, ◌∙◌, ◌≡◌, IfOk, length}
+use Rattle.formula_ast.proofs.Parts.{node_count-le, listed-map}
+use Rattle.formula_ast.specs.Functions.{Takes}
+use Rattle.formula_ast.specs.Sound.{IsSound}
+use Rattle.formula_ast.specs.Tree.{trees}
+use Rattle.formula_ast.specs.View.{tree_of}
+use Rattle.recalculation.specs.Evaluation.{grid_of_areas}
+use Rattle.recalculation.specs.Looking.{arguments}
+use Rattle.sheet_model.specs.Operators.{minus_of, percent_of}
+use Rattle.evaluation.specs.Composed.{call_part, joined, referred, turned}
+use Rattle.evaluation.specs.Parts.{part_of}
+use Rattle.evaluation.proofs.Composing.{minus_part, percent_part, infix_part, call_part_is}
+use Rattle.evaluation.proofs.Nodes.{in_order, arguments_go, arguments-count, of_node}
+use Rattle.evaluation.proofs.formula.+evaluating.Goals as goal
+
+pub arguments-evaluate-requires : goal.arguments-evaluate-requires
+arguments-evaluate-requires g t c κs within =
+    (omega (arith, node_count-le c.args.exprs.now c.loop-expr.expr-index c.expr-item.result c.loop-expr-test.true c.expr-item.is), within)
+
+pub arguments-loop-expr-preserved : goal.arguments-loop-expr-preserved
+arguments-loop-expr-preserved g t c =
+    arguments_go (g.C.Cells.known c.args.cells.now) c.args.exprs.now c.loop-expr.expr-index c.expr-item.result c.loop-expr.parts.items _ _ c.loop-expr-test.true c.expr-item.is c.loop-expr.invariant c.in_ok-evaluate.ensures
+    c.in_ok-push.ensures.items
+
+pub evaluate-reference_part-requires-clause-order : goal.evaluate-reference_part-requires-clause-order
+evaluate-reference_part-requires-clause-order g t c =
+    rw c.deref-in-Reference.ensures.value
+    (in_order c.in-Reference.areas.items (subst (λ n. IsSound (tree_of c.expr.inside.span n)) c.in-Reference.is c.expr.invariant).2)
+
+pub evaluate-returns-in-Reference : goal.evaluate-returns-in-Reference
+evaluate-returns-in-Reference g t c =
+    let known = g.C.Cells.known c.args.cells.now in
+    subst (λ part. IfOk c.reference_part.result (λ p. p ≡ part))
+    (ap (λ areas. referred known (grid_of_areas areas)) (c.deref-in-Reference.ensures.value ∙ sym (listed-map c.in-Reference.areas.items))
+    ∙ sym (of_node known c.args.expr.now c.expr.inside.span c.expr.inside.node _ c.expr.view_is c.in-Reference.is))
+    c.reference_part.ensures
+
+-- a call has as many arguments as its function takes
+pub evaluate-call_part-requires : goal.evaluate-call_part-requires
+evaluate-call_part-requires g t c =
+    let known = g.C.Cells.known c.args.cells.now in
+    let sound = subst (λ n. IsSound (tree_of c.expr.inside.span n)) c.in-Call.is c.expr.invariant in
+    subst (λ n. Takes c.in-Call.function n)
+    (sym (ap length (c.deref-in-Call-2.ensures.value ∙ c.in_ok-args-in-Call.ensures ∙ ap (λ xs. arguments known (trees xs)) c.deref-in-Call.ensures.value)
+    ∙ arguments-count known (trees c.in-Call.args.items)))
+    sound.1
+
+pub evaluate-returns-in_ok-args-in-Call : goal.evaluate-returns-in_ok-args-in-Call
+evaluate-returns-in_ok-args-in-Call g t c =
+    let known = g.C.Cells.known c.args.cells.now in
+    let sound = subst (λ n. IsSound (tree_of c.expr.inside.span n)) c.in-Call.is c.expr.invariant in
+    subst (λ part. IfOk c.call_part.result (λ p. p ≡ part))
+    (ap (call_part known c.in-Call.function) (c.deref-in-Call-2.ensures.value ∙ c.in_ok-args-in-Call.ensures ∙ ap (λ xs. arguments known (trees xs)) c.deref-in-Call.ensures.value)
+    ∙ sym (call_part_is known c.expr.inside.span c.in-Call.function (trees c.in-Call.args.items) sound.1)
+    ∙ sym (of_node known c.args.expr.now c.expr.inside.span c.expr.inside.node _ c.expr.view_is c.in-Call.is))
+    c.call_part.ensures
+
+pub evaluate-returns-in_ok-evaluate-in-Minus : goal.evaluate-returns-in_ok-evaluate-in-Minus
+evaluate-returns-in_ok-evaluate-in-Minus g t c =
+    let known = g.C.Cells.known c.args.cells.now in
+    subst (λ part. IfOk c.minus_part.result (λ p. p ≡ part))
+    (ap (turned minus_of) (c.in_ok-evaluate-in-Minus.ensures ∙ ap (part_of known) c.deref-in-Minus.ensures)
+    ∙ sym (minus_part known c.expr.inside.span c.in-Minus.of.value)
+    ∙ sym (of_node known c.args.expr.now c.expr.inside.span c.expr.inside.node _ c.expr.view_is c.in-Minus.is))
+    c.minus_part.ensures
+
+pub evaluate-returns-in_ok-evaluate-in-Percent : goal.evaluate-returns-in_ok-evaluate-in-Percent
+evaluate-returns-in_ok-evaluate-in-Percent g t c =
+    let known = g.C.Cells.known c.args.cells.now in
+    subst (λ part. IfOk c.percent_part.result (λ p. p ≡ part))
+    (ap (turned percent_of) (c.in_ok-evaluate-in-Percent.ensures ∙ ap (part_of known) c.deref-in-Percent.ensures)
+    ∙ sym (percent_part known c.expr.inside.span c.in-Percent.of.value)
+    ∙ sym (of_node known c.args.expr.now c.expr.inside.span c.expr.inside.node _ c.expr.view_is c.in-Percent.is))
+    c.percent_part.ensures
+
+pub evaluate-returns-in_ok-right-in-Infix : goal.evaluate-returns-in_ok-right-in-Infix
+evaluate-returns-in_ok-right-in-Infix g t c =
+    let known = g.C.Cells.known c.args.cells.now in
+    let left = c.in_ok-left-in-Infix.ensures ∙ ap (part_of known) c.deref-in-Infix.ensures in
+    let right = c.in_ok-right-in-Infix.ensures ∙ ap (part_of known) c.deref-in-Infix-2.ensures in
+    subst (λ part. IfOk c.infix_part.result (λ p. p ≡ part))
+    ((λ i. joined c.in-Infix.op (left i) (right i))
+    ∙ sym (infix_part known c.expr.inside.span c.in-Infix.op c.in-Infix.left.value c.in-Infix.right.value)
+    ∙ sym (of_node known c.args.expr.now c.expr.inside.span c.expr.inside.node _ c.expr.view_is c.in-Infix.is))
+    c.infix_part.ensures

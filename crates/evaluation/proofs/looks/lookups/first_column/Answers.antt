@@ -1,0 +1,14 @@
+use Rattle.std.proofs.Common.{◌<◌, ◌++◌, ◌∙◌, ap, length, subst}
+use Rattle.recalculation.specs.Evaluation.{CellGrid}
+use Rattle.recalculation.specs.Looking.{column_cells}
+use Rattle.evaluation.specs.Parts.{IsFullGrid}
+use Rattle.evaluation.proofs.LookRows.{count_keys}
+use Rattle.evaluation.proofs.looks.lookups.first_column.Goals as goal
+
+pub push_column-requires : goal.push_column-requires
+push_column-requires c = subst (λ (g : CellGrid). 0 < g.columns) c.grid.view_is c.grid.invariant.some_columns
+
+pub returns-clause-count : goal.returns-clause-count
+returns-clause-count c =
+    ap length c.in_ok-push_column.ensures ∙ ap (λ bs. length (bs ++ column_cells c.args.grid.now 0)) c.new-keys.ensures.items
+    ∙ count_keys c.args.grid.now (subst IsFullGrid c.grid.view_is c.grid.invariant)

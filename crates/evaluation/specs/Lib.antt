@@ -1,0 +1,5 @@
+pub mod Parts
+pub mod Composed
+pub mod FoundRows
+pub mod Known
+pub mod Picking

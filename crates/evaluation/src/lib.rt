@@ -1,0 +1,24 @@
+//! The value of a formula over those of the cells, and the cells at which it looks.
+#![tactic(auto)]
+
+mod calls;
+mod cells;
+mod choices;
+mod copy;
+mod formula;
+mod literals;
+mod looks;
+mod operators;
+mod part;
+mod reference;
+mod values;
+
+pub use cells::Cells;
+pub use formula::evaluate;
+pub use part::Part;
+pub use reference::Reference;
+
+#[cfg(test)]
+mod looks_tests;
+#[cfg(test)]
+mod tests;

@@ -1,0 +1,70 @@
+// What arguments look at, and their values.
+ghost use Rattle.std.specs.Prelude.{◌≡◌, ◌++◌, IfOk, OnOk, option_map};
+ghost use Rattle.recalculation.specs.Looking.{all_looks, outcomes};
+
+use crate::part::Part;
+use cell_refs::Cell;
+use sheet_model::{Arg, Memory};
+use std::alloc::Global;
+
+/// All that some arguments look at.
+pub(crate) fn all_looks(alloc: Global, args: &[Part]) -> Result<Vec<Cell>, Memory>
+    ensures { IfOk result (λ looks. looks.items ≡ all_looks args.now) }
+{
+    let mut looks = Vec::new(alloc);
+    push_looks(args, &mut looks)?;
+    Ok(looks)
+}
+
+/// A list of the same cells.
+pub(crate) fn copied(alloc: Global, cells: &[Cell]) -> Result<Vec<Cell>, Memory>
+    ensures { IfOk result (λ copies. copies.items ≡ cells.now) }
+{
+    let mut copies = Vec::new(alloc);
+    push_all(cells, &mut copies)?;
+    Ok(copies)
+}
+
+/// Puts all that some arguments look at behind other cells.
+pub(crate) fn push_looks(args: &[Part], to: &mut Vec<Cell>) -> Result<(), Memory>
+    ensures { OnOk result (to.new.items ≡ to.old.items ++ all_looks args.now) }
+{
+    for arg in args {
+        push_all(&arg.looks, to)?;
+    }
+    Ok(())
+}
+
+/// Puts cells behind others.
+pub(crate) fn push_all(cells: &[Cell], to: &mut Vec<Cell>) -> Result<(), Memory>
+    ensures { OnOk result (to.new.items ≡ to.old.items ++ cells.now) }
+{
+    for cell in cells {
+        to.push(*cell)?;
+    }
+    Ok(())
+}
+
+/// The values of some arguments, where all have one.
+pub(crate) fn outcomes(alloc: Global, args: &[Part]) -> Result<Option<Vec<Arg>>, Memory>
+    ensures { IfOk result (λ values. option_map (λ v. v.items) values ≡ outcomes args.now) }
+{
+    let mut values = Vec::new(alloc);
+    for arg in args {
+        let Some(value) = &arg.outcome else {
+            return Ok(None);
+        };
+        values.push(copy(alloc, value)?)?;
+    }
+    Ok(Some(values))
+}
+
+// An equal argument.
+fn copy(alloc: Global, arg: &Arg) -> Result<Arg, Memory>
+    ensures { IfOk result (λ equal. equal ≡ arg.now) }
+{
+    match arg {
+        Arg::One(value) => Ok(Arg::One(value.copy(alloc)?)),
+        Arg::Area(grid) => Ok(Arg::Area(grid.copy(alloc)?)),
+    }
+}

@@ -1,0 +1,95 @@
+// What is known of the values of cells.
+ghost use Rattle.std.specs.Prelude.{◌≡◌, IfOk, length, map, option_map};
+ghost use Rattle.recalculation.specs.Looking.{are_known, known_or_empty};
+ghost use Rattle.recalculation.specs.Evaluation.{values_in};
+ghost use Rattle.evaluation.specs.Composed.{referred};
+ghost use Rattle.evaluation.specs.Known.{known_values};
+ghost use Rattle.sheet_model.specs.declared.grid.Arg.TheVariants.{Area as Elements};
+
+use crate::cells::Cells;
+use crate::reference::Reference;
+use cell_refs::Cell;
+use sheet_model::{Arg, Grid, Memory, Value};
+use std::alloc::Global;
+
+/// Whether the values of all of these cells are known.
+pub(crate) fn all_known<C: Cells>(alloc: Global, cells: &C, of: &[Cell]) -> Result<bool, Memory>
+    ensures { IfOk result (λ known. known ≡ are_known (C.known cells.now) of.now) }
+{
+    for cell in of {
+        if cells.value(alloc, *cell)?.is_none() {
+            return Ok(false);
+        }
+    }
+    Ok(true)
+}
+
+/// The values of these cells, where all are known.
+pub(crate) fn values_of<C: Cells>(
+    alloc: Global,
+    cells: &C,
+    of: &[Cell],
+) -> Result<Option<Vec<Value>>, Memory>
+    ensures { IfOk result (λ found. option_map (λ values. values.items) found ≡ known_values (C.known cells.now) of.now) }
+{
+    let mut values = Vec::new(alloc);
+    for cell in of {
+        let Some(value) = cells.value(alloc, *cell)? else {
+            return Ok(None);
+        };
+        values.push(value)?;
+    }
+    Ok(Some(values))
+}
+
+/// The values of these cells, and Empty where one isn't known.
+pub(crate) fn filled_values<C: Cells>(
+    alloc: Global,
+    cells: &C,
+    of: &[Cell],
+) -> Result<Vec<Value>, Memory>
+    ensures { IfOk result (λ values. values.items ≡ map (known_or_empty (C.known cells.now)) of.now) }
+{
+    let mut values = Vec::new(alloc);
+    for cell in of {
+        values.push(cells.value(alloc, *cell)?.unwrap_or(Value::Empty))?;
+    }
+    Ok(values)
+}
+
+/// The values of a reference, where all are known.
+pub(crate) fn known_grid<C: Cells>(
+    alloc: Global,
+    cells: &C,
+    reference: &Reference,
+) -> Result<Option<Arg>, Memory>
+    ensures { IfOk result (λ found. found ≡ (referred (C.known cells.now) reference.now).outcome) }
+{
+    let Some(values) = values_of(alloc, cells, &reference.cells)? else {
+        return Ok(None);
+    };
+    Ok(Some(in_grid(reference, values)))
+}
+
+/// The values of a reference, and Empty where one isn't known.
+pub(crate) fn filled_grid<C: Cells>(
+    alloc: Global,
+    cells: &C,
+    reference: &Reference,
+) -> Result<Arg, Memory>
+    ensures { IfOk result (λ grid. grid ≡ Elements (values_in (known_or_empty (C.known cells.now)) reference.now)) }
+{
+    let values = filled_values(alloc, cells, &reference.cells)?;
+    Ok(in_grid(reference, values))
+}
+
+// Values in the rows and columns of a reference.
+fn in_grid(reference: &Reference, values: Vec<Value>) -> Arg
+    requires { length values.items ≡ length reference.now.cells }
+    ensures { result ≡ Elements (record { rows = reference.now.rows; columns = reference.now.columns; items = values.items }) }
+{
+    match Grid::new(reference.rows, reference.cols, values) {
+        Some(grid) => Arg::Area(grid),
+        None => unreachable!(),
+    }
+}
