@@ -11,14 +11,15 @@ abbrev pub reaches : Area → Option Formula → Bool
 reaches area None = false
 reaches area (Some g) = within area g.cell
 
--- the same of the area at a place among those of a formula
+-- the same of an area, where there is one
+abbrev pub reaches_some : Option Area → Option Formula → Bool
+reaches_some None g = false
+reaches_some (Some area) g = reaches area g
+
+-- and of the area at a place among those of a formula
 abbrev pub reaches_by : Option Formula → ℕ → Option Formula → Bool
 reaches_by None a g = false
-reaches_by (Some f) a g = in_area (slice_get f.areas.items a)
-  where
-    in_area : Option Area → Bool
-    in_area None = false
-    in_area (Some area) = reaches area g
+reaches_by (Some f) a g = reaches_some (slice_get f.areas.items a) g
 
 -- whether one of the areas of a formula has the cell of another
 abbrev pub refers_to : Option Formula → Option Formula → Bool

@@ -24,6 +24,7 @@ new_one Circular = 0
 pub record IsSound (n : ℕ) (edge : ℕ → ℕ → Bool) (slot : ℕ → ℕ → ℕ → Bool) (marks : List Mark) (cursors : List Cursor) (stack order : List ℕ) : Type 0 where
   -- each formula's references before its cursor have been scanned, and are done
   pub same_length : length cursors ≡ length marks
+  pub in_range : (i : ℕ) → (cursor_at cursors i).place ≤ n
   pub scanned : (i a j : ℕ) → a * n + j < number n (cursor_at cursors i) → slot i a j ≡ true → mark_at marks j ≡ Done
   -- the stack has the open ones, each once, and each refers to the next
   pub opened : (i : ℕ) → mark_at marks i ≡ Open → (p : ℕ) × (p < length stack) × (slice_index_or stack p 0 ≡ i)

@@ -41,10 +41,10 @@ impl CellSet {
         ensures ok { OnOk result (self.new ≡ set.insert self.old cell) }
         ensures err { OnErr result (self.new ≡ self.old) }
     {
-        match self.cells.insert(cell) {
-            Ok(_) => Ok(()),
-            Err(_) => Err(Memory),
-        }
+        let Ok(_) = self.cells.insert(cell) else {
+            return Err(Memory);
+        };
+        Ok(())
     }
 
     /// Whether the set has a cell.

@@ -28,6 +28,7 @@ pub(crate) fn next(
     requires sorted { AreSorted formulas.now }
     requires node { node < length formulas.now }
     requires leaves { length leaves.now ≡ length formulas.now }
+    requires within { from.place ≤ length formulas.now }
     ensures none { IfNone result ((a j : ℕ) → number (length formulas.now) from ≤ a * length formulas.now + j
         → slot formulas.now leaves.now node a j ≡ false) }
     ensures slot { IfSome result (λ c. slot formulas.now leaves.now node c.area c.place ≡ true) }
@@ -86,7 +87,7 @@ fn first_not_before(formulas: &[Formula], from: usize, cell: Cell) -> usize
     let mut high = formulas.len();
     while low < high {
         let middle = low + (high - low) / 2;
-        if formulas[middle].cell < cell {
+        if formulas[middle].cell.cmp(&cell).is_lt() {
             low = middle + 1;
         } else {
             high = middle;
