@@ -6,3 +6,5 @@ pub mod Sets
 pub mod Searching
 pub mod SlotLaws
 pub mod Following
+pub mod Tables
+pub mod CircularLaws

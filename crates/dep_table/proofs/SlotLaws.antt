@@ -104,6 +104,16 @@ module _ (formulas : List Formula) (leaves : List Bool) where
       ( one.0
       , both _ _ (first_true _ _ h) (ap (λ o. reaches_by o one.0 (slice_get formulas j)) f.1 ∙ ap (λ o. reaches_some o (slice_get formulas j)) one.2 ∙ one.3))
 
+  -- a reference leads to a formula
+  pub edge_target : (i j : ℕ) → edge formulas leaves i j ≡ true → (g : Formula) × (slice_get formulas j ≡ Some g)
+  unfolding edge
+  edge_target i j h =
+      let f = referring_there (slice_get formulas i) (slice_get formulas j) (second_true _ _ h) in
+      let one = one_passes (λ x. reaches x (slice_get formulas j)) f.0.areas.items
+            (sym (same_formula (slice_get formulas i) f.0 (slice_get formulas j) f.1) ∙ second_true _ _ h) in
+      target_there one.1 (slice_get formulas j) one.3
+
+  -- each is counted
   pub slot_number : (i a j : ℕ) (f : Formula) → slice_get formulas i ≡ Some f → a < length f.areas.items → j < length formulas
       → a * length formulas + j < most_slots formulas
   unfolding most_slots
