@@ -12,7 +12,7 @@ use Rattle.recalculation.specs.Entries.{Book, Entry, Constant, Formula as Formul
 use Rattle.recalculation.specs.Walks.{has_walk, is_formula, refers, steps_to, is_circular}
 use Rattle.recalculation.proofs.Circles.{and_false, circular_is_endless, formula_text, found_text}
 use Rattle.recalculation.proofs.Lists.{both, first_true, second_true}
-use Rattle.recalculation.proofs.Walking.{below_walk, none_any}
+use Rattle.recalculation.proofs.Walking.{no_longer, none_any}
 use Rattle.dep_table.specs.declared.formulas.Formula.{Formula}
 use Rattle.dep_table.specs.declared.tour.Mark.{Mark}
 use Rattle.dep_table.specs.declared.tour.Mark.TheVariants.{New, Open, Done, Circular}
@@ -33,17 +33,19 @@ formula_or_not (Some (FormulaEntry t)) = inl refl
 formula_or_not (Some Malformed) = inr (λ b. refl)
 
 -- where there is no walk there is no longer one
+none_added : (book : Book) (is_leaf : Cell → Bool) (k j : ℕ) (a : Cell) → has_walk (keys book.texts) (steps_to book is_leaf) k a ≡ false
+    → has_walk (keys book.texts) (steps_to book is_leaf) (j + k) a ≡ false
+none_added book is_leaf k zero a none = let e : zero + k ≡ k = omega arith in ap (λ m. has_walk (keys book.texts) (steps_to book is_leaf) m a) e ∙ none
+none_added book is_leaf k (suc j) a none =
+    let e : suc j + k ≡ suc (j + k) = omega arith in
+    ap (λ m. has_walk (keys book.texts) (steps_to book is_leaf) m a) e
+    ∙ no_longer (keys book.texts) (steps_to book is_leaf) (j + k) a (none_added book is_leaf k j a none)
+
 longer_none : (book : Book) (is_leaf : Cell → Bool) (k n : ℕ) (a : Cell) → has_walk (keys book.texts) (steps_to book is_leaf) k a ≡ false → k ≤ n
     → has_walk (keys book.texts) (steps_to book is_leaf) n a ≡ false
 longer_none book is_leaf k n a none h =
-    elim (has_walk (keys book.texts) (steps_to book is_leaf) n a) as (λ w. has_walk (keys book.texts) (steps_to book is_leaf) n a ≡ w → w ≡ false) [
-      | true ↦ λ w.
-          let e : (n - k) + k ≡ n = omega arith in
-          let walk : has_walk (keys book.texts) (steps_to book is_leaf) k a ≡ true =
-          below_walk (keys book.texts) (steps_to book is_leaf) (n - k) k a (ap (λ m. has_walk (keys book.texts) (steps_to book is_leaf) m a) e ∙ w) in
-          cc (walk, none)
-      | false ↦ λ w. refl
-    ] refl
+    let e : n ≡ (n - k) + k = omega arith in
+    ap (λ m. has_walk (keys book.texts) (steps_to book is_leaf) m a) e ∙ none_added book is_leaf k (n - k) a none
 
 module _ (formulas : List Formula) (book : Book) (is_leaf : Cell → Bool) (flags : List Bool) (r : IsTableOf formulas book) (leaves : AreFlags formulas is_leaf flags) where
   edge_steps : (i j : ℕ) (f g : Formula) → slice_get formulas i ≡ Some f → slice_get formulas j ≡ Some g → edge formulas flags i j ≡ steps_to book is_leaf f.cell g.cell

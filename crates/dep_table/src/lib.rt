@@ -3,10 +3,16 @@
 #![tactic(auto)]
 
 mod cells;
+mod deps;
 mod find;
 mod formulas;
+mod open;
 mod reach;
 mod tour;
 
 pub use cells::CellSet;
+pub use deps::{Deps, Tour};
 pub use sheet_model::Memory;
+
+#[cfg(test)]
+mod tests;
