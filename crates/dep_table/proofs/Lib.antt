@@ -8,3 +8,4 @@ pub mod SlotLaws
 pub mod Following
 pub mod Tables
 pub mod CircularLaws
+pub mod OpenLaws
