@@ -20,11 +20,7 @@ use Rattle.dep_table.specs.Edges.{edge, refers_to}
 use Rattle.dep_table.specs.Order.{IsOrder}
 use Rattle.dep_table.specs.Tour.{mark_at, IsToured}
 use Rattle.dep_table.proofs.SlotLaws.{edge_target}
-use Rattle.dep_table.proofs.Tables.{IsTableOf}
-
--- the flags say which formulas are leaves
-abbrev pub AreFlags : List Formula → (Cell → Bool) → List Bool → Type 0
-AreFlags formulas is_leaf flags = (i : ℕ) (f : Formula) → slice_get formulas i ≡ Some f → get_or flags i false ≡ is_leaf f.cell
+use Rattle.dep_table.proofs.Tables.{AreFlags, IsTableOf}
 
 formula_or_not : (e : Option Entry) → (is_formula e ≡ true) ⊎ ((b : Cell) → refers e b ≡ false)
 formula_or_not None = inr (λ b. refl)

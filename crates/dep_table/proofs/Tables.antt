@@ -1,13 +1,13 @@
 -- A list of formulas as those of a workbook.
-use Rattle.std.proofs.Common.{◌≡◌, ◌≢◌, ℕ, zero, suc, ◌<◌, Bool, true, false, cond, List, [], ◌∷◌, map, refl, sym, ap, ◌∙◌, ◌⊎◌, inl, inr}
-use Rattle.std.specs.Prelude.{Option, None, Some, slice_get}
+use Rattle.std.proofs.Common.{◌≡◌, ◌≢◌, ℕ, zero, suc, ◌<◌, Bool, true, false, cond, List, [], ◌∷◌, get_or, map, refl, sym, ap, ◌∙◌, ◌⊎◌, inl, inr}
+use Rattle.std.specs.Prelude.{Option, None, Some, option_map, slice_get}
 use Rattle.std.specs.Cmp.{tied_itself}
 use Rattle.std.specs.FinMap.{find, get, get-from_entries}
 use Rattle.std.specs.Ordering.{eq_by_cmp, is_eq}
 use Rattle.std.specs.declared.cmp.Ordering.{Ordering}
 use Rattle.std.specs.declared.cmp.Ordering.TheVariants.{Less, Equal, Greater}
 use Rattle.std.proofs.lemmas.Bool.{cases_order}
-use Rattle.std.proofs.lemmas.Option.{same_Some}
+use Rattle.std.proofs.lemmas.Option.{get_or_from_slice_get, same_Some, slice_get-map}
 use Rattle.cell_refs.specs.declared.cell.Area.{Area}
 use Rattle.cell_refs.specs.declared.cell.Cell.{Cell}
 use Rattle.cell_refs.specs.Cells.{cell_cmp}
@@ -97,3 +97,14 @@ table_of formulas book sorted refs =
           (g.0, g.1, g.2, g.3);
       one = one_place formulas sorted;
     }
+
+-- the flags say which formulas are leaves
+abbrev pub AreFlags : List Formula → (Cell → Bool) → List Bool → Type 0
+AreFlags formulas is_leaf flags = (i : ℕ) (f : Formula) → slice_get formulas i ≡ Some f → get_or flags i false ≡ is_leaf f.cell
+
+pub are_flags : (formulas : List Formula) (is_leaf : Cell → Bool) (flags : List Bool) → flags ≡ map (λ (f : Formula). is_leaf f.cell) formulas
+    → AreFlags formulas is_leaf flags
+are_flags formulas is_leaf flags same i f at =
+    ap (λ xs. get_or xs i false) same
+    ∙ get_or_from_slice_get (map (λ (f : Formula). is_leaf f.cell) formulas) i (is_leaf f.cell) false
+    (slice_get-map (λ (f : Formula). is_leaf f.cell) formulas i ∙ ap (option_map (λ (f : Formula). is_leaf f.cell)) at)
