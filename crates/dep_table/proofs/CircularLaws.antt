@@ -1,21 +1,19 @@
 -- After a tour, the circular formulas are those at which a walk of as many steps as there are texts starts.
-use Rattle.std.proofs.Common.{◌≡◌, ℕ, zero, suc, ◌+◌, ◌-◌, ◌<◌, ◌≤◌, Bool, true, false, ◌&&◌, List, length, get_or, refl, sym, ap, ◌∙◌, arith, ◌⊎◌, inl, inr, vec_len}
-use Rattle.std.specs.Prelude.{not, Option, None, Some, is_some, option_map, slice_get}
+use Rattle.std.proofs.Common.{◌≡◌, ℕ, zero, suc, ◌+◌, ◌-◌, ◌<◌, ◌≤◌, Bool, true, false, ◌&&◌, List, length, get_or, refl, sym, ap, ◌∙◌, arith, ◌⊎◌, inl, inr}
+use Rattle.std.specs.Prelude.{not, Option, None, Some, option_map, slice_get}
 use Rattle.std.specs.List.{list_any}
 use Rattle.std.specs.FinMap.{keys, contains_key}
 use Rattle.std.proofs.lemmas.Option.{slice_get_within}
 use Rattle.cell_refs.specs.declared.cell.Cell.{Cell}
 use Rattle.cell_refs.specs.Areas.{within}
-use Rattle.formula_ast.specs.Measures.{references_of}
-use Rattle.formula_ast.specs.Tree.{Tree}
 use Rattle.recalculation.specs.Entries.{Book, Entry, Constant, Formula as FormulaEntry, Malformed, entry}
 use Rattle.recalculation.specs.Walks.{has_walk, is_formula, refers, steps_to, is_circular}
 use Rattle.recalculation.proofs.Circles.{and_false, circular_is_endless, formula_text, found_text}
-use Rattle.recalculation.proofs.Lists.{both, first_true, second_true}
+use Rattle.recalculation.proofs.Lists.{both, first_true}
 use Rattle.recalculation.proofs.Walking.{no_longer, none_any}
 use Rattle.dep_table.specs.declared.formulas.Formula.{Formula}
 use Rattle.dep_table.specs.declared.tour.Mark.{Mark}
-use Rattle.dep_table.specs.declared.tour.Mark.TheVariants.{New, Open, Done, Circular}
+use Rattle.dep_table.specs.declared.tour.Mark.TheVariants.{Circular}
 use Rattle.dep_table.specs.Edges.{edge, refers_to}
 use Rattle.dep_table.specs.Order.{IsOrder}
 use Rattle.dep_table.specs.Tour.{mark_at, IsToured}
@@ -74,20 +72,20 @@ module _ (formulas : List Formula) (book : Book) (is_leaf : Cell → Bool) (flag
     done_walks zero p f h l x = absurd (omega arith)
     done_walks (suc m) p f h l x =
         none_any (λ b. steps_to book is_leaf f.cell b && has_walk (keys book.texts) (steps_to book is_leaf) (suc p) b) (λ b.
-          elim (steps_to book is_leaf f.cell b) as (λ s. steps_to book is_leaf f.cell b ≡ s → (s && has_walk (keys book.texts) (steps_to book is_leaf) (suc p) b) ≡ false) [
-            | true ↦ λ s. elim (formula_or_not (entry book b)) as (λ _. has_walk (keys book.texts) (steps_to book is_leaf) (suc p) b ≡ false) [
-              | inl w ↦
-                  let j = r.found b w in
-                  let before = (t.ordered p l).1 j.0 (edge_steps (get_or order p 0) j.0 f j.1 x j.2 ∙ ap (steps_to book is_leaf f.cell) j.3 ∙ s) in
-                  longer_none book is_leaf (suc (suc before.0)) (suc p) b
-                  (ap (has_walk (keys book.texts) (steps_to book is_leaf) (suc (suc before.0))) (sym j.3)
-                    ∙ done_walks m before.0 j.1 (omega (arith, before.1)) (omega (arith, before.1, l)) (ap (slice_get formulas) before.2 ∙ j.2)) (omega (arith, before.1))
-              | inr none ↦ none_any (λ y. steps_to book is_leaf b y && has_walk (keys book.texts) (steps_to book is_leaf) p y) (λ y.
-                  let e : steps_to book is_leaf b y ≡ false = and_false (not (is_leaf b)) _ (none y) in
-                  ap (λ s. s && has_walk (keys book.texts) (steps_to book is_leaf) p y) e) (keys book.texts)
-            ]
-            | false ↦ λ s. refl
-          ] refl) (keys book.texts)
+        elim (steps_to book is_leaf f.cell b) as (λ s. steps_to book is_leaf f.cell b ≡ s → (s && has_walk (keys book.texts) (steps_to book is_leaf) (suc p) b) ≡ false) [
+          | true ↦ λ s. elim (formula_or_not (entry book b)) as (λ _. has_walk (keys book.texts) (steps_to book is_leaf) (suc p) b ≡ false) [
+            | inl w ↦
+                let j = r.found b w in
+                let before = (t.ordered p l).1 j.0 (edge_steps (get_or order p 0) j.0 f j.1 x j.2 ∙ ap (steps_to book is_leaf f.cell) j.3 ∙ s) in
+                longer_none book is_leaf (suc (suc before.0)) (suc p) b
+                (ap (has_walk (keys book.texts) (steps_to book is_leaf) (suc (suc before.0))) (sym j.3)
+                ∙ done_walks m before.0 j.1 (omega (arith, before.1)) (omega (arith, before.1, l)) (ap (slice_get formulas) before.2 ∙ j.2)) (omega (arith, before.1))
+            | inr none ↦ none_any (λ y. steps_to book is_leaf b y && has_walk (keys book.texts) (steps_to book is_leaf) p y) (λ y.
+                let e : steps_to book is_leaf b y ≡ false = and_false (not (is_leaf b)) _ (none y) in
+                ap (λ s. s && has_walk (keys book.texts) (steps_to book is_leaf) p y) e) (keys book.texts)
+          ]
+          | false ↦ λ s. refl
+        ] refl) (keys book.texts)
 
     marked_circular : (i : ℕ) (f : Formula) → slice_get formulas i ≡ Some f → mark_at marks i ≡ Circular → is_circular book is_leaf f.cell ≡ true
     unfolding edge
@@ -133,10 +131,10 @@ same_answer formulas flags marks order is_leaf has leaves t sound complete book 
     both_ways (has a) (is_circular book is_leaf a)
     (λ h. let at = sound a h in ap (is_circular book is_leaf) (sym at.3) ∙ marked_circular formulas book is_leaf flags r leaves (length formulas) marks order t at.0 at.1 at.2 at.4)
     (λ h.
-      let at = r.found a (first_true _ _ h) in
-      let circular : is_circular book is_leaf at.1.cell ≡ true = ap (is_circular book is_leaf) at.3 ∙ h in
-      ap has (sym at.3) ∙ complete at.0 at.1 at.2
-      (circular_marked formulas book is_leaf flags r leaves (length formulas) marks order t at.0 at.1 (slice_get_within formulas at.0 at.1 at.2) at.2 circular))
+    let at = r.found a (first_true _ _ h) in
+    let circular : is_circular book is_leaf at.1.cell ≡ true = ap (is_circular book is_leaf) at.3 ∙ h in
+    ap has (sym at.3) ∙ complete at.0 at.1 at.2
+    (circular_marked formulas book is_leaf flags r leaves (length formulas) marks order t at.0 at.1 (slice_get_within formulas at.0 at.1 at.2) at.2 circular))
 
 cell_there : (o : Option Formula) (a : Cell) → option_map (λ (f : Formula). f.cell) o ≡ Some a → (f : Formula) × (o ≡ Some f) × (f.cell ≡ a)
 cell_there None a h = cc
@@ -149,9 +147,9 @@ pub cells_ordered : (formulas : List Formula) (flags : List Bool) (marks : List 
     → (book : Book) → IsTableOf formulas book → IsOrder book is_leaf cells
 cells_ordered formulas flags marks order cells is_leaf leaves t same at book r =
     let place : (p : ℕ) (a : Cell) → slice_get cells p ≡ Some a → (p < length order) × (f : Formula) × (slice_get formulas (get_or order p 0) ≡ Some f) × (f.cell ≡ a)
-          = λ p a x. let l : p < length order = omega (arith, slice_get_within cells p a x, same) in let f = cell_there _ a (sym (at p l) ∙ x) in (l, f.0, f.1, f.2) in
+    = λ p a x. let l : p < length order = omega (arith, slice_get_within cells p a x, same) in let f = cell_there _ a (sym (at p l) ∙ x) in (l, f.0, f.1, f.2) in
     let stands : (p i : ℕ) (f : Formula) → p < length order → get_or order p 0 ≡ i → slice_get formulas i ≡ Some f → slice_get cells p ≡ Some f.cell
-          = λ p i f l e x. at p l ∙ ap (λ j. option_map (λ (f : Formula). f.cell) (slice_get formulas j)) e ∙ ap (option_map (λ (f : Formula). f.cell)) x in
+    = λ p i f l e x. at p l ∙ ap (λ j. option_map (λ (f : Formula). f.cell) (slice_get formulas j)) e ∙ ap (option_map (λ (f : Formula). f.cell)) x in
     record {
       formula = λ p a x. let y = place p a x in ap (λ b. is_formula (entry book b)) (sym y.3) ∙ ap is_formula (r.formula _ y.1 y.2).1;
       free = λ p a x. let y = place p a x in ap (is_circular book is_leaf) (sym y.3) ∙ ordered_free formulas book is_leaf flags r leaves (length formulas) marks order t p y.1 y.0 y.2;
@@ -167,7 +165,7 @@ cells_ordered formulas flags marks order cells is_leaf leaves t same at book r =
             | inl done_now ↦ let p = t.done i.0 done_now in (p.0, stands p.0 i.0 i.1 p.1 p.2 i.2 ∙ ap Some i.3)
             | inr m ↦
                 let h : is_circular book is_leaf a ≡ true
-                      = ap (is_circular book is_leaf) (sym i.3) ∙ marked_circular formulas book is_leaf flags r leaves (length formulas) marks order t i.0 i.1 i.2 m in
+                = ap (is_circular book is_leaf) (sym i.3) ∙ marked_circular formulas book is_leaf flags r leaves (length formulas) marks order t i.0 i.1 i.2 m in
                 cc (h, free)
           ];
       once = λ p q a x y.

@@ -1,5 +1,5 @@
 -- Following the references of a formula, area by area.
-use Rattle.std.proofs.Common.{◌≡◌, ℕ, ◌+◌, ◌-◌, ◌*◌, ◌<◌, ◌≤◌, Bool, true, false, List, length, get_or, refl, sym, ap, ◌∙◌, arith, ◌⊎◌, inl, inr}
+use Rattle.std.proofs.Common.{◌≡◌, ℕ, ◌+◌, ◌-◌, ◌*◌, ◌<◌, ◌≤◌, Bool, true, false, List, length, get_or, refl, sym, ap, ◌∙◌, arith, inl, inr}
 use Rattle.std.specs.Prelude.{Some, slice_get}
 use Rattle.std.proofs.lemmas.Bool.{cases_lt, cases_order}
 use Rattle.std.proofs.lemmas.Option.{slice_get-get_or}
@@ -10,7 +10,7 @@ use Rattle.dep_table.proofs.Numbers.{earlier_area}
 use Rattle.dep_table.proofs.SlotLaws.{slot_area, slot_is, slot_place}
 
 module _ (formulas : List Formula) (leaves : List Bool) (i : ℕ) (f : Formula) (rooted : get_or leaves i false ≡ false) (at : slice_get formulas i ≡ Some f)
-  (areas : List Area) (same : areas ≡ f.areas.items) where
+    (areas : List Area) (same : areas ≡ f.areas.items) where
   -- a reference by the area that is next
   pub stands : (a : ℕ) (d : Area) → a < length areas → (j : ℕ) → slot formulas leaves i a j ≡ reaches (get_or areas a d) (slice_get formulas j)
   stands a d l j =

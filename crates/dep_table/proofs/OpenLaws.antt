@@ -1,8 +1,8 @@
 -- Formulas gathered cell by cell.
-use Rattle.std.proofs.Common.{◌≡◌, ◌≢◌, ℕ, zero, suc, ◌+◌, ◌<◌, ◌≤◌, Bool, true, false, ◌&&◌, cond, List, [], ◌∷◌, ◌++◌, length, map, refl, sym, ap, subst, ◌∙◌, arith, ◌⊎◌, inl, inr}
+use Rattle.std.proofs.Common.{◌≡◌, ℕ, zero, suc, ◌+◌, ◌<◌, ◌≤◌, Bool, true, false, ◌&&◌, cond, List, [], ◌∷◌, ◌++◌, length, map, refl, sym, ap, subst, ◌∙◌, arith, ◌⊎◌, inl, inr}
 use Rattle.std.specs.Prelude.{not, Option, None, Some, is_some, option_map, slice_get, ◌||◌}
 use Rattle.std.specs.Cmp.{tied_itself}
-use Rattle.std.specs.FinMap.{contains_key, find, get, get-from_entries, keys}
+use Rattle.std.specs.FinMap.{contains_key, find, get-from_entries, keys}
 use Rattle.std.specs.FinMap.Entries.{find-append}
 use Rattle.std.specs.List.{list_any}
 use Rattle.std.specs.Ordering.{eq_by_cmp, is_eq, is_lt, ordering_reverse}
@@ -13,13 +13,12 @@ use Rattle.cell_refs.specs.declared.cell.Area.{Area}
 use Rattle.cell_refs.specs.declared.cell.Cell.{Cell}
 use Rattle.cell_refs.specs.Cells.{cell_cmp}
 use Rattle.cell_refs.proofs.Order.{cells_total, exact_cells}
-use Rattle.recalculation.specs.Entries.{Book, Contents, Entry, Constant, Formula as FormulaEntry, Malformed, entry}
+use Rattle.recalculation.specs.Entries.{Book, Entry, entry}
 use Rattle.recalculation.proofs.Circles.{entry_there, found_text}
 use Rattle.workbook.specs.Contents.{IsLast, IsNext, IsPast}
 use Rattle.dep_table.specs.declared.formulas.Formula.{Formula}
 use Rattle.dep_table.specs.Formulas.{AreSorted, pair_of, references_in, with_areas}
 use Rattle.dep_table.specs.References.{AreReferencesOf, areas_said}
-use Rattle.dep_table.proofs.Searching.{not_both, not_itself}
 
 abbrev pub Pairs : Type 0
 Pairs = List (Cell × List Area)
@@ -228,4 +227,4 @@ pub fewer_left : (book : Book) (after : Option Cell) (cell : Cell) → IsNext bo
 fewer_left book after cell next =
     fewer (is_past after) (is_past (Some cell)) (λ x h. still_past after cell x next.past h) (keys book.texts)
     (found_text book cell (λ x. is_past after x && not (is_past (Some cell) x)) next.text
-      (both (is_past after cell) _ (is_behind after cell next.past) (ap (λ o. not (is_lt o)) (tied_itself cells_total cell))))
+    (both (is_past after cell) _ (is_behind after cell next.past) (ap (λ o. not (is_lt o)) (tied_itself cells_total cell))))

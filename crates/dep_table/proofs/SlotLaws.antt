@@ -1,12 +1,11 @@
 -- The references of a formula, by their areas and places.
-use Rattle.std.proofs.Common.{◌≡◌, ℕ, zero, suc, ◌+◌, ◌*◌, ◌<◌, ◌≤◌, Bool, true, false, ◌&&◌, List, [], ◌∷◌, length, get_or, refl, sym, ap, subst, ◌∙◌, arith}
+use Rattle.std.proofs.Common.{◌≡◌, ℕ, zero, suc, ◌+◌, ◌*◌, ◌<◌, ◌≤◌, Bool, true, false, ◌&&◌, List, [], ◌∷◌, length, get_or, refl, sym, ap, ◌∙◌, arith}
 use Rattle.std.specs.Prelude.{not, ◌||◌, Option, None, Some, slice_get, sum_by}
 use Rattle.std.specs.List.{list_any}
 use Rattle.std.proofs.lemmas.List.Sums.{get_or-le-sum_by}
 use Rattle.std.proofs.lemmas.Nat.{mul-add-lt}
 use Rattle.std.proofs.lemmas.Option.{get_or_from_slice_get, slice_get_within}
 use Rattle.cell_refs.specs.declared.cell.Area.{Area}
-use Rattle.cell_refs.specs.Areas.{within}
 use Rattle.dep_table.specs.declared.formulas.Formula.{Formula}
 use Rattle.dep_table.specs.Edges.{edge, most_slots, reaches, reaches_by, reaches_some, refers_to, slot}
 
@@ -93,16 +92,17 @@ module _ (formulas : List Formula) (leaves : List Bool) where
       let area = area_there (slice_get f.0.areas.items a) (slice_get formulas j) f.2 in
       both _ _ (first_true _ _ h)
       (same_formula (slice_get formulas i) f.0 (slice_get formulas j) f.1
-        ∙ passes_one (λ x. reaches x (slice_get formulas j)) f.0.areas.items a area.0 area.1 area.2)
+      ∙ passes_one (λ x. reaches x (slice_get formulas j)) f.0.areas.items a area.0 area.1 area.2)
 
   pub edge_slot : (i j : ℕ) → edge formulas leaves i j ≡ true → (a : ℕ) × (slot formulas leaves i a j ≡ true)
   unfolding slot edge
   edge_slot i j h =
       let f = referring_there (slice_get formulas i) (slice_get formulas j) (second_true _ _ h) in
       let one = one_passes (λ x. reaches x (slice_get formulas j)) f.0.areas.items
-            (sym (same_formula (slice_get formulas i) f.0 (slice_get formulas j) f.1) ∙ second_true _ _ h) in
-      ( one.0
-      , both _ _ (first_true _ _ h) (ap (λ o. reaches_by o one.0 (slice_get formulas j)) f.1 ∙ ap (λ o. reaches_some o (slice_get formulas j)) one.2 ∙ one.3))
+      (sym (same_formula (slice_get formulas i) f.0 (slice_get formulas j) f.1) ∙ second_true _ _ h) in (
+        one.0,
+        both _ _ (first_true _ _ h) (ap (λ o. reaches_by o one.0 (slice_get formulas j)) f.1 ∙ ap (λ o. reaches_some o (slice_get formulas j)) one.2 ∙ one.3),
+      )
 
   -- a reference leads to a formula
   pub edge_target : (i j : ℕ) → edge formulas leaves i j ≡ true → (g : Formula) × (slice_get formulas j ≡ Some g)
@@ -110,7 +110,7 @@ module _ (formulas : List Formula) (leaves : List Bool) where
   edge_target i j h =
       let f = referring_there (slice_get formulas i) (slice_get formulas j) (second_true _ _ h) in
       let one = one_passes (λ x. reaches x (slice_get formulas j)) f.0.areas.items
-            (sym (same_formula (slice_get formulas i) f.0 (slice_get formulas j) f.1) ∙ second_true _ _ h) in
+      (sym (same_formula (slice_get formulas i) f.0 (slice_get formulas j) f.1) ∙ second_true _ _ h) in
       target_there one.1 (slice_get formulas j) one.3
 
   -- each is counted
@@ -119,9 +119,9 @@ module _ (formulas : List Formula) (leaves : List Bool) where
   unfolding most_slots
   slot_number i a j f at h l =
       let each : length (get_or formulas i f).areas.items ≤ sum_by (λ (x : Formula). length x.areas.items) formulas
-            = get_or-le-sum_by (λ (x : Formula). length x.areas.items) formulas i f (slice_get_within formulas i f at) in
+      = get_or-le-sum_by (λ (x : Formula). length x.areas.items) formulas i f (slice_get_within formulas i f at) in
       let same : length (get_or formulas i f).areas.items ≡ length f.areas.items
-            = ap (λ (x : Formula). length x.areas.items) (get_or_from_slice_get formulas i f f at) in
+      = ap (λ (x : Formula). length x.areas.items) (get_or_from_slice_get formulas i f f at) in
       let few : a < sum_by (λ (x : Formula). length x.areas.items) formulas = omega (arith, each, same, h) in
       let row = mul-add-lt a (length formulas) j (sum_by (λ (x : Formula). length x.areas.items) formulas) few l in
       omega (arith, row)

@@ -1,5 +1,5 @@
 -- The steps of a tour as the code takes them, at the last of a stack.
-use Rattle.std.proofs.Common.{◌≡◌, ◌≢◌, ℕ, zero, suc, ◌+◌, ◌-◌, ◌*◌, ◌<◌, ◌≤◌, Bool, true, false, List, [], ◌∷◌, ◌++◌, length, get_or, set, take, refl, sym, ap, subst, ◌∙◌, arith, ◌⊎◌, inl, inr}
+use Rattle.std.proofs.Common.{◌≡◌, ℕ, suc, ◌+◌, ◌-◌, ◌*◌, ◌<◌, ◌≤◌, Bool, true, false, List, [], ◌∷◌, ◌++◌, length, get_or, set, take, sym, ap, subst, ◌∙◌, arith, ◌⊎◌}
 use Rattle.std.proofs.Math.Seq.{take-suc}
 use Rattle.std.proofs.lemmas.List.{get_or_default, take_all}
 use Rattle.dep_table.specs.declared.find.Cursor.{Cursor}
@@ -15,8 +15,8 @@ split_last stack h =
     sym (take_all (length stack) stack (omega arith)) ∙ ap (λ k. take k stack) (sym e) ∙ take-suc stack (length stack - 1) 0 (omega arith)
 
 module _ (n most : ℕ) (edge : ℕ → ℕ → Bool) (slot : ℕ → ℕ → ℕ → Bool) (marks : List Mark) (cursors : List Cursor) (stack order : List ℕ) (i : ℕ)
-  (s : IsSound n edge slot marks cursors stack order)
-  (l m : ℕ) (is : l ≡ m) (len : m ≡ length stack) (some : 0 < m) (last : i ≡ get_or stack (l - 1) i) where
+    (s : IsSound n edge slot marks cursors stack order)
+    (l m : ℕ) (is : l ≡ m) (len : m ≡ length stack) (some : 0 < m) (last : i ≡ get_or stack (l - 1) i) where
   top_is : get_or stack (length stack - 1) 0 ≡ i
   top_is = get_or_default stack (length stack - 1) 0 i (omega arith) ∙ ap (λ k. get_or stack (k - 1) i) (sym (is ∙ len)) ∙ sym last
 

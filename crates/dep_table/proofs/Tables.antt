@@ -1,8 +1,8 @@
 -- A list of formulas as those of a workbook.
-use Rattle.std.proofs.Common.{◌≡◌, ◌≢◌, ℕ, zero, suc, ◌<◌, Bool, true, false, cond, List, [], ◌∷◌, get_or, map, refl, sym, ap, ◌∙◌, ◌⊎◌, inl, inr}
+use Rattle.std.proofs.Common.{◌≡◌, ℕ, zero, suc, Bool, true, false, cond, List, [], ◌∷◌, get_or, map, refl, sym, ap, ◌∙◌, inl, inr}
 use Rattle.std.specs.Prelude.{Option, None, Some, option_map, slice_get}
 use Rattle.std.specs.Cmp.{tied_itself}
-use Rattle.std.specs.FinMap.{find, get, get-from_entries}
+use Rattle.std.specs.FinMap.{find, get-from_entries}
 use Rattle.std.specs.Ordering.{eq_by_cmp, is_eq}
 use Rattle.std.specs.declared.cmp.Ordering.{Ordering}
 use Rattle.std.specs.declared.cmp.Ordering.TheVariants.{Less, Equal, Greater}
@@ -38,7 +38,7 @@ found_at : (formulas : List Formula) (q : Cell) (v : List Area) → find cell_cm
 found_at [] q v h = cc
 found_at (x ∷ formulas) q v h =
     elim (eq_by_cmp cell_cmp q x.cell) as (λ t. eq_by_cmp cell_cmp q x.cell ≡ t → cond t (Some x.areas.items) (find cell_cmp q (map pair_of formulas)) ≡ Some v
-      → (i : ℕ) × (f : Formula) × (slice_get (x ∷ formulas) i ≡ Some f) × (f.cell ≡ q) × (f.areas.items ≡ v)) [
+    → (i : ℕ) × (f : Formula) × (slice_get (x ∷ formulas) i ≡ Some f) × (f.cell ≡ q) × (f.areas.items ≡ v)) [
       | true ↦ λ e h. (0, x, refl, sym (exact_cells q x.cell (is_equal _ e)), same_Some x.areas.items v h)
       | false ↦ λ e h. let r = found_at formulas q v h in (suc r.0, r.1, r.2, r.3, r.4)
     ] refl h

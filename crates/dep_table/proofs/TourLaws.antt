@@ -10,7 +10,7 @@ use Rattle.dep_table.specs.declared.tour.Mark.TheVariants.{New, Open, Done, Circ
 use Rattle.dep_table.specs.Edges.{number}
 use Rattle.dep_table.specs.Tour.{cursor_at, mark_at, new_one, start, IsSound, closed, work}
 use Rattle.dep_table.proofs.Numbers.{same_place}
-use Rattle.dep_table.proofs.Places.{same_or_not, set_cases, push_cases}
+use Rattle.dep_table.proofs.Places.{set_cases, push_cases}
 
 module _ (n : ℕ) (edge : ℕ → ℕ → Bool) (slot : ℕ → ℕ → ℕ → Bool) where
   -- the cursor goes past a reference that is done
@@ -65,7 +65,7 @@ module _ (n : ℕ) (edge : ℕ → ℕ → Bool) (slot : ℕ → ℕ → ℕ →
       let len = length-set marks i Done in
       let below : (p : ℕ) → p < length rest → get_or (rest ++ i ∷ []) p 0 ≡ get_or rest p 0 = λ p h. get_or_append_left rest (i ∷ []) 0 p h in
       let stays : (k : ℕ) → mark_at marks k ≡ Done → mark_at (set marks i Done) k ≡ Done
-            = λ k h. elim (set_cases marks i Done New k within) as (λ _. mark_at (set marks i Done) k ≡ Done) [ inl w ↦ w.1 | inr w ↦ w.1 ∙ h ] in
+      = λ k h. elim (set_cases marks i Done New k within) as (λ _. mark_at (set marks i Done) k ≡ Done) [ inl w ↦ w.1 | inr w ↦ w.1 ∙ h ] in
       let grown : (q : ℕ) → q < length order → get_or (order ++ i ∷ []) q 0 ≡ get_or order q 0 = λ q h. get_or_append_left order (i ∷ []) 0 q h in
       let not_ordered : (p : ℕ) → p < length order → get_or order p 0 ≢ i = λ p h e. let old = s.finished p h in let m = ap (mark_at marks) e in cc in
       record {
@@ -106,18 +106,20 @@ module _ (n : ℕ) (edge : ℕ → ℕ → Bool) (slot : ℕ → ℕ → ℕ →
         ];
         ordered = λ p h. elim (push_cases order i 0 p h) as (λ _. (get_or (order ++ i ∷ []) p 0 < length (set marks i Done)) × ((j : ℕ) → edge (get_or (order ++ i ∷ []) p 0) j ≡ true → (q : ℕ) × (q < p) × (get_or (order ++ i ∷ []) q 0 ≡ j))) [
           | inl w ↦
-              let old = s.ordered p w.0 in
-              ( omega (arith, old.0, w.1)
-              , λ j e. let at = old.1 j (ap (λ x. edge x j) (sym w.1) ∙ e) in (at.0, at.1, grown at.0 (omega (arith, at.1, w.0)) ∙ at.2))
-          | inr w ↦
-              ( omega (arith, w.1)
-              , λ j e.
-                  let e' : edge i j ≡ true = ap (λ x. edge x j) (sym w.1) ∙ e in
-                  let a = by j e' in
-                  elim (leb_tells (number n (cursor_at cursors i)) (a.0 * n + j)) as (λ _. (q : ℕ) × (q < p) × (get_or (order ++ i ∷ []) q 0 ≡ j)) [
-                    | inl v ↦ let no_edge = none a.0 j v.1 in let is_edge = a.1 in cc
-                    | inr v ↦ let at = s.done j (s.scanned i a.0 j v.1 a.1) in (at.0, omega (arith, at.1, w.0), grown at.0 at.1 ∙ at.2)
-                  ])
+              let old = s.ordered p w.0 in (
+                omega (arith, old.0, w.1),
+                λ j e. let at = old.1 j (ap (λ x. edge x j) (sym w.1) ∙ e) in (at.0, at.1, grown at.0 (omega (arith, at.1, w.0)) ∙ at.2),
+              )
+          | inr w ↦ (
+            omega (arith, w.1),
+            λ j e.
+                let e' : edge i j ≡ true = ap (λ x. edge x j) (sym w.1) ∙ e in
+                let a = by j e' in
+                elim (leb_tells (number n (cursor_at cursors i)) (a.0 * n + j)) as (λ _. (q : ℕ) × (q < p) × (get_or (order ++ i ∷ []) q 0 ≡ j)) [
+                  | inl v ↦ let no_edge = none a.0 j v.1 in let is_edge = a.1 in cc
+                  | inr v ↦ let at = s.done j (s.scanned i a.0 j v.1 a.1) in (at.0, omega (arith, at.1, w.0), grown at.0 at.1 ∙ at.2)
+                ],
+          )
         ];
         finished = λ p h. elim (push_cases order i 0 p h) as (λ _. mark_at (set marks i Done) (get_or (order ++ i ∷ []) p 0) ≡ Done) [
           | inl w ↦ ap (mark_at (set marks i Done)) w.1 ∙ stays (get_or order p 0) (s.finished p w.0)
@@ -159,10 +161,11 @@ module _ (n : ℕ) (edge : ℕ → ℕ → Bool) (slot : ℕ → ℕ → ℕ →
         ];
         stacked = λ p h. elim (push_cases stack j 0 p h) as (λ _. (mark_at (set marks j Open) (get_or (stack ++ j ∷ []) p 0) ≡ Open) × (get_or (stack ++ j ∷ []) p 0 < length (set marks j Open))) [
           | inl w ↦
-              let old = s.stacked p w.0 in
-              ( ap (mark_at (set marks j Open)) w.1
-                ∙ elim (set_cases marks j Open New (get_or stack p 0) within) as (λ _. mark_at (set marks j Open) (get_or stack p 0) ≡ Open) [ inl v ↦ v.1 | inr v ↦ v.1 ∙ old.0 ]
-              , omega (arith, old.1, w.1))
+              let old = s.stacked p w.0 in (
+                ap (mark_at (set marks j Open)) w.1
+                    ∙ elim (set_cases marks j Open New (get_or stack p 0) within) as (λ _. mark_at (set marks j Open) (get_or stack p 0) ≡ Open) [ inl v ↦ v.1 | inr v ↦ v.1 ∙ old.0 ],
+                omega (arith, old.1, w.1),
+              )
           | inr w ↦ (ap (mark_at (set marks j Open)) w.1 ∙ get_or-set_same marks j Open New within, omega (arith, w.1))
         ];
         distinct = λ p q h k e. elim (push_cases stack j 0 p h) as (λ _. p ≡ q) [
@@ -249,9 +252,10 @@ closed_count f z (i ∷ stack) marks h =
     let sums = sum_by-set f marks i Circular New within in
     let same : sum_by f (set marks i Circular) ≡ sum_by f marks = omega (arith, first.1) in
     closed_count f z stack (set marks i Circular) (λ p b.
-        let old = h (suc p) (omega arith) in
-        ( omega (arith, old.0)
-        , elim (set_cases marks i Circular New (get_or stack p 0) within) as (λ _. f (mark_at (set marks i Circular) (get_or stack p 0)) ≡ 0) [ inl w ↦ ap f w.1 ∙ z | inr w ↦ ap f w.1 ∙ old.1 ]))
+    let old = h (suc p) (omega arith) in (
+      omega (arith, old.0),
+      elim (set_cases marks i Circular New (get_or stack p 0) within) as (λ _. f (mark_at (set marks i Circular) (get_or stack p 0)) ≡ 0) [ inl w ↦ ap f w.1 ∙ z | inr w ↦ ap f w.1 ∙ old.1 ],
+    ))
     ∙ same
 
 module _ (n : ℕ) (edge : ℕ → ℕ → Bool) (slot : ℕ → ℕ → ℕ → Bool) where
@@ -264,10 +268,10 @@ module _ (n : ℕ) (edge : ℕ → ℕ → Bool) (slot : ℕ → ℕ → ℕ →
       let within : (p : ℕ) → p < length stack → get_or stack p 0 < length marks = λ p h. (s.stacked p h).1 in
       let cases : (k : ℕ) → (mark_at (closed marks stack) k ≡ mark_at marks k) ⊎ ((mark_at (closed marks stack) k ≡ Circular) × ((p : ℕ) × (p < length stack) × (get_or stack p 0 ≡ k))) = λ k. closed_cases stack marks k within in
       let met_circular : mark_at (closed marks stack) j ≡ Circular =
-            elim met as (λ _. mark_at (closed marks stack) j ≡ Circular) [
-              | inl open_now ↦ let at = s.opened j open_now in ap (mark_at (closed marks stack)) (sym at.2) ∙ closed_in stack marks at.0 within at.1
-              | inr circular_now ↦ stays_circular stack marks j within circular_now
-            ] in
+      elim met as (λ _. mark_at (closed marks stack) j ≡ Circular) [
+        | inl open_now ↦ let at = s.opened j open_now in ap (mark_at (closed marks stack)) (sym at.2) ∙ closed_in stack marks at.0 within at.1
+        | inr circular_now ↦ stays_circular stack marks j within circular_now
+      ] in
       record {
         same_length = s.same_length ∙ sym len;
         in_range = s.in_range;

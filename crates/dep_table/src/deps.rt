@@ -106,7 +106,8 @@ fn flags_of(alloc: Global, formulas: &[Formula], leaves: &CellSet) -> Result<Vec
 fn circular_cells(alloc: Global, formulas: &[Formula], marks: &[Mark]) -> Result<CellSet, Memory>
     requires { length marks.now ≡ length formulas.now }
     ensures sound { IfOk result (λ found. (a : Cell) → set.contains found a ≡ true
-        → (i : ℕ) × (f : Formula) × (slice_get formulas.now i ≡ Some f) × (f.cell ≡ a) × (mark_at marks.now i ≡ Mark.Circular)) }
+        → (i : ℕ) × (f : Formula) × (slice_get formulas.now i ≡ Some f) × (f.cell ≡ a)
+        × (mark_at marks.now i ≡ Mark.Circular)) }
     ensures complete { IfOk result (λ found. (i : ℕ) (f : Formula) → slice_get formulas.now i ≡ Some f
         → mark_at marks.now i ≡ Mark.Circular → set.contains found f.cell ≡ true) }
 {

@@ -19,7 +19,7 @@ pub(crate) struct Cursor {
 }
 
 /// The next of the references of a formula, by its area and the place of the formula to which it leads.
-pub(crate) fn next(
+pub(crate) fn next_reference(
     formulas: &[Formula],
     leaves: &[bool],
     node: usize,
@@ -80,7 +80,8 @@ fn first_not_before(formulas: &[Formula], from: usize, cell: Cell) -> usize
     requires sorted { AreSorted formulas.now }
     requires within { from ≤ length formulas.now }
     ensures within { (from ≤ result) × (result ≤ length formulas.now) }
-    ensures before { (k : ℕ) (f : Formula) → from ≤ k → k < result → slice_get formulas.now k ≡ Some f → cell_cmp f.cell cell ≡ Less }
+    ensures before { (k : ℕ) (f : Formula) → from ≤ k → k < result → slice_get formulas.now k ≡ Some f
+        → cell_cmp f.cell cell ≡ Less }
     ensures first { (f : Formula) → slice_get formulas.now result ≡ Some f → cell_cmp f.cell cell ≢ Less }
 {
     let mut low = from;

@@ -87,7 +87,12 @@ fn a_cell_that_refers_to_itself(rt: HostRuntime) -> Result<(), Fail> {
 
 #[test]
 fn two_sheets(rt: HostRuntime) -> Result<(), Fail> {
-    let tour = toured(rt.alloc(), b"=other!A2,=other!A1\n", b"=A2\n=plan!A1\n", &[])?;
+    let tour = toured(
+        rt.alloc(),
+        b"=other!A2,=other!A1\n",
+        b"=A2\n=plan!A1\n",
+        &[],
+    )?;
     assert!(rt; tour.circular.has(at(0, 0, 0)));
     assert!(rt; tour.circular.has(at(0, 0, 1)));
     assert!(rt; tour.circular.has(at(1, 0, 0)));

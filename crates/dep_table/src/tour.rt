@@ -1,10 +1,10 @@
 // A tour of the references of formulas, with each formula after those to which it refers.
 ghost use Rattle.std.specs.Prelude.{◌≡◌, ◌≢◌, ◌+◌, ◌<◌, ◌≤◌, IfOk, OnOk, [], length, slice_index, vec_len, ℕ};
-ghost use Rattle.dep_table.specs.Edges.{edge, most_slots, slot};
+ghost use Rattle.dep_table.specs.Edges.{edge};
 ghost use Rattle.dep_table.specs.Formulas.{AreSorted};
-ghost use Rattle.dep_table.specs.Tour.{IsSound, IsToured, closed, mark_at, work};
+ghost use Rattle.dep_table.specs.Tour.{IsToured, IsUnderway, closed, left_to_do, mark_at};
 
-use crate::find::{Cursor, next};
+use crate::find::{Cursor, next_reference};
 use crate::formulas::Formula;
 use sheet_model::Memory;
 use std::alloc::Global;
@@ -48,10 +48,10 @@ fn explore_all(
     order: &mut Vec<usize>,
 ) -> Result<(), Memory>
     requires sorted { AreSorted formulas.now }
-    requires sound { IsSound (length formulas.now) (edge formulas.now leaves.now) (slot formulas.now leaves.now) marks.old cursors.old [] order.old.items }
+    requires sound { IsUnderway formulas.now leaves.now marks.old cursors.old [] order.old.items }
     requires nodes { length marks.old ≡ length formulas.now }
     requires leaves { length leaves.now ≡ length formulas.now }
-    ensures sound { OnOk result (IsSound (length formulas.now) (edge formulas.now leaves.now) (slot formulas.now leaves.now) marks.new cursors.new [] order.new.items) }
+    ensures sound { OnOk result (IsUnderway formulas.now leaves.now marks.new cursors.new [] order.new.items) }
     ensures visited { OnOk result ((k : ℕ) → k < length formulas.now → mark_at marks.new k ≢ Mark.New) }
 {
     for root in 0..formulas.len() {
@@ -70,11 +70,11 @@ fn explore(
     order: &mut Vec<usize>,
 ) -> Result<(), Memory>
     requires sorted { AreSorted formulas.now }
-    requires sound { IsSound (length formulas.now) (edge formulas.now leaves.now) (slot formulas.now leaves.now) marks.old cursors.old [] order.old.items }
+    requires sound { IsUnderway formulas.now leaves.now marks.old cursors.old [] order.old.items }
     requires nodes { length marks.old ≡ length formulas.now }
     requires leaves { length leaves.now ≡ length formulas.now }
     requires root { root < length formulas.now }
-    ensures sound { OnOk result (IsSound (length formulas.now) (edge formulas.now leaves.now) (slot formulas.now leaves.now) marks.new cursors.new [] order.new.items) }
+    ensures sound { OnOk result (IsUnderway formulas.now leaves.now marks.new cursors.new [] order.new.items) }
     ensures kept { OnOk result ((k : ℕ) → mark_at marks.old k ≢ Mark.New → mark_at marks.new k ≢ Mark.New) }
     ensures visited { OnOk result (mark_at marks.new root ≢ Mark.New) }
 {
@@ -100,17 +100,17 @@ fn step(
     order: &mut Vec<usize>,
 ) -> Result<(), Memory>
     requires sorted { AreSorted formulas.now }
-    requires sound { IsSound (length formulas.now) (edge formulas.now leaves.now) (slot formulas.now leaves.now) marks.old cursors.old stack.old.items order.old.items }
+    requires sound { IsUnderway formulas.now leaves.now marks.old cursors.old stack.old.items order.old.items }
     requires some { 0 < vec_len stack.old }
     requires nodes { length marks.old ≡ length formulas.now }
     requires leaves { length leaves.now ≡ length formulas.now }
-    ensures sound { OnOk result (IsSound (length formulas.now) (edge formulas.now leaves.now) (slot formulas.now leaves.now) marks.new cursors.new stack.new.items order.new.items) }
-    ensures less { OnOk result (work (length formulas.now) (most_slots formulas.now) marks.new cursors.new stack.new.items
-        < work (length formulas.now) (most_slots formulas.now) marks.old cursors.old stack.old.items) }
+    ensures sound { OnOk result (IsUnderway formulas.now leaves.now marks.new cursors.new stack.new.items order.new.items) }
+    ensures less { OnOk result (left_to_do formulas.now marks.new cursors.new stack.new.items
+        < left_to_do formulas.now marks.old cursors.old stack.old.items) }
     ensures kept { OnOk result ((k : ℕ) → mark_at marks.old k ≢ Mark.New → mark_at marks.new k ≢ Mark.New) }
 {
     let node = stack[stack.len() - 1];
-    let Some(found) = next(formulas, leaves, node, cursors[node]) else {
+    let Some(found) = next_reference(formulas, leaves, node, cursors[node]) else {
         order.push(node)?;
         stack.pop();
         marks[node] = Mark::Done;

@@ -1,4 +1,4 @@
-use Rattle.std.proofs.Common.{◌≡◌, ◌<◌, ℕ, length, option_map, slice_get, slice_index, vec_len}
+use Rattle.std.proofs.Common.{◌≡◌, ◌<◌, ℕ, option_map, slice_get, slice_index, vec_len}
 use Rattle.dep_table.specs.declared.formulas.Formula.{Formula}
 use Rattle.dep_table.proofs.deps.cells_at.Given as goal
 

@@ -1,7 +1,6 @@
-use Rattle.std.proofs.Common.{◌≡◌, ◌∙◌, ◌⊎◌, ℕ, Some, ap, arith, false, get_or, inl, inr, slice_get, sym, true}
+use Rattle.std.proofs.Common.{◌≡◌, ◌∙◌, ℕ, Some, ap, arith, false, get_or, inl, inr, slice_get, sym, true}
 use Rattle.std.specs.FinSet as set
 use Rattle.std.proofs.lemmas.Option.{same_Some, slice_get-get_or}
-use Rattle.cell_refs.specs.declared.cell.Cell.{Cell}
 use Rattle.cell_refs.specs.Cells.{cell_cmp}
 use Rattle.dep_table.specs.declared.formulas.Formula.{Formula}
 use Rattle.dep_table.specs.declared.tour.Mark.TheVariants.{Circular}
@@ -24,9 +23,9 @@ loop-place-preserved c =
     record {
       sound = λ a h. elim (had c.loop-place.found f.cell a (ap (λ s. set.contains s a) (sym added) ∙ h))
           as (λ _. (i : ℕ) × (g : Formula) × (slice_get c.args.formulas.now i ≡ Some g) × (g.cell ≡ a) × (mark_at c.args.marks.now i ≡ Circular)) [
-        | inl e ↦ (c.loop-place.place, f, at, sym e, cc c.in-Circular.is)
-        | inr old ↦ c.loop-place.invariant.sound a old
-      ];
+            | inl e ↦ (c.loop-place.place, f, at, sym e, cc c.in-Circular.is)
+            | inr old ↦ c.loop-place.invariant.sound a old
+          ];
       complete = λ i g l x m. ap (λ s. set.contains s g.cell) added
           ∙ elim (same_or_not i c.loop-place.place) as (λ _. set.contains (set.insert c.loop-place.found f.cell) g.cell ≡ true) [
             | inl e ↦

@@ -1,4 +1,4 @@
-use Rattle.std.proofs.Common.{◌≡◌, ◌∙◌, ◌⊎◌, ◌+◌, ◌<◌, ◌≤◌, Some, arith, ap, get_or, inl, inr, length, slice_get, ℕ, refl, sym, true, false}
+use Rattle.std.proofs.Common.{◌≡◌, ◌∙◌, Some, arith, ap, get_or, inl, inr, slice_get, ℕ, sym, false}
 use Rattle.std.proofs.lemmas.Bool.{cases_lt}
 use Rattle.std.proofs.lemmas.Option.{slice_get-get_or, slice_get_past}
 use Rattle.dep_table.specs.declared.formulas.Formula.{Formula}

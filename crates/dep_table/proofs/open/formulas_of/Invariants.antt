@@ -1,4 +1,4 @@
-use Rattle.std.proofs.Common.{map, ℕ}
+use Rattle.std.proofs.Common.{map}
 use Rattle.std.specs.FinMap.{keys}
 use Rattle.workbook.specs.Kinds.{book_of}
 use Rattle.dep_table.specs.Formulas.{pair_of}

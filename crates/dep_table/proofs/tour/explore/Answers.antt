@@ -1,4 +1,4 @@
-use Rattle.std.proofs.Common.{◌≡◌, ◌≢◌, ◌<◌, ◌+◌, ℕ, [], length, arith, sym, ap, ◌∙◌, subst, List, set, ◌++◌, ◌∷◌, length-set}
+use Rattle.std.proofs.Common.{◌≡◌, ◌<◌, ℕ, [], length, arith, sym, ap, ◌∙◌, subst, List, set, ◌++◌, ◌∷◌, length-set}
 use Rattle.std.proofs.lemmas.List.{get_or-set_same}
 use Rattle.dep_table.specs.declared.tour.Mark.TheVariants.{New, Open}
 use Rattle.dep_table.specs.Edges.{edge, slot}
@@ -16,7 +16,7 @@ loop-stack-init c =
     let opened = get_or-set_same c.args.marks.now c.args.root Open New within in
     record {
       sound = subst (λ (s : List ℕ). IsSound (length c.args.formulas.now) (edge c.args.formulas.now c.args.leaves.now) (slot c.args.formulas.now c.args.leaves.now) (set c.args.marks.now c.args.root Open) c.args.cursors.now s c.args.order.now.items) (sym alone)
-        (enter (length c.args.formulas.now) (edge c.args.formulas.now c.args.leaves.now) (slot c.args.formulas.now c.args.leaves.now) c.args.marks.now c.args.cursors.now [] c.args.order.now.items c.args.root c.requires.sound within new (λ p h. absurd (omega arith)));
+          (enter (length c.args.formulas.now) (edge c.args.formulas.now c.args.leaves.now) (slot c.args.formulas.now c.args.leaves.now) c.args.marks.now c.args.cursors.now [] c.args.order.now.items c.args.root c.requires.sound within new (λ p h. absurd (omega arith)));
       nodes = length-set c.args.marks.now c.args.root Open ∙ c.requires.nodes;
       kept = set_kept c.args.marks.now c.args.root Open within open_not_new;
       visited = λ e. open_not_new (sym opened ∙ e);

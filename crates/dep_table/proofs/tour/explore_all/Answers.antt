@@ -1,4 +1,4 @@
-use Rattle.std.proofs.Common.{◌≡◌, ◌≢◌, ◌<◌, ℕ, ◌∙◌, below_more}
+use Rattle.std.proofs.Common.{◌∙◌, below_more}
 use Rattle.dep_table.proofs.tour.explore_all.Goals as goal
 
 pub loop-root-preserved : goal.loop-root-preserved

@@ -1,5 +1,4 @@
-use Rattle.std.proofs.Common.{◌≡◌, ◌≢◌, ◌<◌, ℕ, length, arith, inl, inr, ◌⊎◌, ap, sym, ◌∙◌}
-use Rattle.dep_table.specs.declared.tour.Mark.TheVariants.{New, Open, Done, Circular}
+use Rattle.std.proofs.Common.{length, arith, inl, inr, ap, sym, ◌∙◌}
 use Rattle.dep_table.specs.Edges.{edge, most_slots, slot}
 use Rattle.dep_table.specs.Tour.{mark_at}
 use Rattle.dep_table.proofs.SlotLaws.{edge_slot, slot_edge, slot_place}

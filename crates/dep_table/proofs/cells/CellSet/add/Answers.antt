@@ -1,4 +1,4 @@
-use Rattle.std.proofs.Common.{◌≡◌, ◌∙◌, ap}
+use Rattle.std.proofs.Common.{◌∙◌, ap}
 use Rattle.std.specs.FinSet as set
 use Rattle.dep_table.proofs.Sets.{one_more}
 use Rattle.dep_table.proofs.cells.CellSet.add.Goals as goal

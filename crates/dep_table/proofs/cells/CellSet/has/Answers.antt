@@ -1,4 +1,4 @@
-use Rattle.std.proofs.Common.{◌≡◌, ◌∙◌, ap, sym}
+use Rattle.std.proofs.Common.{◌∙◌, ap, sym}
 use Rattle.std.specs.FinSet as set
 use Rattle.cell_refs.proofs.Order.{cells_total}
 use Rattle.dep_table.proofs.cells.CellSet.has.Goals as goal

@@ -1,4 +1,4 @@
-use Rattle.std.proofs.Common.{◌≡◌, ◌∙◌, ◌<◌, ℕ, List, ap, length, slice_get, slice_index, subst, sym}
+use Rattle.std.proofs.Common.{◌∙◌, ℕ, List, ap, length, subst, sym}
 use Rattle.std.specs.FinMap.{get}
 use Rattle.std.specs.FinSet as set
 use Rattle.dep_table.specs.declared.formulas.Formula.{Formula}

@@ -1,6 +1,6 @@
 use Rattle.std.proofs.Common.{◌≡◌, ◌+◌, ◌*◌, ◌<◌, ◌≤◌, false, length, ℕ}
 use Rattle.dep_table.specs.Edges.{number, slot}
-use Rattle.dep_table.proofs.find.next.Given as goal
+use Rattle.dep_table.proofs.find.next_reference.Given as goal
 
 abbrev pub invariant-loop-area : goal.invariant-loop-area
 invariant-loop-area l = record {

@@ -1,11 +1,10 @@
-use Rattle.std.proofs.Common.{◌≡◌, ◌∙◌, ◌+◌, ◌*◌, ◌<◌, ◌≤◌, Some, arith, ap, get_or, length, slice_get, ℕ, sym, List}
+use Rattle.std.proofs.Common.{◌≡◌, ◌∙◌, ◌+◌, ◌*◌, Some, arith, ap, get_or, length, slice_get, ℕ}
 use Rattle.std.proofs.lemmas.Option.{slice_get-get_or}
-use Rattle.cell_refs.specs.declared.cell.Area.{Area}
 use Rattle.dep_table.specs.declared.formulas.Formula.{Formula}
 use Rattle.dep_table.specs.Edges.{number}
 use Rattle.dep_table.proofs.Following.{none_left, stands, up_to}
 use Rattle.dep_table.proofs.SlotLaws.{leaf_stays, slot_number}
-use Rattle.dep_table.proofs.find.next.Goals as goal
+use Rattle.dep_table.proofs.find.next_reference.Goals as goal
 
 pub returns-then-leaves-node-clause-none : goal.returns-then-leaves-node-clause-none
 returns-then-leaves-node-clause-none c = λ a j h. leaf_stays c.args.formulas.now c.args.leaves.now c.args.node a j c.if-leaves-node.true
@@ -22,10 +21,11 @@ pub returns-in-Some-clause-place : goal.returns-in-Some-clause-place
 returns-in-Some-clause-place c =
     let f : Formula = get_or c.args.formulas.now c.args.node c.index-formulas-node.result in
     let at : slice_get c.args.formulas.now c.args.node ≡ Some f = slice_get-get_or c.args.formulas.now c.args.node c.index-formulas-node.result c.requires.node in
-    let len : length c.as_slice-areas.result.now ≡ length f.areas.items = ap length c.as_slice-areas.ensures.value in
-    ( omega (arith, c.loop-area.invariant.from, c.in-Some.ensures.place.0)
-    , c.in-Some.ensures.place.1
-    , slot_number c.args.formulas.now c.args.leaves.now c.args.node c.loop-area.area c.in-Some.found f at (omega (arith, len, c.loop-area-test.true)) c.in-Some.ensures.place.1)
+    let len : length c.as_slice-areas.result.now ≡ length f.areas.items = ap length c.as_slice-areas.ensures.value in (
+      omega (arith, c.loop-area.invariant.from, c.in-Some.ensures.place.0),
+      c.in-Some.ensures.place.1,
+      slot_number c.args.formulas.now c.args.leaves.now c.args.node c.loop-area.area c.in-Some.found f at (omega (arith, len, c.loop-area-test.true)) c.in-Some.ensures.place.1,
+    )
 
 pub returns-in-Some-clause-first : goal.returns-in-Some-clause-first
 returns-in-Some-clause-first c =
@@ -35,8 +35,8 @@ returns-in-Some-clause-first c =
     (number (length c.args.formulas.now) c.args.from) c.loop-area.area c.loop-area.place c.loop-area.invariant.past
     c.in-Some.found (omega (arith, c.in-Some.ensures.place.1))
     (λ k h l. stands c.args.formulas.now c.args.leaves.now c.args.node f c.if-leaves-node.false at c.as_slice-areas.result.now c.as_slice-areas.ensures.value
-      c.loop-area.area _ (omega (arith, c.loop-area-test.true)) k
-      ∙ c.in-Some.ensures.first k h l)
+    c.loop-area.area _ (omega (arith, c.loop-area-test.true)) k
+    ∙ c.in-Some.ensures.first k h l)
 
 pub loop-area-preserved : goal.loop-area-preserved
 loop-area-preserved c =
@@ -51,8 +51,8 @@ loop-area-preserved c =
           (number (length c.args.formulas.now) c.args.from) c.loop-area.area c.loop-area.place c.loop-area.invariant.past
           n (omega arith)
           (λ k h l. stands c.args.formulas.now c.args.leaves.now c.args.node f c.if-leaves-node.false at c.as_slice-areas.result.now c.as_slice-areas.ensures.value
-            c.loop-area.area _ (omega (arith, c.loop-area-test.true)) k
-            ∙ c.in_default.ensures.none k h)
+          c.loop-area.area _ (omega (arith, c.loop-area-test.true)) k
+          ∙ c.in_default.ensures.none k h)
           b k h (omega (arith, l, row));
     }
 
