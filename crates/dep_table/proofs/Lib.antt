@@ -1,4 +1,5 @@
 pub mod Numbers
+pub mod Orderings
 pub mod Places
 pub mod TourLaws
 pub mod StepLaws

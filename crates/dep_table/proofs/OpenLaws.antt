@@ -6,7 +6,6 @@ use Rattle.std.specs.FinMap.{contains_key, find, get-from_entries, keys}
 use Rattle.std.specs.FinMap.Entries.{find-append}
 use Rattle.std.specs.List.{list_any}
 use Rattle.std.specs.Ordering.{eq_by_cmp, is_eq, is_lt, ordering_reverse}
-use Rattle.std.specs.declared.cmp.Ordering.{Ordering}
 use Rattle.std.specs.declared.cmp.Ordering.TheVariants.{Less, Equal, Greater}
 use Rattle.std.proofs.lemmas.Option.{same_Some, slice_get-map}
 use Rattle.cell_refs.specs.declared.cell.Area.{Area}
@@ -15,9 +14,11 @@ use Rattle.cell_refs.specs.Cells.{cell_cmp}
 use Rattle.cell_refs.proofs.Order.{cells_total, exact_cells}
 use Rattle.recalculation.specs.Entries.{Book, Entry, entry}
 use Rattle.recalculation.proofs.Circles.{entry_there, found_text}
+use Rattle.recalculation.proofs.Lists.{both}
 use Rattle.workbook.specs.Contents.{IsLast, IsNext, IsPast}
 use Rattle.dep_table.specs.declared.formulas.Formula.{Formula}
 use Rattle.dep_table.specs.Formulas.{AreSorted, pair_of, references_in, with_areas}
+use Rattle.dep_table.proofs.Orderings.{is_less, refused}
 use Rattle.dep_table.specs.References.{AreReferencesOf, areas_said}
 
 abbrev pub Pairs : Type 0
@@ -27,11 +28,6 @@ Pairs = List (Cell × List Area)
 abbrev pub is_past : Option Cell → Cell → Bool
 is_past None a = true
 is_past (Some after) a = is_lt (cell_cmp after a)
-
-is_less : (o : Ordering) → is_lt o ≡ true → o ≡ Less
-is_less Less h = refl
-is_less Equal h = cc
-is_less Greater h = cc
 
 past : (after : Option Cell) (a : Cell) → is_past after a ≡ true → IsPast after a
 past None a h = tt
@@ -97,10 +93,6 @@ nothing_said (Some e) h = cc
 
 no_areas : (book : Book) (a : Cell) → (contains_key book.texts a ≡ true → ⊥) → areas_said (entry book a) ≡ None
 no_areas book a h = nothing_said (entry book a) (refused (is_some (entry book a)) (λ e. h (sym (entry_there book a) ∙ e)))
-  where
-    refused : (b : Bool) → (b ≡ true → ⊥) → b ≡ false
-    refused true h = absurd (h refl)
-    refused false h = refl
 
 module _ (book : Book) (after : Option Cell) (cell : Cell) (es : Pairs) (u : ArePairsUpTo book after es) (next : IsNext book.texts after cell) where
   all_before : (i : ℕ) (p : Cell × List Area) → slice_get es i ≡ Some p → cell_cmp p.0 cell ≡ Less
@@ -210,9 +202,6 @@ fewer p q w (x ∷ xs) h =
             | false ↦ λ f. omega (arith, rest)
           ] refl
     ] refl h
-
-both : (p q : Bool) → p ≡ true → q ≡ true → (p && q) ≡ true
-both p q s t = ap (λ x. x && q) s ∙ t
 
 is_behind : (after : Option Cell) (c : Cell) → IsPast after c → is_past after c ≡ true
 is_behind None c h = refl

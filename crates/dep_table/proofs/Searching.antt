@@ -1,5 +1,5 @@
 -- Formulas that are sorted, and the cells of an area.
-use Rattle.std.proofs.Common.{◌≡◌, ◌≢◌, ℕ, ◌+◌, ◌<◌, ◌≤◌, Bool, true, false, List, refl, sym, ap, ◌∙◌, arith, inl, inr}
+use Rattle.std.proofs.Common.{◌≡◌, ◌≢◌, ℕ, ◌+◌, ◌<◌, ◌≤◌, true, false, List, refl, sym, ap, ◌∙◌, arith, inl, inr}
 use Rattle.std.specs.Prelude.{Option, None, Some, slice_get}
 use Rattle.std.specs.Cmp.{tied_itself}
 use Rattle.std.specs.Ordering.{ordering_reverse}
@@ -13,6 +13,7 @@ use Rattle.cell_refs.proofs.Order.{cells_total}
 use Rattle.dep_table.specs.declared.formulas.Formula.{Formula}
 use Rattle.dep_table.specs.Edges.{reaches}
 use Rattle.dep_table.specs.Formulas.{AreSorted}
+use Rattle.dep_table.proofs.Orderings.{refused}
 use Rattle.dep_table.proofs.Places.{same_or_not}
 
 -- no cell comes before one that comes before it
@@ -21,11 +22,6 @@ not_both a b h k = let e : cell_cmp a b ≡ Greater = cells_total.antisymm a b �
 
 pub not_itself : (a : Cell) → cell_cmp a a ≢ Less
 not_itself a h = let e = tied_itself cells_total a in cc
-
--- what isn't true
-refused : (b : Bool) → (b ≡ true → ⊥) → b ≡ false
-refused true h = absurd (h refl)
-refused false h = refl
 
 -- an area reaches no formula where no formula there is within it
 unreached : (area : Area) (o : Option Formula) → ((f : Formula) → o ≡ Some f → within area f.cell ≡ true → ⊥) → reaches area o ≡ false

@@ -6,11 +6,10 @@ use Rattle.std.specs.Cmp.{eq_by_cmp_equiv, tied_itself}
 use Rattle.std.specs.FinSet as set
 use Rattle.std.specs.List.{list_any}
 use Rattle.std.specs.Ordering.{eq_by_cmp, is_eq}
-use Rattle.std.specs.declared.cmp.Ordering.{Ordering}
-use Rattle.std.specs.declared.cmp.Ordering.TheVariants.{Less, Equal, Greater}
 use Rattle.cell_refs.specs.declared.cell.Cell.{Cell}
 use Rattle.cell_refs.specs.Cells.{cell_cmp}
 use Rattle.cell_refs.proofs.Order.{cells_total, exact_cells}
+use Rattle.dep_table.proofs.Orderings.{is_equal}
 
 either : (b c : Bool) → cond b true c ≡ (b || c)
 either true c = refl
@@ -23,11 +22,6 @@ one_more ks ls k h = set.same_set cells_total exact_cells _ _ (λ q.
     set.contains-from_list cells_total ls q ∙ h q ∙ either (is_at (cell_cmp k) q) _
     ∙ (λ i. (eq_by_cmp_equiv cells_total).symm k q i || sym (set.contains-from_list cells_total ks q) i)
     ∙ sym (set.contains-insert cells_total (set.from_list ks) k q))
-
-is_equal : (o : Ordering) → is_eq o ≡ true → o ≡ Equal
-is_equal Less h = cc
-is_equal Equal h = refl
-is_equal Greater h = cc
 
 -- a set with one cell more has that cell and those that it had
 pub had : (s : set.FinSet cell_cmp) (k q : Cell) → set.contains (set.insert s k) q ≡ true → (q ≡ k) ⊎ (set.contains s q ≡ true)

@@ -6,19 +6,9 @@ use Rattle.std.proofs.lemmas.List.Sums.{get_or-le-sum_by}
 use Rattle.std.proofs.lemmas.Nat.{mul-add-lt}
 use Rattle.std.proofs.lemmas.Option.{get_or_from_slice_get, slice_get_within}
 use Rattle.cell_refs.specs.declared.cell.Area.{Area}
+use Rattle.recalculation.proofs.Lists.{both, first_true, second_true}
 use Rattle.dep_table.specs.declared.formulas.Formula.{Formula}
 use Rattle.dep_table.specs.Edges.{edge, most_slots, reaches, reaches_by, reaches_some, refers_to, slot}
-
-both : (p q : Bool) → p ≡ true → q ≡ true → (p && q) ≡ true
-both p q s t = ap (λ x. x && q) s ∙ t
-
-first_true : (p q : Bool) → (p && q) ≡ true → p ≡ true
-first_true true q h = refl
-first_true false q h = h
-
-second_true : (p q : Bool) → (p && q) ≡ true → q ≡ true
-second_true true q h = h
-second_true false q h = cc
 
 -- one that passes, at its place
 one_passes : (p : Area → Bool) (xs : List Area) → list_any p xs ≡ true → (a : ℕ) × (x : Area) × (slice_get xs a ≡ Some x) × (p x ≡ true)

@@ -4,8 +4,6 @@ use Rattle.std.specs.Prelude.{Option, None, Some, option_map, slice_get}
 use Rattle.std.specs.Cmp.{tied_itself}
 use Rattle.std.specs.FinMap.{find, get-from_entries}
 use Rattle.std.specs.Ordering.{eq_by_cmp, is_eq}
-use Rattle.std.specs.declared.cmp.Ordering.{Ordering}
-use Rattle.std.specs.declared.cmp.Ordering.TheVariants.{Less, Equal, Greater}
 use Rattle.std.proofs.lemmas.Bool.{cases_order}
 use Rattle.std.proofs.lemmas.Option.{get_or_from_slice_get, same_Some, slice_get-map}
 use Rattle.cell_refs.specs.declared.cell.Area.{Area}
@@ -19,6 +17,7 @@ use Rattle.recalculation.specs.Walks.{is_formula}
 use Rattle.dep_table.specs.declared.formulas.Formula.{Formula}
 use Rattle.dep_table.specs.Formulas.{AreSorted, pair_of, references_in}
 use Rattle.dep_table.specs.References.{AreReferencesOf, areas_said}
+use Rattle.dep_table.proofs.Orderings.{is_equal}
 use Rattle.dep_table.proofs.Searching.{not_itself}
 
 -- the list has the formula cells, each with the areas to which its formula refers
@@ -26,11 +25,6 @@ pub record IsTableOf (formulas : List Formula) (book : Book) : Type 0 where
   pub formula : (i : ℕ) (f : Formula) → slice_get formulas i ≡ Some f → (t : Tree) × (entry book f.cell ≡ Some (FormulaEntry t)) × (references_of t ≡ f.areas.items)
   pub found : (a : Cell) → is_formula (entry book a) ≡ true → (i : ℕ) × (f : Formula) × (slice_get formulas i ≡ Some f) × (f.cell ≡ a)
   pub one : (i j : ℕ) (f g : Formula) → slice_get formulas i ≡ Some f → slice_get formulas j ≡ Some g → f.cell ≡ g.cell → i ≡ j
-
-is_equal : (o : Ordering) → is_eq o ≡ true → o ≡ Equal
-is_equal Less h = cc
-is_equal Equal h = refl
-is_equal Greater h = cc
 
 -- what is found at a cell stands at a place
 found_at : (formulas : List Formula) (q : Cell) (v : List Area) → find cell_cmp q (map pair_of formulas) ≡ Some v

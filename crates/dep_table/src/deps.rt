@@ -13,7 +13,7 @@ ghost use Rattle.dep_table.specs.Tour.{mark_at};
 use crate::CellSet;
 use crate::formulas::Formula;
 use crate::open::formulas_of;
-use crate::tour::{Mark, tour};
+use crate::tour::{Mark, tour_all};
 use cell_refs::Cell;
 use sheet_model::Memory;
 use std::alloc::Global;
@@ -84,7 +84,7 @@ impl Deps {
     {
         let formulas = self.formulas.as_slice();
         let flags = flags_of(alloc, formulas, leaves)?;
-        let toured = tour(alloc, formulas, &flags)?;
+        let toured = tour_all(alloc, formulas, &flags)?;
         let circular = circular_cells(alloc, formulas, &toured.marks)?;
         let order = cells_at(alloc, formulas, &toured.order)?;
         Ok(Tour { circular, order })

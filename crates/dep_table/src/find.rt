@@ -12,7 +12,7 @@ use cell_refs::{Area, Cell};
 
 /// How far the references of a formula have been followed: the area that is next, and the place from which on its cells are
 /// sought.
-#[derive(Clone, Copy, Debug, PartialEq, Eq)]
+#[derive(Clone, Copy, Debug)]
 pub(crate) struct Cursor {
     pub(crate) area: usize,
     pub(crate) place: usize,

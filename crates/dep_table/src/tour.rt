@@ -26,7 +26,11 @@ pub(crate) struct Toured {
 }
 
 /// A tour of all formulas.
-pub(crate) fn tour(alloc: Global, formulas: &[Formula], leaves: &[bool]) -> Result<Toured, Memory>
+pub(crate) fn tour_all(
+    alloc: Global,
+    formulas: &[Formula],
+    leaves: &[bool],
+) -> Result<Toured, Memory>
     requires sorted { AreSorted formulas.now }
     requires leaves { length leaves.now ≡ length formulas.now }
     ensures { IfOk result (λ t. IsToured (edge formulas.now leaves.now) (length formulas.now) t.marks.items t.order.items) }

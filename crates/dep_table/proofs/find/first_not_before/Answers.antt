@@ -1,20 +1,12 @@
-use Rattle.std.proofs.Common.{◌≡◌, ◌≢◌, ◌∙◌, ◌+◌, ◌-◌, ◌/◌, Some, arith, ap, get_or, slice_get, ℕ, refl, sym, true, false}
+use Rattle.std.proofs.Common.{◌≡◌, ◌≢◌, ◌∙◌, ◌+◌, ◌-◌, ◌/◌, Some, arith, ap, get_or, slice_get, ℕ, sym}
 use Rattle.std.specs.Ordering.{is_lt}
-use Rattle.std.specs.declared.cmp.Ordering.{Ordering}
-use Rattle.std.specs.declared.cmp.Ordering.TheVariants.{Less, Equal, Greater}
+use Rattle.std.specs.declared.cmp.Ordering.TheVariants.{Less}
 use Rattle.std.proofs.lemmas.Option.{same_Some, slice_get-get_or}
 use Rattle.cell_refs.specs.Cells.{cell_cmp}
 use Rattle.dep_table.specs.declared.formulas.Formula.{Formula}
+use Rattle.dep_table.proofs.Orderings.{is_less, is_no_less}
 use Rattle.dep_table.proofs.Searching.{all_before}
 use Rattle.dep_table.proofs.find.first_not_before.Goals as goal
-
-is_less : (o : Ordering) → is_lt o ≡ true → o ≡ Less
-is_less Less h = refl
-is_less Equal h = cc
-is_less Greater h = cc
-
-is_no_less : (o : Ordering) → is_lt o ≡ false → o ≢ Less
-is_no_less o h e = let f = ap is_lt e in cc
 
 pub loop-low-preserved-then-is_lt : goal.loop-low-preserved-then-is_lt
 loop-low-preserved-then-is_lt c =
