@@ -1,0 +1,12 @@
+pub mod Numbers
+pub mod Orderings
+pub mod Places
+pub mod TourLaws
+pub mod StepLaws
+pub mod Sets
+pub mod Searching
+pub mod SlotLaws
+pub mod Following
+pub mod Tables
+pub mod CircularLaws
+pub mod OpenLaws

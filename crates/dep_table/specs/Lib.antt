@@ -1,0 +1,6 @@
+pub mod References
+pub mod Codes
+pub mod Order
+pub mod Formulas
+pub mod Edges
+pub mod Tour

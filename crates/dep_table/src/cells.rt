@@ -1,0 +1,56 @@
+// Sets of cells.
+ghost use Rattle.std.specs.Prelude.{◌≡◌, OnErr, OnOk};
+ghost use Rattle.std.specs.FinSet as set;
+ghost use Rattle.cell_refs.specs.Cells.{cell_cmp};
+
+use cell_refs::Cell;
+use sheet_model::Memory;
+use std::alloc::Global;
+use std::collections::BTreeSet;
+use std::marker::Model;
+
+/// A set of cells.
+#[derive(Drop)]
+pub struct CellSet {
+    cells: BTreeSet<Cell>,
+}
+
+impl Model for CellSet {
+    ghost use Rattle.std.specs.FinSet as set;
+    ghost use Rattle.cell_refs.specs.Cells.{cell_cmp, coded_cell};
+
+    ghost Value = { set.FinSet cell_cmp };
+
+    ghost coded = { set.code coded_cell };
+
+    ghost view = { λ s. set.from_list s.cells.keys };
+}
+
+impl CellSet {
+    /// A set without cells.
+    pub fn new(alloc: Global) -> CellSet
+        ensures { result ≡ set.empty }
+    {
+        CellSet {
+            cells: BTreeSet::new(alloc),
+        }
+    }
+
+    /// Adds a cell, where the set hasn't got it.
+    pub fn add(&mut self, cell: Cell) -> Result<(), Memory>
+        ensures ok { OnOk result (self.new ≡ set.insert self.old cell) }
+        ensures err { OnErr result (self.new ≡ self.old) }
+    {
+        let Ok(_) = self.cells.insert(cell) else {
+            return Err(Memory);
+        };
+        Ok(())
+    }
+
+    /// Whether the set has a cell.
+    pub fn has(&self, cell: Cell) -> bool
+        ensures { result ≡ set.contains self.now cell }
+    {
+        self.cells.contains(&cell)
+    }
+}

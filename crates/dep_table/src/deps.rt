@@ -1,0 +1,136 @@
+// The references of the formulas of a workbook.
+ghost use Rattle.std.specs.Prelude.{◌≡◌, ◌<◌, IfOk, Some, length, map, option_map, slice_get, slice_index, true, vec_len, ℕ};
+ghost use Rattle.std.specs.FinSet as set;
+ghost use Rattle.cell_refs.specs.declared.cell.Cell.{Cell};
+ghost use Rattle.recalculation.specs.Entries.{Book};
+ghost use Rattle.recalculation.specs.Walks.{is_circular};
+ghost use Rattle.workbook.specs.Kinds.{book_of};
+ghost use Rattle.dep_table.specs.declared.formulas.Formula.{Formula};
+ghost use Rattle.dep_table.specs.Order.{IsOrder};
+ghost use Rattle.dep_table.specs.References.{AreReferencesOf};
+ghost use Rattle.dep_table.specs.Tour.{mark_at};
+
+use crate::CellSet;
+use crate::formulas::Formula;
+use crate::open::formulas_of;
+use crate::tour::{Mark, tour_all};
+use cell_refs::Cell;
+use sheet_model::Memory;
+use std::alloc::Global;
+use std::marker::Model;
+use workbook::Workbook;
+
+/// The areas to which each formula of a workbook refers.
+#[derive(Drop)]
+pub struct Deps {
+    formulas: Vec<Formula>,
+}
+
+impl Model for Deps {
+    ghost use Rattle.dep_table.specs.References.{References};
+    ghost use Rattle.dep_table.specs.Codes.{references_code};
+    ghost use Rattle.dep_table.specs.Formulas.{AreSorted, references_in};
+
+    ghost Value = { References };
+
+    ghost coded = { references_code };
+
+    ghost view = { λ d. references_in d.formulas.items };
+
+    ghost invariant = { λ d. AreSorted d.formulas.items };
+}
+
+/// The circular cells, and the other formula cells, each after those to which it refers.
+#[derive(Drop)]
+pub struct Tour {
+    pub circular: CellSet,
+    pub order: Vec<Cell>,
+}
+
+impl Deps {
+    /// The references of a workbook.
+    pub fn open(alloc: Global, book: &Workbook) -> Result<Deps, Memory>
+        ensures { IfOk result (λ d. AreReferencesOf d (book_of book.now)) }
+    {
+        let formulas = formulas_of(alloc, book)?;
+        Ok(Deps { formulas })
+    }
+
+    /// The circular cells where the leaves refer to nothing, as in each workbook that has these references.
+    pub fn circular(&self, alloc: Global, leaves: &CellSet) -> Result<CellSet, Memory>
+        ensures { IfOk result (λ found. (book : Book) → AreReferencesOf self.now book
+            → (a : Cell) → set.contains found a ≡ is_circular book (set.contains leaves.now) a) }
+    {
+        let tour = self.tour(alloc, leaves)?;
+        Ok(tour.circular)
+    }
+
+    /// The formula cells that aren't circular, each after those to which it refers, as in each workbook that has these
+    /// references.
+    pub fn order(&self, alloc: Global, leaves: &CellSet) -> Result<Vec<Cell>, Memory>
+        ensures { IfOk result (λ cells. (book : Book) → AreReferencesOf self.now book
+            → IsOrder book (set.contains leaves.now) cells.items) }
+    {
+        let tour = self.tour(alloc, leaves)?;
+        Ok(tour.order)
+    }
+
+    /// Both at once.
+    pub fn tour(&self, alloc: Global, leaves: &CellSet) -> Result<Tour, Memory>
+        ensures circular { IfOk result (λ t. (book : Book) → AreReferencesOf self.now book
+            → (a : Cell) → set.contains t.circular a ≡ is_circular book (set.contains leaves.now) a) }
+        ensures order { IfOk result (λ t. (book : Book) → AreReferencesOf self.now book
+            → IsOrder book (set.contains leaves.now) t.order.items) }
+    {
+        let formulas = self.formulas.as_slice();
+        let flags = flags_of(alloc, formulas, leaves)?;
+        let toured = tour_all(alloc, formulas, &flags)?;
+        let circular = circular_cells(alloc, formulas, &toured.marks)?;
+        let order = cells_at(alloc, formulas, &toured.order)?;
+        Ok(Tour { circular, order })
+    }
+}
+
+// For each formula, whether its cell is among the leaves.
+fn flags_of(alloc: Global, formulas: &[Formula], leaves: &CellSet) -> Result<Vec<bool>, Memory>
+    ensures { IfOk result (λ flags. flags.items ≡ map (λ (f : Formula). set.contains leaves.now f.cell) formulas.now) }
+{
+    let mut flags = Vec::new(alloc);
+    for formula in formulas {
+        flags.push(leaves.has(formula.cell))?;
+    }
+    Ok(flags)
+}
+
+// The cells of the formulas whose marks say that they are circular.
+fn circular_cells(alloc: Global, formulas: &[Formula], marks: &[Mark]) -> Result<CellSet, Memory>
+    requires { length marks.now ≡ length formulas.now }
+    ensures sound { IfOk result (λ found. (a : Cell) → set.contains found a ≡ true
+        → (i : ℕ) × (f : Formula) × (slice_get formulas.now i ≡ Some f) × (f.cell ≡ a)
+        × (mark_at marks.now i ≡ Mark.Circular)) }
+    ensures complete { IfOk result (λ found. (i : ℕ) (f : Formula) → slice_get formulas.now i ≡ Some f
+        → mark_at marks.now i ≡ Mark.Circular → set.contains found f.cell ≡ true) }
+{
+    let mut found = CellSet::new(alloc);
+    for place in 0..formulas.len() {
+        let Mark::Circular = marks[place] else {
+            continue;
+        };
+        found.add(formulas[place].cell)?;
+    }
+    Ok(found)
+}
+
+// The cells at some places.
+fn cells_at(alloc: Global, formulas: &[Formula], places: &[usize]) -> Result<Vec<Cell>, Memory>
+    requires { (p : ℕ) → p < length places.now → slice_index places.now p < length formulas.now }
+    ensures count { IfOk result (λ found. vec_len found ≡ length places.now) }
+    ensures each { IfOk result (λ found. (p : ℕ) → p < length places.now
+        → slice_get found.items p ≡ option_map (λ (f : Formula). f.cell) (slice_get formulas.now (slice_index places.now p))) }
+{
+    let mut found = Vec::new(alloc);
+    for &place in places {
+        found.push(formulas[place].cell)?;
+    }
+    Ok(found)
+}
