@@ -1,5 +1,5 @@
 // Sets of cells.
-ghost use Rattle.std.specs.Prelude.{◌≡◌, OnErr, OnOk};
+ghost use Rattle.std.specs.Prelude.{◌≡◌, IfOk, OnErr, OnOk};
 ghost use Rattle.std.specs.FinSet as set;
 ghost use Rattle.cell_refs.specs.Cells.{cell_cmp};
 
@@ -53,4 +53,19 @@ impl CellSet {
     {
         self.cells.contains(&cell)
     }
+
+    /// The cells of the set, in their order.
+    pub fn cells(&self, alloc: Global) -> Result<Vec<Cell>, Memory>
+        ensures { IfOk result (λ cells. set.from_list cells.items ≡ self.now) }
+    {
+        let cells = keys_of(&self.cells, alloc)?;
+        Ok(cells)
+    }
+}
+
+// The cells in a set of cells.
+fn keys_of(cells: &BTreeSet<Cell>, alloc: Global) -> Result<Vec<Cell>, Memory>
+    ensures { IfOk result (λ keys. keys.items ≡ cells.now.keys) }
+{
+    Ok(cells.iter().copied().collect(alloc)?)
 }

@@ -30,10 +30,6 @@ fn add_formula(formulas: &mut Vec<Formula>, book: &Workbook, cell: Cell) -> Resu
     ensures { IfOk result (λ _. map pair_of formulas.new.items
         ≡ with_areas (map pair_of formulas.old.items) cell (areas_said (entry (book_of book.now) cell))) }
 {
-    // Each text is on one of the sheets, though no contract says so.
-    if usize::from(cell.sheet.0) >= book.sheets().len() {
-        return Err(Memory);
-    }
     let Some(tree) = book.tree(cell) else {
         return Ok(());
     };

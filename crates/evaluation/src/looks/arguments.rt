@@ -2,6 +2,7 @@
 ghost use Rattle.std.specs.Prelude.{◌≡◌, ◌++◌, IfOk, OnOk, option_map};
 ghost use Rattle.recalculation.specs.Looking.{all_looks, outcomes};
 
+use crate::copy::copy_of;
 use crate::part::Part;
 use cell_refs::Cell;
 use sheet_model::{Arg, Memory};
@@ -54,17 +55,7 @@ pub(crate) fn outcomes(alloc: Global, args: &[Part]) -> Result<Option<Vec<Arg>>,
         let Some(value) = &arg.outcome else {
             return Ok(None);
         };
-        values.push(copy(alloc, value)?)?;
+        values.push(copy_of(alloc, value)?)?;
     }
     Ok(Some(values))
-}
-
-// An equal argument.
-fn copy(alloc: Global, arg: &Arg) -> Result<Arg, Memory>
-    ensures { IfOk result (λ equal. equal ≡ arg.now) }
-{
-    match arg {
-        Arg::One(value) => Ok(Arg::One(value.copy(alloc)?)),
-        Arg::Area(grid) => Ok(Arg::Area(grid.copy(alloc)?)),
-    }
 }

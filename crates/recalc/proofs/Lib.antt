@@ -1,0 +1,6 @@
+pub mod Walking
+pub mod Saying
+pub mod Within
+pub mod Right
+pub mod Answering
+pub mod Members

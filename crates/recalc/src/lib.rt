@@ -1,0 +1,17 @@
+//! The values of cells: each is computed once, in an order that the references give.
+#![tactic(auto)]
+
+mod circular;
+mod fill;
+mod recalculate;
+mod rows;
+mod seen;
+mod shown;
+mod walk;
+
+pub use recalculate::value;
+pub use sheet_model::Memory;
+pub use shown::Shown;
+
+#[cfg(test)]
+mod tests;
