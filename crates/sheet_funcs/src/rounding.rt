@@ -1,5 +1,5 @@
 // Numbers rounded, and powers.
-ghost use Rattle.std.specs.Prelude.{◌≡◌, IfOk, length, negsuc, pos, ◌≤ℤ◌};
+ghost use Rattle.std.specs.Prelude.{◌≡◌, IfOk, IsOk, length, negsuc, pos, ◌≤ℤ◌};
 ghost use Rattle.calculations.specs.Calculation.{exact, turned_into};
 ghost use Rattle.formula_ast.specs.Functions.{Takes};
 ghost use Rattle.formula_ast.specs.declared.func.Func.TheVariants as func;
@@ -22,6 +22,7 @@ pub fn abs_(args: &[Arg]) -> Result<Arg, FuncStop>
     requires { Takes func.Abs (length args.now) }
     ensures exact { IfOk result (λ answer. answer ≡ exact (of_one abs_of args.now)) }
     ensures narrow { Answers (of_one abs_of args.now) result }
+    ensures answer { IsOk result }
 {
     let [arg] = args else {
         unreachable!();
@@ -37,6 +38,7 @@ pub fn int(args: &[Arg]) -> Result<Arg, FuncStop>
     requires { Takes func.Int (length args.now) }
     ensures exact { IfOk result (λ answer. answer ≡ exact (of_one int_of args.now)) }
     ensures narrow { Answers (of_one int_of args.now) result }
+    ensures answer { IsOk result }
 {
     let [arg] = args else {
         unreachable!();
