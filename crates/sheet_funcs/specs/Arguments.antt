@@ -17,6 +17,11 @@ abbrev pub only_of : List Value → Value
 only_of (v ∷ []) = v
 only_of _ = Error kind.Value
 
+-- the one of some values; the error stands for none and for many
+abbrev pub one_of : List Value → Result Value ErrorKind
+one_of (v ∷ []) = Ok v
+one_of _ = Err kind.Value
+
 -- where one value is wanted: the single value, or the one element of an area
 abbrev pub value_of : Arg → Value
 value_of (One v) = v

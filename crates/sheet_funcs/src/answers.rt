@@ -1,5 +1,5 @@
 // Results of functions.
-ghost use Rattle.std.specs.Prelude.{◌≡◌};
+ghost use Rattle.std.specs.Prelude.{◌≡◌, IsOkUnless};
 ghost use Rattle.calculations.specs.Calculation.{Calculation};
 ghost use Rattle.fractions.specs.Rational.{ℚ};
 ghost use Rattle.fractions.specs.Whole.{whole_ℚ};
@@ -8,6 +8,7 @@ ghost use Rattle.sheet_funcs.specs.Arguments.{counted};
 ghost use Rattle.sheet_model.specs.Answers.{Answers};
 ghost use Rattle.sheet_model.specs.Grids.{IsFull};
 ghost use Rattle.sheet_model.specs.declared.grid.Arg.TheVariants.{Area, One};
+ghost use Rattle.sheet_model.specs.declared.memory.FuncStop.TheVariants as stops;
 ghost use Rattle.sheet_model.specs.declared.value.Value.TheVariants.{Error, Logical, Number};
 
 use cell_refs::ErrorKind;
@@ -37,7 +38,8 @@ pub(crate) fn logical(holds: bool) -> Arg
 
 /// A calculated number as a result.
 pub(crate) fn calculated(outcome: Result<Frac, FuncStop>) -> Result<Arg, FuncStop>
-    ensures { (c : Calculation ℚ) → Answers c outcome → Answers (counted c) result }
+    ensures answer { (c : Calculation ℚ) → Answers c outcome → Answers (counted c) result }
+    ensures stop { IsOkUnless outcome stops.Wide → IsOkUnless result stops.Wide }
 {
     match outcome {
         Ok(found) => Ok(number(found)),

@@ -1,5 +1,5 @@
 // SUMIF and COUNTIF.
-ghost use Rattle.std.specs.Prelude.{◌≡◌, ◌<◌, ◌^◌, IfOk, filter, length, map, zip};
+ghost use Rattle.std.specs.Prelude.{◌≡◌, ◌<◌, ◌^◌, IfOk, IsOk, filter, length, map, zip};
 ghost use Rattle.std.specs.Result.{result_map_both};
 ghost use Rattle.calculations.specs.Calculation.{exact};
 ghost use Rattle.formula_ast.specs.Functions.{Takes};
@@ -86,6 +86,7 @@ pub fn countif(args: &[Arg]) -> Result<Arg, FuncStop>
     requires { Takes func.CountIf (length args.now) }
     ensures exact { IfOk result (λ answer. answer ≡ exact (of_two countif_of args.now)) }
     ensures narrow { Answers (of_two countif_of args.now) result }
+    ensures answer { IsOk result }
 {
     let [tested, criterion] = args else {
         unreachable!();

@@ -1,5 +1,5 @@
 // N, ISNUMBER, ISBLANK, ROWS and COLUMNS.
-ghost use Rattle.std.specs.Prelude.{◌≡◌, IfOk, length};
+ghost use Rattle.std.specs.Prelude.{◌≡◌, IfOk, IsOk, length};
 ghost use Rattle.calculations.specs.Calculation.{exact};
 ghost use Rattle.formula_ast.specs.Functions.{Takes};
 ghost use Rattle.formula_ast.specs.declared.func.Func.TheVariants as func;
@@ -17,6 +17,7 @@ pub fn n_(args: &[Arg]) -> Result<Arg, FuncStop>
     requires { Takes func.N (length args.now) }
     ensures exact { IfOk result (λ answer. answer ≡ exact (of_one n_of args.now)) }
     ensures narrow { Answers (of_one n_of args.now) result }
+    ensures answer { IsOk result }
 {
     let [arg] = args else {
         unreachable!();
@@ -44,6 +45,7 @@ pub fn isnumber(args: &[Arg]) -> Result<Arg, FuncStop>
     requires { Takes func.IsNumber (length args.now) }
     ensures exact { IfOk result (λ answer. answer ≡ exact (of_one isnumber_of args.now)) }
     ensures narrow { Answers (of_one isnumber_of args.now) result }
+    ensures answer { IsOk result }
 {
     let [arg] = args else {
         unreachable!();
@@ -57,6 +59,7 @@ pub fn isblank(args: &[Arg]) -> Result<Arg, FuncStop>
     requires { Takes func.IsBlank (length args.now) }
     ensures exact { IfOk result (λ answer. answer ≡ exact (of_one isblank_of args.now)) }
     ensures narrow { Answers (of_one isblank_of args.now) result }
+    ensures answer { IsOk result }
 {
     let [arg] = args else {
         unreachable!();
@@ -70,6 +73,7 @@ pub fn rows(args: &[Arg]) -> Result<Arg, FuncStop>
     requires { Takes func.Rows (length args.now) }
     ensures exact { IfOk result (λ answer. answer ≡ exact (of_one rows_of args.now)) }
     ensures narrow { Answers (of_one rows_of args.now) result }
+    ensures answer { IsOk result }
 {
     let [arg] = args else {
         unreachable!();
@@ -82,6 +86,7 @@ pub fn columns(args: &[Arg]) -> Result<Arg, FuncStop>
     requires { Takes func.Columns (length args.now) }
     ensures exact { IfOk result (λ answer. answer ≡ exact (of_one columns_of args.now)) }
     ensures narrow { Answers (of_one columns_of args.now) result }
+    ensures answer { IsOk result }
 {
     let [arg] = args else {
         unreachable!();

@@ -2,7 +2,7 @@
 ghost use Rattle.std.specs.Prelude.{◌≡◌, ◌∷◌, [], IfOk, MatchResult};
 ghost use Rattle.std.specs.Option.{option_to_list};
 ghost use Rattle.std.specs.Result.{result_map_both};
-ghost use Rattle.sheet_funcs.specs.Arguments.{all_or_error, elements_of, first_error, grid_of, value_of};
+ghost use Rattle.sheet_funcs.specs.Arguments.{all_or_error, elements_of, first_error, grid_of, one_of, value_of};
 ghost use Rattle.sheet_funcs.specs.Collected.{behind, collected};
 ghost use Rattle.sheet_funcs.specs.Items.{items_in, number_at, numbers_among, numbers_of};
 ghost use Rattle.sheet_funcs.specs.Rounding.{number_of, place_of};
@@ -16,7 +16,8 @@ use std::alloc::Global;
 
 /// The single value, or the one element of an area; the error stands for an area of another size.
 pub fn value_of(arg: &Arg) -> Result<&Value, ErrorKind>
-    ensures { MatchResult result (λ value. value.now ≡ value_of arg.now) (λ kind. Error kind ≡ value_of arg.now) }
+    ensures value { MatchResult result (λ value. value.now ≡ value_of arg.now) (λ kind. Error kind ≡ value_of arg.now) }
+    ensures one { result_map_both (λ value. value.now) (λ kind. kind) result ≡ one_of (elements_of arg.now) }
 {
     match elements_of(arg) {
         [value] => Ok(value),

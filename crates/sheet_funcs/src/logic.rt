@@ -1,5 +1,5 @@
 // Logicals.
-ghost use Rattle.std.specs.Prelude.{◌≡◌, IfOk, length};
+ghost use Rattle.std.specs.Prelude.{◌≡◌, IfOk, IsOk, length};
 ghost use Rattle.std.specs.List.{filter_map};
 ghost use Rattle.std.specs.Option.{option_to_list};
 ghost use Rattle.calculations.specs.Calculation.{exact};
@@ -21,6 +21,7 @@ pub fn and_(args: &[Arg]) -> Result<Arg, FuncStop>
     requires { Takes func.And (length args.now) }
     ensures exact { IfOk result (λ answer. answer ≡ exact (and_of args.now)) }
     ensures narrow { Answers (and_of args.now) result }
+    ensures answer { IsOk result }
 {
     match seen_in_all(args) {
         Ok(seen) if seen.is_some() => Ok(logical(!seen.some_false)),
@@ -34,6 +35,7 @@ pub fn or_(args: &[Arg]) -> Result<Arg, FuncStop>
     requires { Takes func.Or (length args.now) }
     ensures exact { IfOk result (λ answer. answer ≡ exact (or_of args.now)) }
     ensures narrow { Answers (or_of args.now) result }
+    ensures answer { IsOk result }
 {
     match seen_in_all(args) {
         Ok(seen) if seen.is_some() => Ok(logical(seen.some_true)),
@@ -47,6 +49,7 @@ pub fn not_(args: &[Arg]) -> Result<Arg, FuncStop>
     requires { Takes func.Not (length args.now) }
     ensures exact { IfOk result (λ answer. answer ≡ exact (of_one not_of args.now)) }
     ensures narrow { Answers (of_one not_of args.now) result }
+    ensures answer { IsOk result }
 {
     let [arg] = args else {
         unreachable!();
@@ -62,6 +65,7 @@ pub fn true_(args: &[Arg]) -> Result<Arg, FuncStop>
     requires { Takes func.True (length args.now) }
     ensures exact { IfOk result (λ answer. answer ≡ exact true_of) }
     ensures narrow { Answers true_of result }
+    ensures answer { IsOk result }
 {
     let _no_arguments = args;
     Ok(logical(true))
@@ -72,6 +76,7 @@ pub fn false_(args: &[Arg]) -> Result<Arg, FuncStop>
     requires { Takes func.False (length args.now) }
     ensures exact { IfOk result (λ answer. answer ≡ exact false_of) }
     ensures narrow { Answers false_of result }
+    ensures answer { IsOk result }
 {
     let _no_arguments = args;
     Ok(logical(false))

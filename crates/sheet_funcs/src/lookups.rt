@@ -1,5 +1,5 @@
 // MATCH, VLOOKUP and HLOOKUP.
-ghost use Rattle.std.specs.Prelude.{◌≡◌, ◌≢◌, ◌<◌, ◌≤◌, ◌+◌, ◌||◌, ◌==◌, IfOk, length, pos, true};
+ghost use Rattle.std.specs.Prelude.{◌≡◌, ◌≢◌, ◌<◌, ◌≤◌, ◌+◌, ◌||◌, ◌==◌, IfOk, IsOk, length, pos, true};
 ghost use Rattle.calculations.specs.Calculation.{exact};
 ghost use Rattle.cell_refs.specs.declared.error_kind.ErrorKind.{ErrorKind};
 ghost use Rattle.formula_ast.specs.Functions.{Takes};
@@ -38,6 +38,7 @@ pub fn match_place(args: &[Arg]) -> Result<Arg, FuncStop>
     requires { Takes func.Match (length args.now) }
     ensures exact { IfOk result (λ answer. answer ≡ exact (match_of args.now)) }
     ensures narrow { Answers (match_of args.now) result }
+    ensures answer { IsOk result }
 {
     match args {
         [key, keys] => Ok(Arg::One(place_value(pick_by(key, keys, Ok(Frac::from_whole(1)))))),

@@ -1,5 +1,5 @@
 // Products of grids, and their rows and columns exchanged.
-ghost use Rattle.std.specs.Prelude.{◌≡◌, ◌<◌, ◌∷◌, ◌++◌, ◌*◌, ◌+◌, IfOk, MatchResult, OnOk, Err, Some, length, map, slice_index_or};
+ghost use Rattle.std.specs.Prelude.{◌≡◌, ◌<◌, ◌∷◌, ◌++◌, ◌*◌, ◌+◌, IfOk, IsOkUnless, MatchResult, OnOk, Err, Some, length, map, slice_index_or};
 ghost use Rattle.std.specs.List.{list_all};
 ghost use Rattle.std.specs.Result.{result_map_both};
 ghost use Rattle.calculations.specs.Calculation.{exact, for_each, narrow};
@@ -10,6 +10,7 @@ ghost use Rattle.sheet_funcs.specs.Matrices.{are_factors, behind_items, grid_pro
 ghost use Rattle.sheet_funcs.specs.Products.{all_elements, dot, factor, factors_at, is_of_size, mmult_of, places_of, product_at, product_of, sumproduct_of, transpose_of, transposed};
 ghost use Rattle.sheet_funcs.specs.Sums.{is_number};
 ghost use Rattle.sheet_model.specs.Answers.{Answers};
+ghost use Rattle.sheet_model.specs.declared.memory.FuncStop.TheVariants as stops;
 ghost use Rattle.sheet_model.specs.declared.value.Value.TheVariants.{Empty};
 
 use crate::answers::{area, calculated, fault};
@@ -26,6 +27,7 @@ pub fn sumproduct(args: &[Arg]) -> Result<Arg, FuncStop>
     requires { Takes func.SumProduct (length args.now) }
     ensures exact { IfOk result (λ answer. answer ≡ exact (sumproduct_of args.now)) }
     ensures narrow { Answers (sumproduct_of args.now) result }
+    ensures stop { IsOkUnless result stops.Wide }
 {
     let [first, others @ ..] = args else {
         unreachable!();
@@ -99,7 +101,8 @@ fn is_of_size(first: &Arg, other: &Arg) -> bool
 
 // The sum of the products in so many places.
 fn dot(args: &[Arg], count: usize) -> Result<Frac, FuncStop>
-    ensures { Answers (dot (map (factors_at (map grid_of args.now)) (below count))) result }
+    ensures answer { Answers (dot (map (factors_at (map grid_of args.now)) (below count))) result }
+    ensures stop { IsOkUnless result stops.Wide }
 {
     let mut total = Frac::zero();
     for place in 0..count {
@@ -110,7 +113,8 @@ fn dot(args: &[Arg], count: usize) -> Result<Frac, FuncStop>
 
 // The product of the factors in one place.
 fn product_in(args: &[Arg], place: usize) -> Result<Frac, FuncStop>
-    ensures { Answers (product_of (factors_at (map grid_of args.now) place)) result }
+    ensures answer { Answers (product_of (factors_at (map grid_of args.now) place)) result }
+    ensures stop { IsOkUnless result stops.Wide }
 {
     let [first, others @ ..] = args else {
         return Ok(Frac::one());
@@ -120,7 +124,8 @@ fn product_in(args: &[Arg], place: usize) -> Result<Frac, FuncStop>
 
 // The product of a number and the factors in one place.
 fn product_from(first: Frac, others: &[Arg], place: usize) -> Result<Frac, FuncStop>
-    ensures { Answers (product_of (first ∷ factors_at (map grid_of others.now) place)) result }
+    ensures answer { Answers (product_of (first ∷ factors_at (map grid_of others.now) place)) result }
+    ensures stop { IsOkUnless result stops.Wide }
 {
     let mut product = first;
     for other in others {

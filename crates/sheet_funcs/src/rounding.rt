@@ -1,5 +1,5 @@
 // Numbers rounded, and powers.
-ghost use Rattle.std.specs.Prelude.{◌≡◌, IfOk, length, negsuc, pos, ◌≤ℤ◌};
+ghost use Rattle.std.specs.Prelude.{◌≡◌, IfOk, IsOk, IsOkUnless, length, negsuc, pos, ◌≤ℤ◌};
 ghost use Rattle.calculations.specs.Calculation.{exact, turned_into};
 ghost use Rattle.formula_ast.specs.Functions.{Takes};
 ghost use Rattle.formula_ast.specs.declared.func.Func.TheVariants as func;
@@ -8,6 +8,7 @@ ghost use Rattle.sheet_funcs.specs.Rounding.{abs_of, half, int_of, magnitude, mo
 ghost use Rattle.sheet_model.specs.Answers.{Answers};
 ghost use Rattle.sheet_model.specs.Operators.{raised};
 ghost use Rattle.sheet_model.specs.declared.grid.Arg.TheVariants.{One};
+ghost use Rattle.sheet_model.specs.declared.memory.FuncStop.TheVariants as stops;
 
 use crate::answers::{calculated, fault, number, whole};
 use crate::items::{number_of, place_of};
@@ -22,6 +23,7 @@ pub fn abs_(args: &[Arg]) -> Result<Arg, FuncStop>
     requires { Takes func.Abs (length args.now) }
     ensures exact { IfOk result (λ answer. answer ≡ exact (of_one abs_of args.now)) }
     ensures narrow { Answers (of_one abs_of args.now) result }
+    ensures answer { IsOk result }
 {
     let [arg] = args else {
         unreachable!();
@@ -37,6 +39,7 @@ pub fn int(args: &[Arg]) -> Result<Arg, FuncStop>
     requires { Takes func.Int (length args.now) }
     ensures exact { IfOk result (λ answer. answer ≡ exact (of_one int_of args.now)) }
     ensures narrow { Answers (of_one int_of args.now) result }
+    ensures answer { IsOk result }
 {
     let [arg] = args else {
         unreachable!();
@@ -52,6 +55,7 @@ pub fn mod_(args: &[Arg]) -> Result<Arg, FuncStop>
     requires { Takes func.Mod (length args.now) }
     ensures exact { IfOk result (λ answer. answer ≡ exact (of_two mod_of args.now)) }
     ensures narrow { Answers (of_two mod_of args.now) result }
+    ensures stop { IsOkUnless result stops.Wide }
 {
     let [dividend, divisor] = args else {
         unreachable!();
@@ -67,6 +71,7 @@ pub fn round(args: &[Arg]) -> Result<Arg, FuncStop>
     requires { Takes func.Round (length args.now) }
     ensures exact { IfOk result (λ answer. answer ≡ exact (round_of args.now)) }
     ensures narrow { Answers (round_of args.now) result }
+    ensures stop { IsOkUnless result stops.Wide }
 {
     match args {
         [number] => rounded_value(number, Ok(0)),
@@ -107,7 +112,8 @@ fn rounded(x: Frac) -> Frac
 
 // What is left of x by y.
 fn remainder(x: Frac, y: Frac) -> Result<Arg, FuncStop>
-    ensures { Answers (remainder x y) result }
+    ensures answer { Answers (remainder x y) result }
+    ensures stop { IsOkUnless result stops.Wide }
 {
     if y.is_zero() {
         return Ok(fault(ErrorKind::Div0));
@@ -126,7 +132,8 @@ fn raised(alloc: Global, x: Frac, y: Frac) -> Result<Arg, FuncStop>
 
 // An argument rounded at a place; the first that is none is the result.
 fn rounded_value(arg: &Arg, places: Result<i128, ErrorKind>) -> Result<Arg, FuncStop>
-    ensures { Answers (on_ok (number_of arg.now) (λ x. on_ok places (rounded_at x))) result }
+    ensures answer { Answers (on_ok (number_of arg.now) (λ x. on_ok places (rounded_at x))) result }
+    ensures stop { IsOkUnless result stops.Wide }
 {
     match (number_of(arg), places) {
         (Ok(x), Ok(places)) => rounded_at(x, places),
@@ -136,7 +143,8 @@ fn rounded_value(arg: &Arg, places: Result<i128, ErrorKind>) -> Result<Arg, Func
 
 // A number rounded at a place, half away from zero.
 fn rounded_at(x: Frac, places: i128) -> Result<Arg, FuncStop>
-    ensures { Answers (rounded_at x places) result }
+    ensures answer { Answers (rounded_at x places) result }
+    ensures stop { IsOkUnless result stops.Wide }
 {
     if places < -1000 || places > 1000 {
         return Ok(fault(ErrorKind::Num));
@@ -153,7 +161,8 @@ fn rounded_at(x: Frac, places: i128) -> Result<Arg, FuncStop>
 fn rounded_half_up(x: Frac, places: i32) -> Result<Frac, FuncStop>
     requires low { negsuc 999 ≤ℤ places }
     requires high { places ≤ℤ pos 1000 }
-    ensures { Answers (rounded_half_up x places) result }
+    ensures answer { Answers (rounded_half_up x places) result }
+    ensures stop { IsOkUnless result stops.Wide }
 {
     let scale = raise(Frac::from_whole(10), places)?;
     let scaled = multiply(x, scale)?;

@@ -1,5 +1,5 @@
 // Sums, and what else is made of the numbers of some arguments.
-ghost use Rattle.std.specs.Prelude.{◌≡◌, ◌∷◌, IfOk, filter, length};
+ghost use Rattle.std.specs.Prelude.{◌≡◌, ◌∷◌, IfOk, IsOk, filter, length};
 ghost use Rattle.calculations.specs.Calculation.{exact};
 ghost use Rattle.formula_ast.specs.Functions.{Takes};
 ghost use Rattle.formula_ast.specs.declared.func.Func.TheVariants as func;
@@ -43,6 +43,7 @@ pub fn count(args: &[Arg]) -> Result<Arg, FuncStop>
     requires { Takes func.Count (length args.now) }
     ensures exact { IfOk result (λ answer. answer ≡ exact (count_of args.now)) }
     ensures narrow { Answers (count_of args.now) result }
+    ensures answer { IsOk result }
 {
     let mut count = 0;
     for arg in args {

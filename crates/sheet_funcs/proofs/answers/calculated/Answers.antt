@@ -5,8 +5,8 @@ use Rattle.sheet_model.specs.declared.value.Value.TheVariants.{Number}
 use Rattle.sheet_model.proofs.Spreading.{turned_answers}
 use Rattle.sheet_funcs.proofs.answers.calculated.Goals as goal
 
-pub returns-in-Ok : goal.returns-in-Ok
-returns-in-Ok c d h = rw c.number.ensures (turned_answers (λ x. One (Number x)) d (Ok c.in-Ok.found) (subst (λ r. Answers d r) c.in-Ok.is h))
+pub returns-in-Ok-clause-answer : goal.returns-in-Ok-clause-answer
+returns-in-Ok-clause-answer c d h = rw c.number.ensures (turned_answers (λ x. One (Number x)) d (Ok c.in-Ok.found) (subst (λ r. Answers d r) c.in-Ok.is h))
 
-pub returns-in-Err : goal.returns-in-Err
-returns-in-Err c d h = turned_answers (λ x. One (Number x)) d (Err c.in-Err.stop) (subst (λ r. Answers d r) c.in-Err.is h)
+pub returns-in-Err-clause-answer : goal.returns-in-Err-clause-answer
+returns-in-Err-clause-answer c d h = turned_answers (λ x. One (Number x)) d (Err c.in-Err.stop) (subst (λ r. Answers d r) c.in-Err.is h)

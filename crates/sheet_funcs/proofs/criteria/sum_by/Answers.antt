@@ -22,7 +22,7 @@ returns-in-Ok-2 c =
     (same_size _ _ _ _ (sym c.rows_of.ensures ∙ c.if-rows_of.false ∙ c.rows_of-2.ensures) (sym c.columns_of.ensures ∙ c.if-columns_of.false ∙ c.columns_of-else-rows_of.ensures))
     c.full_elements.ensures.items c.full_elements-2.ensures.items
     (sym (ap (result_map_both (λ numbers. numbers.items) (λ kind. kind)) c.in-Ok-2.is) ∙ c.in_ok-numbers.ensures))
-    (c.calculated.ensures (total c.in-Ok-2.numbers.items) (subst (λ xs. Answers (total xs) c.total.result) c.deref.ensures.value c.total.ensures))
+    (c.calculated.ensures.answer (total c.in-Ok-2.numbers.items) (subst (λ xs. Answers (total xs) c.total.result) c.deref.ensures.value c.total.ensures))
 
 pub returns-in-Err-2 : goal.returns-in-Err-2
 returns-in-Err-2 c =

@@ -12,7 +12,7 @@ returns-clause-narrow c =
     sumproduct_answers args c.first-item.result others (length c.elements_of.result.now) c.calculated.result
     (first_others args c.first-item.result c.in-len1-up.len_at_least ∙ ap (λ a. a ∷ others) (sym c.first-item.is))
     c.in_default-first_error_in.ensures (sym c.are_of_size.ensures ∙ c.if-not-are_of_size.false) (ap length c.elements_of.ensures)
-    (c.calculated.ensures (dot (map (factors_at (map grid_of args)) (below (length c.elements_of.result.now)))) c.dot.ensures)
+    (c.calculated.ensures.answer (dot (map (factors_at (map grid_of args)) (below (length c.elements_of.result.now)))) c.dot.ensures.answer)
 
 pub returns-clause-exact : goal.returns-clause-exact
 returns-clause-exact c = answer-exact (sumproduct_of c.args.args.now) c.calculated.result (returns-clause-narrow c)

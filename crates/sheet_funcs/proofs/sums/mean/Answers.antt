@@ -17,4 +17,4 @@ divide-requires c h =
 pub returns : goal.returns
 returns c =
     let same : to_z w128 (length c.args.numbers.now) ≡ pos (length c.args.numbers.now) = omega (arith, ints) in
-    mean_answers c.args.numbers.now c.in_ok-total.total c.whole.result c.divide.result c.calculated.result (sym c.is_empty.ensures ∙ c.if-is_empty.false) (c.whole.ensures ∙ ap whole_ℚ same) c.in_ok-total.ensures c.divide.ensures c.calculated.ensures
+    mean_answers c.args.numbers.now c.in_ok-total.total c.whole.result c.divide.result c.calculated.result (sym c.is_empty.ensures ∙ c.if-is_empty.false) (c.whole.ensures ∙ ap whole_ℚ same) c.in_ok-total.ensures c.divide.ensures c.calculated.ensures.answer
