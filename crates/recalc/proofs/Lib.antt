@@ -4,3 +4,4 @@ pub mod Within
 pub mod Right
 pub mod Answering
 pub mod Members
+pub mod Rounding

@@ -29,7 +29,7 @@ use Rattle.recalc.proofs.Walking.{equal_of, same_row}
 use Rattle.recalc.proofs.Within.{contains_any, refers_any}
 
 -- the narrow value of a cell, by whether it is circular
-abbrev known_by : Book → Bool → Option Entry → Option Value
+abbrev pub known_by : Book → Bool → Option Entry → Option Value
 known_by book circular e = if circular then Some (value.Error error.Circular) else entry_known (known book no_overriding) e
 
 -- whether it is wide
@@ -37,7 +37,7 @@ abbrev wide_by : Book → Bool → Option Entry → Bool
 wide_by book circular e = not circular && entry_is_wide (known book no_overriding) e
 
 -- what isn't a formula isn't circular
-not_circular : (e : Option Entry) (w : Bool) → is_formula e ≡ false → (is_formula e && w) ≡ false
+pub not_circular : (e : Option Entry) (w : Bool) → is_formula e ≡ false → (is_formula e && w) ≡ false
 not_circular e w h = ap (λ b. b && w) h
 
 -- cells are known alike where they have the same values

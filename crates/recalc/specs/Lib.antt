@@ -1,3 +1,4 @@
 pub mod Showing
 pub mod Rows
 pub mod Walks
+pub mod Rounds

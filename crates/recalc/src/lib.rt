@@ -4,12 +4,14 @@
 mod circular;
 mod fill;
 mod recalculate;
+mod rounds;
 mod rows;
 mod seen;
 mod shown;
 mod walk;
 
 pub use recalculate::value;
+pub use rounds::known_in_rounds;
 pub use sheet_model::Memory;
 pub use shown::Shown;
 

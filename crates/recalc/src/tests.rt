@@ -1,6 +1,6 @@
 // Values of cells. What is expected follows from the rules by hand.
 
-use crate::{Shown, value};
+use crate::{Shown, known_in_rounds, value};
 use cell_refs::{Cell, SheetId, print_cell};
 use dep_table::Deps;
 use sheet_model::Value;
@@ -165,5 +165,49 @@ fn names_and_edits(rt: HostRuntime) -> Result<(), Fail> {
     }
     assert!(rt; workbook.set(first, "7").is_ok());
     assert!(rt; shown(rt.alloc(), &workbook, 0, 2)?.as_str() == "number 8");
+    Ok(())
+}
+
+// The narrow value that the definition gives, as a text; none where it has none.
+fn defined(alloc: Global, workbook: &Workbook) -> Result<String, Fail> {
+    let cell = Cell {
+        sheet: SheetId(0),
+        row: 0,
+        col: 0,
+    };
+    let Ok(deps) = Deps::open(alloc, workbook) else {
+        return Err(Fail::new("memory ran out"));
+    };
+    let mut to = String::new(alloc);
+    match known_in_rounds(alloc, workbook, &deps, cell) {
+        Ok(Some(value)) => value_text(&value, &mut to)?,
+        Ok(None) => to.push_str("none")?,
+        Err(_) => return Err(Fail::new("memory ran out")),
+    }
+    Ok(to)
+}
+
+#[test]
+fn values_by_the_definition(rt: HostRuntime) -> Result<(), Fail> {
+    for (sheet, want) in [
+        ("=-2^2\n", "number 4"),
+        ("=2^3^2\n", "number 64"),
+        ("=5%\n", "number 0.05"),
+        ("=1/3+1/6\n", "number 0.5"),
+        ("\"=\"\"a\"\"=\"\"A\"\"\"\n", "logical TRUE"),
+        ("=SUM({1;2|3;4})\n", "number 10"),
+        ("=MMULT({1;2|3;4};{5|6})\n", "number 17"),
+        ("=MATCH(4;{1;3;5};1)\n", "number 2"),
+        ("=MATCH(4;{1;3;5};0)\n", "error #N/A"),
+        ("=1/0\n", "error #DIV/0!"),
+        ("=170141183460469231731687303715884105727+1\n", "none"),
+        ("=B1,=A1\n", "error #CIRCULAR"),
+        ("=IF(TRUE;1;A1)\n", "error #CIRCULAR"),
+        ("=B1,=C1,1\n", "number 1"),
+        ("=B1+C1,=D1*2,5,=C1+1\n", "number 17"),
+    ] {
+        let workbook = opened(rt.alloc(), sheet.as_bytes(), b"")?;
+        assert!(rt; defined(rt.alloc(), &workbook)?.as_str() == want, "{sheet}");
+    }
     Ok(())
 }
