@@ -1,0 +1,4 @@
+pub mod Commands
+pub mod Addresses
+pub mod Steps
+pub mod Lines

@@ -1,0 +1,19 @@
+//! The commands of a script: what a record says, what it does to a workbook, and what is printed.
+#![tactic(auto)]
+
+mod address;
+mod answer;
+mod command;
+mod lines;
+mod locate;
+mod steps;
+
+pub use answer::Answer;
+pub use command::Command;
+pub use lines::line;
+pub use locate::Refusal;
+pub use sheet_model::Memory;
+pub use steps::apply;
+
+#[cfg(test)]
+mod tests;
