@@ -1,0 +1,5 @@
+pub mod Others
+pub mod Quotes
+pub mod Marks
+pub mod Naming
+pub mod Saying

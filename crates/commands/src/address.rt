@@ -1,6 +1,6 @@
 // Reading an address with its sheet.
-ghost use Rattle.std.specs.Prelude.{◌≡◌, ◌<◌, ℕ, IfNone, IfOk, IfSome, false, length, option_map, slice_index, string_bytes, true};
-ghost use Rattle.std.specs.Char.{is_ascii_alphabetic};
+ghost use Rattle.std.specs.Prelude.{◌≡◌, ◌<◌, ◌≤◌, ℕ, IfNone, IfOk, IfSome, false, length, option_map, slice_index, string_bytes, true};
+ghost use Rattle.std.specs.Char.{is_ascii_alphabetic, is_ascii_digit};
 ghost use Rattle.std.specs.List.{list_all, prefix_len};
 ghost use Rattle.cell_refs.specs.Address.{without_dollar};
 ghost use Rattle.cell_refs.specs.Names.{begins_word, goes_on_word, is_plain};
@@ -12,7 +12,9 @@ use std::alloc::{AllocError, Global};
 pub(crate) fn at_last_mark(text: &str) -> Option<(&str, &str)>
     ensures { option_map (λ p. (p.0.now, p.1.now)) result ≡ at_last_mark text.now }
 {
-    let place = last_mark(text.as_bytes())?;
+    let Some(place) = last_mark(text.as_bytes()) else {
+        return None;
+    };
     Some((&text[..place], &text[place + 1..]))
 }
 
@@ -70,15 +72,16 @@ fn unquoted(alloc: Global, text: &str) -> Result<Option<String>, AllocError>
     let mut name = String::new(alloc);
     let mut is_behind_quote = false;
     for c in text.chars() {
-        if c == '\'' {
+        if c != '\'' {
             if is_behind_quote {
-                name.push(c)?;
+                return Ok(None);
             }
-            is_behind_quote = !is_behind_quote;
-        } else if is_behind_quote {
-            return Ok(None);
-        } else {
             name.push(c)?;
+        } else if is_behind_quote {
+            name.push(c)?;
+            is_behind_quote = false;
+        } else {
+            is_behind_quote = true;
         }
     }
     if !is_behind_quote {
@@ -146,7 +149,8 @@ fn skip_dollar(text: &[u8]) -> &[u8]
 
 // How many letters the text begins with.
 fn count_letters(text: &[u8]) -> usize
-    ensures { result ≡ prefix_len is_ascii_alphabetic text.now }
+    ensures count { result ≡ prefix_len is_ascii_alphabetic text.now }
+    ensures within { result ≤ length text.now }
 {
     for (i, byte) in text.iter().enumerate() {
         if !byte.is_ascii_alphabetic() {
@@ -157,8 +161,16 @@ fn count_letters(text: &[u8]) -> usize
 }
 
 // Whether these are digits, at least one.
+#[tactic(auto, using(crate::proofs::Marks::all_digits))]
 fn is_number(digits: &[u8]) -> bool
     ensures { result ≡ is_number digits.now }
 {
-    !digits.is_empty() && digits.iter().all(|b| b.is_ascii_digit())
+    !digits.is_empty() && are_digits(digits)
+}
+
+// Whether each byte is a digit.
+fn are_digits(digits: &[u8]) -> bool
+    ensures { result ≡ list_all is_ascii_digit digits.now }
+{
+    digits.iter().all(|b| b.is_ascii_digit())
 }
