@@ -10,7 +10,7 @@ mod steps;
 
 pub use answer::Answer;
 pub use command::Command;
-pub use lines::line;
+pub use lines::{can_be_said, line};
 pub use locate::Refusal;
 pub use sheet_model::Memory;
 pub use steps::apply;

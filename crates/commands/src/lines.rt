@@ -1,11 +1,11 @@
 // The lines that are printed.
-ghost use Rattle.std.specs.Prelude.{◌≡◌, ◌++◌, IfOk, OnOk, codes, encode_utf8, string_bytes};
+ghost use Rattle.std.specs.Prelude.{◌≡◌, ◌++◌, ◌↔◌, IfOk, IsTrue, OnOk, codes, encode_utf8, string_bytes};
 ghost use Rattle.cell_refs.specs.ErrorText.{error_text};
 ghost use Rattle.frac128.specs.Printed.{printed};
 ghost use Rattle.commands.specs.Lines.{CanBeSaid, IsListed, answer_text, cell_with_sheet, doubled, said, value_text};
 
 use crate::answer::Answer;
-use cell_refs::{Cell, SheetNames, print_cell};
+use cell_refs::{COLUMNS, Cell, ROWS, SheetNames, print_cell};
 use sheet_model::{Memory, Value};
 use std::alloc::Global;
 
@@ -18,6 +18,23 @@ pub fn line(alloc: Global, answer: &Answer, sheets: &SheetNames) -> Result<Strin
     say(answer, sheets, &mut text)?;
     text.push_str("\n")?;
     Ok(text)
+}
+
+/// Whether a wide cell, where one is answered, lies on one of the sheets.
+pub fn can_be_said(answer: &Answer, sheets: &SheetNames) -> bool
+    ensures { IsTrue result ↔ CanBeSaid sheets.now answer.now }
+{
+    match answer {
+        Answer::WideCell(cell) => is_listed(cell, sheets),
+        _ => true,
+    }
+}
+
+// Whether the cell lies on one of the sheets.
+fn is_listed(cell: &Cell, sheets: &SheetNames) -> bool
+    ensures { IsTrue result ↔ IsListed sheets.now cell.now }
+{
+    usize::from(cell.sheet.0) < sheets.len() && cell.row < ROWS && cell.col < COLUMNS
 }
 
 // Appends an answer.
