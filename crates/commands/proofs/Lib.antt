@@ -3,3 +3,5 @@ pub mod Quotes
 pub mod Marks
 pub mod Naming
 pub mod Saying
+pub mod Spelled
+pub mod Unspelled

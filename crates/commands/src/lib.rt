@@ -4,12 +4,14 @@
 mod address;
 mod answer;
 mod command;
+mod laws;
 mod lines;
 mod locate;
 mod steps;
 
 pub use answer::Answer;
 pub use command::Command;
+pub use laws::addresses_are_spelled;
 pub use lines::{can_be_said, line};
 pub use locate::Refusal;
 pub use sheet_model::Memory;
