@@ -5,3 +5,4 @@ pub mod Naming
 pub mod Saying
 pub mod Spelled
 pub mod Unspelled
+mod Examples

@@ -1,10 +1,9 @@
 -- What is spelled is read as an address.
-use Rattle.std.proofs.Common.{◌≡◌, ◌∙◌, ◌⊎◌, inl, inr, ℕ, suc, ◌+◌, ◌<◌, Bool, true, false, cond, List, [], ◌∷◌, ◌++◌, length, take, drop, Option, Some, None, refl, sym, ap, ap₂, subst, append-nil, arith}
+use Rattle.std.proofs.Common.{◌≡◌, ◌∙◌, inl, inr, ℕ, suc, ◌+◌, ◌<◌, Bool, true, false, cond, List, [], ◌∷◌, ◌++◌, length, take, drop, Some, None, refl, sym, ap, ap₂, subst, append-nil, arith}
 use Rattle.std.specs.Prelude.{◌==◌, ◌&&◌, nat_lt, option_map}
 use Rattle.std.specs.Option.{option_and_then}
 use Rattle.std.specs.Char.{is_ascii_alphabetic, is_ascii_digit}
 use Rattle.std.specs.List.{list_all, prefix_len}
-use Rattle.std.specs.Str.{all_ascii_digits}
 use Rattle.std.specs.Str.Parse.{digits_value}
 use Rattle.std.proofs.lemmas.Bool.{eqb-true, lt-ltb}
 use Rattle.std.proofs.lemmas.Bool.Decides.{nat_tests}
@@ -40,10 +39,10 @@ word_no_quote b h = grind (arith, nat_tests, h)
 
 -- ---- marks
 none_before : (p : ℕ → Bool) → ((b : ℕ) → p b ≡ true → is_mark b ≡ false) → (xs text : List ℕ) → list_all p xs ≡ true → at_last_mark text ≡ None → at_last_mark (xs ++ text) ≡ None
-none_before p no [] text all none = none
-none_before p no (x ∷ xs) text all none =
+none_before p other [] text all none = none
+none_before p other (x ∷ xs) text all none =
     let h = both (p x) (list_all p xs) all in
-    ap (λ o. with_byte x o (xs ++ text)) (none_before p no xs text h.1 none) ∙ ap (λ t. cond t (Some ([], xs ++ text)) None) (no x h.0)
+    ap (λ o. with_byte x o (xs ++ text)) (none_before p other xs text h.1 none) ∙ ap (λ t. cond t (Some ([], xs ++ text)) None) (other x h.0)
 
 none_behind : (d text : List ℕ) → IsDollar d → at_last_mark text ≡ None → at_last_mark (d ++ text) ≡ None
 none_behind d text (inl e) none = subst (λ l. at_last_mark (l ++ text) ≡ None) (sym e) none
@@ -55,8 +54,8 @@ skipped d text (inl e) h = ap (λ l. without_dollar (l ++ text)) e ∙ h
 skipped d text (inr e) h = ap (λ l. without_dollar (l ++ text)) e
 
 not_before : (p : ℕ → Bool) → ((b : ℕ) → p b ≡ true → (b == 36) ≡ false) → (xs text : List ℕ) → 0 < length xs → list_all p xs ≡ true → without_dollar (xs ++ text) ≡ xs ++ text
-not_before p no [] text some all = absurd (omega (arith, some))
-not_before p no (x ∷ xs) text some all = ap (λ t. cond t (xs ++ text) (x ∷ (xs ++ text))) (no x (both (p x) (list_all p xs) all).0)
+not_before p other [] text some all = absurd (omega (arith, some))
+not_before p other (x ∷ xs) text some all = ap (λ t. cond t (xs ++ text) (x ∷ (xs ++ text))) (other x (both (p x) (list_all p xs) all).0)
 
 -- ---- letters
 counted : (letters text : List ℕ) → list_all is_ascii_alphabetic letters ≡ true → prefix_len is_ascii_alphabetic text ≡ 0 → prefix_len is_ascii_alphabetic (letters ++ text) ≡ length letters
@@ -113,17 +112,17 @@ read text a s =
     let digits : list_all is_ascii_digit s.digits ≡ true = all_digits s.digits ∙ s.all_digits in
     let no_mark : at_last_mark s.digits ≡ None = subst (λ l. at_last_mark l ≡ None) (append-nil s.digits) (none_before is_ascii_digit digit_no_mark s.digits [] digits refl) in
     let none : at_last_mark place ≡ None =
-        none_behind s.second (s.letters ++ tail) s.before_letters
-        (none_before is_ascii_alphabetic letter_no_mark s.letters tail s.all_letters (none_behind s.third s.digits s.before_digits no_mark)) in
+    none_behind s.second (s.letters ++ tail) s.before_letters
+    (none_before is_ascii_alphabetic letter_no_mark s.letters tail s.all_letters (none_behind s.third s.digits s.before_digits no_mark)) in
     let bare : without_dollar place ≡ s.letters ++ tail = skipped s.second (s.letters ++ tail) s.before_letters (not_before is_ascii_alphabetic letter_no_dollar s.letters tail s.some_letters s.all_letters) in
     let count : letter_count_of place ≡ length s.letters =
-        ap (prefix_len is_ascii_alphabetic) bare
-        ∙ counted s.letters tail s.all_letters (no_letters_behind s.third s.digits s.before_digits (no_letters s.digits s.some_digits digits)) in
+    ap (prefix_len is_ascii_alphabetic) bare
+    ∙ counted s.letters tail s.all_letters (no_letters_behind s.third s.digits s.before_digits (no_letters s.digits s.some_digits digits)) in
     let letters : letters_of place ≡ s.letters = ap₂ (λ (n : ℕ) (l : List ℕ). take n l) count bare ∙ take-append_seam s.letters tail in
     let no_dollar : without_dollar s.digits ≡ s.digits =
-        subst (λ l. without_dollar l ≡ l) (append-nil s.digits) (not_before is_ascii_digit digit_no_dollar s.digits [] s.some_digits digits) in
+    subst (λ l. without_dollar l ≡ l) (append-nil s.digits) (not_before is_ascii_digit digit_no_dollar s.digits [] s.some_digits digits) in
     let behind : behind_letters place ≡ s.digits =
-        ap without_dollar (ap₂ (λ (n : ℕ) (l : List ℕ). drop n l) count bare ∙ drop-append_seam s.letters tail) ∙ skipped s.third s.digits s.before_digits no_dollar in
+    ap without_dollar (ap₂ (λ (n : ℕ) (l : List ℕ). drop n l) count bare ∙ drop-append_seam s.letters tail) ∙ skipped s.third s.digits s.before_digits no_dollar in
     let name = name_read s.name a.name s.is_name in
     let name_is : name_in (without_dollar (s.first ++ s.name)) ≡ Some a.name = ap name_in (skipped s.first s.name s.before_name name.bare) ∙ name.name_is in
     let is_number_is : is_number (behind_letters place) ≡ true = ap is_number behind ∙ ap₂ (λ x y. x && y) (lt-ltb 0 (length s.digits) s.some_digits) s.all_digits in

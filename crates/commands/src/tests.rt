@@ -9,7 +9,10 @@ use workbook::{File, Workbook};
 fn opened(alloc: Global) -> Result<Workbook, Fail> {
     let mut files = Vec::new(alloc);
     files.push(File::new(String::from_str(alloc, "plan")?, b"1\n5\n".to_vec(alloc)?))?;
-    files.push(File::new(String::from_str(alloc, "My Plan")?, b"1\n7\n".to_vec(alloc)?))?;
+    files.push(File::new(
+        String::from_str(alloc, "My Plan")?,
+        b"1\n7\n".to_vec(alloc)?,
+    ))?;
     match Workbook::open(alloc, &files, b"") {
         Ok(workbook) => Ok(workbook),
         Err(_) => Err(Fail::new("it is not opened")),
