@@ -1,0 +1,57 @@
+-- The lines that are printed.
+use Rattle.std.specs.Prelude.{◌<◌, ℕ, ◌==◌, true, false, if◌then◌else◌, List, [], ◌∷◌, ◌++◌, length, codes, slice_get, unwrap_or}
+use Rattle.cell_refs.specs.declared.cell.Cell.{Cell}
+use Rattle.cell_refs.specs.declared.limits.TheConstants.{COLUMNS, ROWS}
+use Rattle.cell_refs.specs.ErrorText.{error_text}
+use Rattle.cell_refs.specs.Names.{cell_text}
+use Rattle.frac128.specs.Printed.{printed}
+use Rattle.sheet_model.specs.declared.value.Value.{Value}
+use Rattle.sheet_model.specs.declared.value.Value.TheVariants as value
+use Rattle.commands.specs.declared.answer.Answer.{Answer}
+use Rattle.commands.specs.declared.answer.Answer.TheVariants as answer
+
+-- a text with each of its quotes doubled
+abbrev pub doubled : List ℕ → List ℕ
+doubled [] = []
+doubled (b ∷ text) = if b == 34 then 34 ∷ 34 ∷ doubled text else b ∷ doubled text
+
+-- a value
+abbrev pub value_text : Value → List ℕ
+value_text (value.Number x) = codes "number " ++ printed x
+value_text (value.Text text) = codes "text \"" ++ doubled text ++ codes "\""
+value_text (value.Logical true) = codes "logical TRUE"
+value_text (value.Logical false) = codes "logical FALSE"
+value_text value.Empty = codes "empty"
+value_text (value.Error kind) = codes "error " ++ error_text kind
+
+-- a cell, with the name of its sheet
+abbrev pub cell_with_sheet : List (List ℕ) → Cell → List ℕ
+cell_with_sheet sheets c = cell_text (unwrap_or (slice_get sheets c.sheet.0) []) c.row c.col
+
+-- an answer, without the end of its line
+abbrev pub said : List (List ℕ) → Answer → List ℕ
+said sheets answer.Done = codes "ok"
+said sheets (answer.Shown v) = value_text v
+said sheets answer.UnknownCommand = codes "refused unknown-command"
+said sheets answer.BadAddress = codes "refused bad-address"
+said sheets answer.UnknownSheet = codes "refused unknown-sheet"
+said sheets answer.OutOfSheet = codes "refused out-of-sheet"
+said sheets answer.FieldTooLong = codes "refused field-too-long"
+said sheets answer.TooManyCells = codes "refused too-many-cells"
+said sheets answer.TooManyFormulas = codes "refused too-many-formulas"
+said sheets (answer.WideCell c) = codes "refused wide " ++ cell_with_sheet sheets c
+
+-- the line of an answer, where the sheets have these names
+abbrev pub answer_text : List (List ℕ) → Answer → List ℕ
+answer_text sheets a = said sheets a ++ codes "\n"
+
+-- the cell lies on one of the sheets
+pub record IsListed (sheets : List (List ℕ)) (c : Cell) : Type 0 where
+  pub sheet : c.sheet.0 < length sheets
+  pub row : c.row < ROWS
+  pub column : c.col < COLUMNS
+
+-- a wide cell that is answered lies on one of the sheets
+abbrev pub CanBeSaid : List (List ℕ) → Answer → Type 0
+CanBeSaid sheets (answer.WideCell c) = IsListed sheets c
+CanBeSaid sheets _ = Unit {0}

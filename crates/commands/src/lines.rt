@@ -1,0 +1,124 @@
+// The lines that are printed.
+ghost use Rattle.std.specs.Prelude.{◌≡◌, ◌++◌, ◌↔◌, IfOk, IsTrue, OnOk, codes, encode_utf8, string_bytes};
+ghost use Rattle.cell_refs.specs.ErrorText.{error_text};
+ghost use Rattle.frac128.specs.Printed.{printed};
+ghost use Rattle.commands.specs.Lines.{CanBeSaid, IsListed, answer_text, cell_with_sheet, doubled, said, value_text};
+
+use crate::answer::Answer;
+use cell_refs::{COLUMNS, Cell, ROWS, SheetNames, print_cell};
+use sheet_model::{Memory, Value};
+use std::alloc::Global;
+
+/// The line of an answer.
+pub fn line(alloc: Global, answer: &Answer, sheets: &SheetNames) -> Result<String, Memory>
+    requires { CanBeSaid sheets.now answer.now }
+    ensures { IfOk result (λ t. string_bytes t ≡ answer_text sheets.now answer.now) }
+{
+    let mut text = String::new(alloc);
+    say(answer, sheets, &mut text)?;
+    text.push_str("\n")?;
+    Ok(text)
+}
+
+/// Whether a wide cell, where one is answered, lies on one of the sheets.
+pub fn can_be_said(answer: &Answer, sheets: &SheetNames) -> bool
+    ensures { IsTrue result ↔ CanBeSaid sheets.now answer.now }
+{
+    match answer {
+        Answer::WideCell(cell) => is_listed(cell, sheets),
+        _ => true,
+    }
+}
+
+// Whether the cell lies on one of the sheets.
+fn is_listed(cell: &Cell, sheets: &SheetNames) -> bool
+    ensures { IsTrue result ↔ IsListed sheets.now cell.now }
+{
+    usize::from(cell.sheet.0) < sheets.len() && cell.row < ROWS && cell.col < COLUMNS
+}
+
+// Appends an answer.
+fn say(answer: &Answer, sheets: &SheetNames, to: &mut String) -> Result<(), Memory>
+    requires { CanBeSaid sheets.now answer.now }
+    ensures { OnOk result (string_bytes to.new ≡ string_bytes to.old ++ said sheets.now answer.now) }
+{
+    match answer {
+        Answer::Done => say_text("ok", to),
+        Answer::Shown(value) => say_value(value, to),
+        Answer::UnknownCommand => say_text("refused unknown-command", to),
+        Answer::BadAddress => say_text("refused bad-address", to),
+        Answer::UnknownSheet => say_text("refused unknown-sheet", to),
+        Answer::OutOfSheet => say_text("refused out-of-sheet", to),
+        Answer::FieldTooLong => say_text("refused field-too-long", to),
+        Answer::TooManyCells => say_text("refused too-many-cells", to),
+        Answer::TooManyFormulas => say_text("refused too-many-formulas", to),
+        Answer::WideCell(cell) => say_wide(cell, sheets, to),
+    }
+}
+
+// Appends a text as it is.
+fn say_text(text: &str, to: &mut String) -> Result<(), Memory>
+    ensures { OnOk result (string_bytes to.new ≡ string_bytes to.old ++ text.now) }
+{
+    to.push_str(text)?;
+    Ok(())
+}
+
+// Appends a value.
+fn say_value(value: &Value, to: &mut String) -> Result<(), Memory>
+    ensures { OnOk result (string_bytes to.new ≡ string_bytes to.old ++ value_text value.now) }
+{
+    match value {
+        Value::Number(number) => {
+            to.push_str("number ")?;
+            number.write(to)?;
+        }
+        Value::Text(text) => {
+            to.push_str("text \"")?;
+            say_doubled(text.as_str(), to)?;
+            to.push_str("\"")?;
+        }
+        Value::Logical(true) => to.push_str("logical TRUE")?,
+        Value::Logical(false) => to.push_str("logical FALSE")?,
+        Value::Empty => to.push_str("empty")?,
+        Value::Error(kind) => {
+            to.push_str("error ")?;
+            to.push_str(kind.text())?;
+        }
+    }
+    Ok(())
+}
+
+// Appends the text with each quote doubled.
+fn say_doubled(text: &str, to: &mut String) -> Result<(), Memory>
+    ensures { OnOk result (string_bytes to.new ≡ string_bytes to.old ++ doubled text.now) }
+{
+    for c in text.chars() {
+        say_char(c, to)?;
+    }
+    Ok(())
+}
+
+// Appends a character, or two for a quote.
+fn say_char(c: char, to: &mut String) -> Result<(), Memory>
+    ensures { OnOk result (string_bytes to.new ≡ string_bytes to.old ++ doubled (encode_utf8 c)) }
+{
+    if c == '"' {
+        to.push_str("\"\"")?;
+        return Ok(());
+    }
+    to.push(c)?;
+    Ok(())
+}
+
+// Appends the refusal of a wide cell.
+fn say_wide(cell: &Cell, sheets: &SheetNames, to: &mut String) -> Result<(), Memory>
+    requires { IsListed sheets.now cell.now }
+    ensures { OnOk result (string_bytes to.new ≡ string_bytes to.old ++ (codes "refused wide " ++ cell_with_sheet sheets.now cell.now)) }
+{
+    to.push_str("refused wide ")?;
+    let Ok(()) = print_cell(cell, sheets, to) else {
+        return Err(Memory);
+    };
+    Ok(())
+}
