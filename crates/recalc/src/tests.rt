@@ -1,7 +1,7 @@
 // Values of cells. What is expected follows from the rules by hand.
 
 use crate::{Shown, known_in_rounds, value};
-use cell_refs::{Cell, SheetId, print_cell};
+use cell_refs::{COLUMNS, Cell, ROWS, SheetId, print_cell};
 use dep_table::Deps;
 use sheet_model::Value;
 use std::alloc::Global;
@@ -60,6 +60,9 @@ fn shown(alloc: Global, workbook: &Workbook, row: u16, col: u16) -> Result<Strin
             to.push_str("wide ")?;
             if usize::from(cell.sheet.0) >= workbook.sheets().len() {
                 return Err(Fail::new("there is no such sheet"));
+            }
+            if cell.row >= ROWS || cell.col >= COLUMNS {
+                return Err(Fail::new("there is no such cell"));
             }
             print_cell(&cell, workbook.sheets(), &mut to)?;
         }
