@@ -5,12 +5,12 @@ use Rattle.std.specs.Fmt.{digits}
 use Rattle.cell_refs.specs.declared.cell.Cell.{Cell}
 use Rattle.sheet_model.specs.declared.value.Value.TheVariants as value
 use Rattle.commands.specs.declared.answer.Answer.TheVariants as answer
-use Rattle.commands.specs.declared.locate.Refusal.{Refusal}
-use Rattle.commands.specs.declared.locate.Refusal.TheVariants as refusal
+use Rattle.commands.specs.declared.locating.Refusal.{Refusal}
+use Rattle.commands.specs.declared.locating.Refusal.TheVariants as refusal
 use Rattle.commands.specs.Addresses.{Address, address_in}
 use Rattle.commands.specs.Commands.{Set, Show, Unknown, command_of}
 use Rattle.commands.specs.Lines.{answer_text}
-use Rattle.commands.specs.Steps.{cell_named}
+use Rattle.commands.specs.Locating.{cell_named}
 
 -- ---- records
 a_set : command_of (codes "set" ∷ codes "plan!A2" ∷ codes "7" ∷ []) ≡ Set (codes "plan!A2") (codes "7")
@@ -66,6 +66,12 @@ unfolding named sheets
 the_sheet_first = refl
 
 -- ---- lines
+no_objective : answer_text [] (answer.Optimal None) ≡ codes "optimal\n"
+no_objective = refl
+
+an_unbuilt_sheet : answer_text [] answer.Unbuilt ≡ codes "refused unbuilt\n"
+an_unbuilt_sheet = refl
+
 a_text : answer_text [] (answer.Shown (value.Text (codes "a\"b"))) ≡ codes "text \"a\"\"b\"\n"
 a_text = refl
 

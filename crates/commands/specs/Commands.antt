@@ -36,8 +36,3 @@ spoken (command.Clear address) = Clear (string_bytes address)
 spoken (command.Show address) = Show (string_bytes address)
 spoken (command.Solve sheet) = Solve (string_bytes sheet)
 spoken command.Unknown = Unknown
-
--- it asks for no solve
-abbrev pub IsNoSolve : Spoken → Type 0
-IsNoSolve (Solve sheet) = ⊥
-IsNoSolve _ = Unit {0}

@@ -1,5 +1,5 @@
 pub mod Commands
 pub mod Addresses
-pub mod Steps
+pub mod Locating
 pub mod Lines
 pub mod Spelling

@@ -1,12 +1,12 @@
 -- The lines that are printed.
-use Rattle.std.specs.Prelude.{◌<◌, ℕ, ◌==◌, true, false, if◌then◌else◌, List, [], ◌∷◌, ◌++◌, length, codes, slice_get, unwrap_or}
+use Rattle.std.specs.Prelude.{ℕ, ◌==◌, Bool, true, false, if◌then◌else◌, List, [], ◌∷◌, ◌++◌, Some, None, bytes_eq, codes, slice_get, take, unwrap_or}
 use Rattle.cell_refs.specs.declared.cell.Cell.{Cell}
-use Rattle.cell_refs.specs.declared.limits.TheConstants.{COLUMNS, ROWS}
 use Rattle.cell_refs.specs.ErrorText.{error_text}
 use Rattle.cell_refs.specs.Names.{cell_text}
 use Rattle.frac128.specs.Printed.{printed}
 use Rattle.sheet_model.specs.declared.value.Value.{Value}
 use Rattle.sheet_model.specs.declared.value.Value.TheVariants as value
+use Rattle.workbook.specs.Listed.{IsListed}
 use Rattle.commands.specs.declared.answer.Answer.{Answer}
 use Rattle.commands.specs.declared.answer.Answer.TheVariants as answer
 
@@ -32,6 +32,9 @@ cell_with_sheet sheets c = cell_text (unwrap_or (slice_get sheets c.sheet.0) [])
 abbrev pub said : List (List ℕ) → Answer → List ℕ
 said sheets answer.Done = codes "ok"
 said sheets (answer.Shown v) = value_text v
+said sheets (answer.Optimal None) = codes "optimal"
+said sheets (answer.Optimal (Some value)) = codes "optimal " ++ printed value
+said sheets answer.Infeasible = codes "infeasible"
 said sheets answer.UnknownCommand = codes "refused unknown-command"
 said sheets answer.BadAddress = codes "refused bad-address"
 said sheets answer.UnknownSheet = codes "refused unknown-sheet"
@@ -39,17 +42,16 @@ said sheets answer.OutOfSheet = codes "refused out-of-sheet"
 said sheets answer.FieldTooLong = codes "refused field-too-long"
 said sheets answer.TooManyCells = codes "refused too-many-cells"
 said sheets answer.TooManyFormulas = codes "refused too-many-formulas"
+said sheets answer.Unbuilt = codes "refused unbuilt"
 said sheets (answer.WideCell c) = codes "refused wide " ++ cell_with_sheet sheets c
 
 -- the line of an answer, where the sheets have these names
 abbrev pub answer_text : List (List ℕ) → Answer → List ℕ
 answer_text sheets a = said sheets a ++ codes "\n"
 
--- the cell lies on one of the sheets
-pub record IsListed (sheets : List (List ℕ)) (c : Cell) : Type 0 where
-  pub sheet : c.sheet.0 < length sheets
-  pub row : c.row < ROWS
-  pub column : c.col < COLUMNS
+-- a refusal begins with the word `refused`
+abbrev pub is_refusal : List (List ℕ) → Answer → Bool
+is_refusal sheets a = bytes_eq (take 8 (said sheets a)) (codes "refused ")
 
 -- a wide cell that is answered lies on one of the sheets
 abbrev pub CanBeSaid : List (List ℕ) → Answer → Type 0

@@ -1,4 +1,4 @@
-//! The commands of a script: what a record says, what it does to a workbook, and what is printed.
+//! The commands of a script: what a record says, the cell that it names, and what is printed of an answer.
 #![tactic(auto)]
 
 mod address;
@@ -6,16 +6,14 @@ mod answer;
 mod command;
 mod laws;
 mod lines;
-mod locate;
-mod steps;
+mod locating;
 
 pub use answer::Answer;
 pub use command::Command;
 pub use laws::addresses_are_spelled;
-pub use lines::{can_be_said, line};
-pub use locate::Refusal;
+pub use lines::line;
+pub use locating::{Refusal, locate};
 pub use sheet_model::Memory;
-pub use steps::apply;
 
 #[cfg(test)]
 mod tests;

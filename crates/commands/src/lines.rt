@@ -1,11 +1,14 @@
 // The lines that are printed.
-ghost use Rattle.std.specs.Prelude.{◌≡◌, ◌++◌, ◌↔◌, IfOk, IsTrue, OnOk, codes, encode_utf8, string_bytes};
+ghost use Rattle.std.specs.Prelude.{◌≡◌, ◌++◌, [], IfOk, OnOk, codes, encode_utf8, string_bytes};
 ghost use Rattle.cell_refs.specs.ErrorText.{error_text};
 ghost use Rattle.frac128.specs.Printed.{printed};
-ghost use Rattle.commands.specs.Lines.{CanBeSaid, IsListed, answer_text, cell_with_sheet, doubled, said, value_text};
+ghost use Rattle.workbook.specs.Listed.{IsListed};
+ghost use Rattle.commands.specs.Lines.{CanBeSaid, answer_text, cell_with_sheet, doubled, said, value_text};
+ghost use Rattle.commands.specs.declared.answer.Answer.{Answer};
 
 use crate::answer::Answer;
-use cell_refs::{COLUMNS, Cell, ROWS, SheetNames, print_cell};
+use cell_refs::{Cell, SheetNames, print_cell};
+use frac128::Frac;
 use sheet_model::{Memory, Value};
 use std::alloc::Global;
 
@@ -20,23 +23,6 @@ pub fn line(alloc: Global, answer: &Answer, sheets: &SheetNames) -> Result<Strin
     Ok(text)
 }
 
-/// Whether a wide cell, where one is answered, lies on one of the sheets.
-pub fn can_be_said(answer: &Answer, sheets: &SheetNames) -> bool
-    ensures { IsTrue result ↔ CanBeSaid sheets.now answer.now }
-{
-    match answer {
-        Answer::WideCell(cell) => is_listed(cell, sheets),
-        _ => true,
-    }
-}
-
-// Whether the cell lies on one of the sheets.
-fn is_listed(cell: &Cell, sheets: &SheetNames) -> bool
-    ensures { IsTrue result ↔ IsListed sheets.now cell.now }
-{
-    usize::from(cell.sheet.0) < sheets.len() && cell.row < ROWS && cell.col < COLUMNS
-}
-
 // Appends an answer.
 fn say(answer: &Answer, sheets: &SheetNames, to: &mut String) -> Result<(), Memory>
     requires { CanBeSaid sheets.now answer.now }
@@ -45,6 +31,8 @@ fn say(answer: &Answer, sheets: &SheetNames, to: &mut String) -> Result<(), Memo
     match answer {
         Answer::Done => say_text("ok", to),
         Answer::Shown(value) => say_value(value, to),
+        Answer::Optimal(value) => say_optimal(*value, to),
+        Answer::Infeasible => say_text("infeasible", to),
         Answer::UnknownCommand => say_text("refused unknown-command", to),
         Answer::BadAddress => say_text("refused bad-address", to),
         Answer::UnknownSheet => say_text("refused unknown-sheet", to),
@@ -52,6 +40,7 @@ fn say(answer: &Answer, sheets: &SheetNames, to: &mut String) -> Result<(), Memo
         Answer::FieldTooLong => say_text("refused field-too-long", to),
         Answer::TooManyCells => say_text("refused too-many-cells", to),
         Answer::TooManyFormulas => say_text("refused too-many-formulas", to),
+        Answer::Unbuilt => say_text("refused unbuilt", to),
         Answer::WideCell(cell) => say_wide(cell, sheets, to),
     }
 }
@@ -61,6 +50,18 @@ fn say_text(text: &str, to: &mut String) -> Result<(), Memory>
     ensures { OnOk result (string_bytes to.new ≡ string_bytes to.old ++ text.now) }
 {
     to.push_str(text)?;
+    Ok(())
+}
+
+// Appends an optimum, with its value if it has one.
+fn say_optimal(value: Option<Frac>, to: &mut String) -> Result<(), Memory>
+    ensures { OnOk result (string_bytes to.new ≡ string_bytes to.old ++ said [] (Answer.Optimal value)) }
+{
+    let Some(number) = value else {
+        return say_text("optimal", to);
+    };
+    to.push_str("optimal ")?;
+    number.write(to)?;
     Ok(())
 }
 

@@ -1,138 +1,206 @@
-// Rows of scripts. The lines that are expected follow from the rules by hand.
+// Records, addresses and lines. What is expected follows from the rules by hand.
+ghost use Rattle.std.specs.Prelude.{◌↔◌, IsTrue};
+ghost use Rattle.workbook.specs.Listed.{IsListed};
+ghost use Rattle.commands.specs.Lines.{CanBeSaid};
 
-use crate::{Command, apply, can_be_said, line};
+use crate::{Answer, Command, Refusal, line, locate};
+use cell_refs::{COLUMNS, Cell, ErrorKind, ROWS, SheetId, SheetNames};
+use frac128::Frac;
+use sheet_model::{Text, Value};
 use std::alloc::Global;
 use std::test::Fail;
-use workbook::{File, Workbook};
 
-// A workbook of two sheets, `plan` with 5 in the cell A2 and `My Plan` with 7 there.
-fn opened(alloc: Global) -> Result<Workbook, Fail> {
-    let mut files = Vec::new(alloc);
-    files.push(File::new(String::from_str(alloc, "plan")?, b"1\n5\n".to_vec(alloc)?))?;
-    files.push(File::new(
-        String::from_str(alloc, "My Plan")?,
-        b"1\n7\n".to_vec(alloc)?,
-    ))?;
-    match Workbook::open(alloc, &files, b"") {
-        Ok(workbook) => Ok(workbook),
-        Err(_) => Err(Fail::new("it is not opened")),
+// The sheets `plan` and `My Plan`.
+fn sheets(alloc: Global) -> Result<SheetNames, Fail> {
+    let mut sheets = SheetNames::new(alloc);
+    for name in ["plan", "My Plan"] {
+        if sheets.add(name).is_err() {
+            return Err(Fail::new("a sheet is not listed"));
+        }
+    }
+    Ok(sheets)
+}
+
+fn at(sheet: u8, row: u16, col: u16) -> Cell {
+    Cell {
+        sheet: SheetId(sheet),
+        row,
+        col,
     }
 }
 
-// The line that answers a record.
-fn answered(alloc: Global, book: &mut Workbook, fields: &[&str]) -> Result<String, Fail> {
-    let command = Command::of(alloc, fields)?;
-    if let Command::Solve(_) = &command {
-        return Err(Fail::new("a solve is no step"));
+fn number(n: i128, d: i128) -> Result<Frac, Fail> {
+    match Frac::new(n, d) {
+        Some(number) => Ok(number),
+        None => Err(Fail::new("it is no number")),
     }
-    let answer = apply(alloc, book, &command)?;
-    if !can_be_said(&answer, book.sheets()) {
+}
+
+fn text(alloc: Global, bytes: &str) -> Result<Value, Fail> {
+    Ok(Value::Text(Text::new(String::from_str(alloc, bytes)?)))
+}
+
+// Whether a wide cell, where one is answered, lies on one of the sheets.
+fn can_be_said(answer: &Answer, sheets: &SheetNames) -> bool
+    ensures { IsTrue result ↔ CanBeSaid sheets.now answer.now }
+{
+    match answer {
+        Answer::WideCell(cell) => is_listed(cell, sheets),
+        _ => true,
+    }
+}
+
+// Whether the cell lies on one of the sheets.
+fn is_listed(cell: &Cell, sheets: &SheetNames) -> bool
+    ensures { IsTrue result ↔ IsListed sheets.now cell.now }
+{
+    usize::from(cell.sheet.0) < sheets.len() && cell.row < ROWS && cell.col < COLUMNS
+}
+
+// The line of an answer.
+fn said(alloc: Global, answer: &Answer) -> Result<String, Fail> {
+    let sheets = sheets(alloc)?;
+    if !can_be_said(answer, &sheets) {
         return Err(Fail::new("the wide cell is not listed"));
     }
-    Ok(line(alloc, &answer, book.sheets())?)
+    Ok(line(alloc, answer, &sheets)?)
 }
 
 #[test]
-fn values_of_texts(rt: HostRuntime) -> Result<(), Fail> {
-    let mut book = opened(rt.alloc())?;
-    for (text, want) in [
-        ("=2^3^2", "number 64\n"),
-        ("=-1/3", "number -1/3\n"),
-        ("say \"hi\"", "text \"say \"\"hi\"\"\"\n"),
-        ("true", "logical TRUE\n"),
-        ("=1>2", "logical FALSE\n"),
-        ("=1/0", "error #DIV/0!\n"),
-        ("=A1", "error #CIRCULAR\n"),
-        ("=1e38*10", "refused wide plan!A1\n"),
-        ("", "empty\n"),
+fn lines_of_answers(rt: HostRuntime) -> Result<(), Fail> {
+    for (answer, want) in [
+        (Answer::Done, "ok\n"),
+        (Answer::Optimal(None), "optimal\n"),
+        (Answer::Optimal(Some(number(-5, 2)?)), "optimal -2.5\n"),
+        (Answer::Optimal(Some(number(1, 3)?)), "optimal 1/3\n"),
+        (Answer::Infeasible, "infeasible\n"),
+        (Answer::UnknownCommand, "refused unknown-command\n"),
+        (Answer::BadAddress, "refused bad-address\n"),
+        (Answer::UnknownSheet, "refused unknown-sheet\n"),
+        (Answer::OutOfSheet, "refused out-of-sheet\n"),
+        (Answer::FieldTooLong, "refused field-too-long\n"),
+        (Answer::TooManyCells, "refused too-many-cells\n"),
+        (Answer::TooManyFormulas, "refused too-many-formulas\n"),
+        (Answer::Unbuilt, "refused unbuilt\n"),
+        (Answer::WideCell(at(0, 0, 0)), "refused wide plan!A1\n"),
+        (
+            Answer::WideCell(at(1, 4095, 255)),
+            "refused wide 'My Plan'!IV4096\n",
+        ),
     ] {
-        let put = answered(rt.alloc(), &mut book, &["set", "plan!A1", text])?;
-        assert!(rt; put.as_str() == "ok\n", "{text}");
-        let said = answered(rt.alloc(), &mut book, &["show", "plan!A1"])?;
-        assert!(rt; said.as_str() == want, "{text}");
+        let found = said(rt.alloc(), &answer)?;
+        assert!(rt; found.as_str() == want, "{want}");
+    }
+    Ok(())
+}
+
+#[test]
+fn lines_of_values(rt: HostRuntime) -> Result<(), Fail> {
+    for (value, want) in [
+        (Value::Number(number(64, 1)?), "number 64\n"),
+        (Value::Number(number(-1, 3)?), "number -1/3\n"),
+        (text(rt.alloc(), "say \"hi\"")?, "text \"say \"\"hi\"\"\"\n"),
+        (Value::Logical(true), "logical TRUE\n"),
+        (Value::Logical(false), "logical FALSE\n"),
+        (Value::Empty, "empty\n"),
+        (Value::Error(ErrorKind::Div0), "error #DIV/0!\n"),
+        (Value::Error(ErrorKind::Circular), "error #CIRCULAR\n"),
+    ] {
+        let found = said(rt.alloc(), &Answer::Shown(value))?;
+        assert!(rt; found.as_str() == want, "{want}");
+    }
+    Ok(())
+}
+
+#[test]
+fn refusals(rt: HostRuntime) -> Result<(), Fail> {
+    for (answer, want) in [
+        (Answer::Done, false),
+        (Answer::Shown(text(rt.alloc(), "refused ")?), false),
+        (Answer::Optimal(None), false),
+        (Answer::Infeasible, false),
+        (Answer::UnknownCommand, true),
+        (Answer::TooManyFormulas, true),
+        (Answer::Unbuilt, true),
+        (Answer::WideCell(at(0, 0, 0)), true),
+        (Refusal::BadAddress.answer(), true),
+    ] {
+        assert!(rt; answer.is_refusal() == want);
     }
     Ok(())
 }
 
 #[test]
 fn addresses_of_cells(rt: HostRuntime) -> Result<(), Fail> {
-    let mut book = opened(rt.alloc())?;
+    let sheets = sheets(rt.alloc())?;
     for (address, want) in [
-        ("plan!A2", "number 5\n"),
-        ("PLAN!a002", "number 5\n"),
-        ("$plan.$A$2", "number 5\n"),
-        ("'My Plan'!A2", "number 7\n"),
-        ("$'my plan'.$a$2", "number 7\n"),
-        ("plan!B2", "empty\n"),
-        ("plan!IV4096", "empty\n"),
+        ("plan!A2", Ok(at(0, 1, 0))),
+        ("PLAN!a002", Ok(at(0, 1, 0))),
+        ("$plan.$A$2", Ok(at(0, 1, 0))),
+        ("'My Plan'!A2", Ok(at(1, 1, 0))),
+        ("$'my plan'.$a$2", Ok(at(1, 1, 0))),
+        ("plan!B2", Ok(at(0, 1, 1))),
+        ("plan!IV4096", Ok(at(0, 4095, 255))),
+        ("plan!IW1", Err(Refusal::OutOfSheet)),
+        ("plan!A4097", Err(Refusal::OutOfSheet)),
+        ("plan!A0", Err(Refusal::OutOfSheet)),
+        ("nosuch!A1", Err(Refusal::UnknownSheet)),
+        ("nosuch!A0", Err(Refusal::UnknownSheet)),
+        ("A1", Err(Refusal::BadAddress)),
+        ("plan!1A", Err(Refusal::BadAddress)),
+        ("plan!", Err(Refusal::BadAddress)),
+        ("plan!A", Err(Refusal::BadAddress)),
+        ("plan!$$A1", Err(Refusal::BadAddress)),
+        ("My Plan!A2", Err(Refusal::BadAddress)),
+        ("'My Plan!A2", Err(Refusal::BadAddress)),
+        ("'My' Plan'!A2", Err(Refusal::BadAddress)),
     ] {
-        let said = answered(rt.alloc(), &mut book, &["show", address])?;
-        assert!(rt; said.as_str() == want, "{address}");
+        let found = locate(rt.alloc(), &sheets, address)?;
+        assert!(rt; found == want, "{address}");
     }
     Ok(())
 }
 
-#[test]
-fn addresses_that_are_refused(rt: HostRuntime) -> Result<(), Fail> {
-    let mut book = opened(rt.alloc())?;
-    for (address, want) in [
-        ("plan!IW1", "refused out-of-sheet\n"),
-        ("plan!A4097", "refused out-of-sheet\n"),
-        ("plan!A0", "refused out-of-sheet\n"),
-        ("nosuch!A1", "refused unknown-sheet\n"),
-        ("nosuch!A0", "refused unknown-sheet\n"),
-        ("A1", "refused bad-address\n"),
-        ("plan!1A", "refused bad-address\n"),
-        ("plan!", "refused bad-address\n"),
-        ("plan!A", "refused bad-address\n"),
-        ("plan!$$A1", "refused bad-address\n"),
-        ("My Plan!A2", "refused bad-address\n"),
-        ("'My Plan!A2", "refused bad-address\n"),
-        ("'My' Plan'!A2", "refused bad-address\n"),
-    ] {
-        let said = answered(rt.alloc(), &mut book, &["show", address])?;
-        assert!(rt; said.as_str() == want, "{address}");
-    }
-    Ok(())
+// The command of a record, spelled with points between its texts.
+fn spelled(alloc: Global, fields: &[&str]) -> Result<String, Fail> {
+    let text = match Command::of(alloc, fields)? {
+        Command::Set(address, text) => {
+            format!(in alloc; "set.{}.{}", address.as_str(), text.as_str())?
+        }
+        Command::Clear(address) => format!(in alloc; "clear.{}", address.as_str())?,
+        Command::Show(address) => format!(in alloc; "show.{}", address.as_str())?,
+        Command::Solve(sheet) => format!(in alloc; "solve.{}", sheet.as_str())?,
+        Command::Unknown => String::from_str(alloc, "unknown")?,
+    };
+    Ok(text)
 }
 
 #[test]
-fn records_and_what_they_change(rt: HostRuntime) -> Result<(), Fail> {
-    let mut book = opened(rt.alloc())?;
+fn commands_of_records(rt: HostRuntime) -> Result<(), Fail> {
+    let set: &[&str] = &["set", "plan!A2", "=1,2"];
+    let emptied: &[&str] = &["set", "plan!A2", ""];
+    let clear: &[&str] = &["clear", "plan!A2"];
+    let show: &[&str] = &["show", "plan!A2"];
+    let solve: &[&str] = &["solve", "plan"];
+    let capitals: &[&str] = &["SHOW", "plan!A2"];
+    let short: &[&str] = &["set", "plan!A2"];
+    let long: &[&str] = &["show", "plan!A2", ""];
+    let one: &[&str] = &["show"];
+    let none: &[&str] = &[];
     for (fields, want) in [
-        (["clear", "plan!A2"], "ok\n"),
-        (["clear", "plan!A2"], "ok\n"),
-        (["show", "plan!A2"], "empty\n"),
-        (["show", "'My Plan'!A2"], "number 7\n"),
-        (["set", "plan!A2"], "refused unknown-command\n"),
-        (["SHOW", "plan!A2"], "refused unknown-command\n"),
-        (["clear", "A2"], "refused bad-address\n"),
+        (set, "set.plan!A2.=1,2"),
+        (emptied, "set.plan!A2."),
+        (clear, "clear.plan!A2"),
+        (show, "show.plan!A2"),
+        (solve, "solve.plan"),
+        (capitals, "unknown"),
+        (short, "unknown"),
+        (long, "unknown"),
+        (one, "unknown"),
+        (none, "unknown"),
     ] {
-        let said = answered(rt.alloc(), &mut book, &fields)?;
-        assert!(rt; said.as_str() == want, "{want}");
+        let found = spelled(rt.alloc(), fields)?;
+        assert!(rt; found.as_str() == want, "{want}");
     }
-    let said = answered(rt.alloc(), &mut book, &["show", "plan!A2", ""])?;
-    assert!(rt; said.as_str() == "refused unknown-command\n");
-    let said = answered(rt.alloc(), &mut book, &["show"])?;
-    assert!(rt; said.as_str() == "refused unknown-command\n");
-    let said = answered(rt.alloc(), &mut book, &[])?;
-    assert!(rt; said.as_str() == "refused unknown-command\n");
-    Ok(())
-}
-
-#[test]
-fn a_text_that_is_too_long(rt: HostRuntime) -> Result<(), Fail> {
-    let mut book = opened(rt.alloc())?;
-    let mut text = String::new(rt.alloc());
-    for _ in 0..8192 {
-        text.push('x')?;
-    }
-    let fits = answered(rt.alloc(), &mut book, &["set", "plan!A2", text.as_str()])?;
-    assert!(rt; fits.as_str() == "ok\n");
-    text.push('x')?;
-    let long = answered(rt.alloc(), &mut book, &["set", "plan!B2", text.as_str()])?;
-    assert!(rt; long.as_str() == "refused field-too-long\n");
-    let said = answered(rt.alloc(), &mut book, &["show", "plan!B2"])?;
-    assert!(rt; said.as_str() == "empty\n");
     Ok(())
 }

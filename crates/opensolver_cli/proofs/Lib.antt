@@ -1,4 +1,4 @@
-pub mod Marks
 pub mod WordLaws
+pub mod FileLaws
 pub mod StepLaws
-pub mod RunLaws
+pub mod TopLaws

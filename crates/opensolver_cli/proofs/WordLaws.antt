@@ -1,15 +1,17 @@
 -- What stands before an ending, and behind the last slash.
-use Rattle.std.proofs.Common.{◌≡◌, ◌≢◌, ◌<◌, ◌-◌, ◌++◌, ◌∷◌, [], ℕ, suc, List, Bool, true, false, Option, Some, None, Bor, length, take, drop, get_or, refl, ap, sym, arith, inl, inr, codes, ◌∙◌}
-use Rattle.std.specs.Prelude.{◌==◌, ◌&&◌, nat_le, option_map, if◌then◌else◌}
+use Rattle.std.proofs.Common.{◌≡◌, ◌≢◌, ◌<◌, ◌-◌, ◌++◌, ◌∷◌, [], ℕ, suc, List, Bool, true, false, Option, Some, None, Bor, length, take, drop, get_or, refl, ap, sym, arith, inl, inr, codes, string_bytes, ◌∙◌}
+use Rattle.std.specs.Prelude.{◌==◌, ◌&&◌, All, String, nat_le, option_map, if◌then◌else◌}
 use Rattle.std.specs.Option.{MatchOption}
-use Rattle.std.specs.List.{slice_split}
+use Rattle.std.specs.List.{list_all, slice_split}
+use Rattle.std.specs.Global.{Global}
 use Rattle.std.specs.Str.{bytes_eq}
 use Rattle.std.specs.Str.Pattern.{FindsTextSuffix, RFindsChar, SplitsAroundMatch, StripsSuffix}
 use Rattle.std.proofs.lemmas.Bool.{cases_Bool, le-leb, ne_eqb}
 use Rattle.std.proofs.lemmas.List.{append_cancel_left, take-append-drop}
+use Rattle.std.proofs.lemmas.List.Elements.{All-cons}
 use Rattle.std.proofs.lemmas.Slice.Eq.{bytes_eq-Decides}
 use Rattle.std.proofs.lemmas.Str.Pattern.{NoCharPasses-char, drop_at_char}
-use Rattle.opensolver_cli.specs.Words.{before_csv, last_part}
+use Rattle.opensolver_cli.specs.Words.{before_csv, is_sheet, last_part, texts_of}
 
 none_before : (a b : Bool) (x : Option (List ℕ)) → b ≡ false → None ≡ (if a && b then x else None)
 none_before true true x h = cc
@@ -64,3 +66,14 @@ behind path front part (i, j, finds, front_is, part_is, order, len, len_part) =
 
 pub nowhere : (path : List ℕ) → RFindsChar 47 path None → path ≡ last_part (slice_split (λ b. b == 47) path)
 nowhere path h = ap last_part (sym (no_slash path (λ k s. NoCharPasses-char 47 path k h (omega arith) s)))
+
+both : (a b : Bool) → (a && b) ≡ true → (a ≡ true) × (b ≡ true)
+both true b h = (refl, h)
+both false b h = cc
+
+-- each word is a sheet's file, where the test of all says so
+pub sheets_all : (words : List (String Global)) → list_all is_sheet (texts_of words) ≡ true → All (λ w. is_sheet (string_bytes w) ≡ true) words
+sheets_all [] h = λ k d s. absurd (omega arith)
+sheets_all (w ∷ words) h =
+    let t = both (is_sheet (string_bytes w)) (list_all is_sheet (texts_of words)) h in
+    All-cons (λ v. is_sheet (string_bytes v) ≡ true) w words t.0 (sheets_all words t.1)

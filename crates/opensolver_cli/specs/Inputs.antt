@@ -1,39 +1,82 @@
--- How the reading of an input ends.
-use Rattle.std.specs.Prelude.{◌≡◌, ◌≤◌, ◌<◌, ℕ, List, length, ⊤}
+-- How the reading of files and of the script ends.
+use Rattle.std.specs.Prelude.{◌≡◌, ◌≢◌, ◌≤◌, ◌<◌, ℕ, List, [], length, Option, Result, Ok, Err, Vec, IsUtf8, unwrap_or, ⊤}
+use Rattle.std.specs.Global.{Global}
+use Rattle.std.specs.Str.Lossy.{utf8_valid_len}
 use Rattle.solver_io.specs.Causes.{Rose}
 use Rattle.solver_io.specs.Files.{Files}
-use Rattle.opensolver_cli.specs.Headline.{IsInput, byte_limit}
-use Rattle.opensolver_cli.specs.declared.files.Input.{Input}
-use Rattle.opensolver_cli.specs.declared.files.Input.TheVariants as input
+use Rattle.sheet_csv.specs.Sheet.{Record, sheet_records}
+use Rattle.workbook.specs.Files.{SheetFile}
+use Rattle.workbook.specs.State.{State}
+use Rattle.opensolver_cli.specs.Findings.{Finding, Finds, FindsScript, Ready, Stops, byte_limit, file_held, sheet_files, sheets_held}
+use Rattle.opensolver_cli.specs.Words.{Named, stem_of}
+use Rattle.opensolver_cli.specs.declared.stop.End.{End}
+use Rattle.opensolver_cli.specs.declared.stop.End.TheVariants as end
+use Rattle.opensolver_cli.specs.declared.stop.Cause.TheVariants as cause
+use Rattle.opensolver_cli.specs.declared.stop.Input.{Input}
+use Rattle.opensolver_cli.specs.declared.stop.Input.TheVariants as input
+use Rattle.opensolver_cli.specs.declared.stop.Limit.TheVariants as limit
+use Rattle.opensolver_cli.specs.declared.stop.Stop.TheVariants.{TooMuch, BadInput}
 
--- no bytes under the name are an input
-abbrev pub IsUnfit : Files → List ℕ → Type 0
-IsUnfit files name = (bytes : List ℕ) → ¬ (IsInput files name bytes)
+-- a call of the outside failed only where the count of faults rose
+abbrev pub EndCause : {T : Type 0} → ℕ → ℕ → Result T End → Type 0
+EndCause before now (Ok x) = ⊤
+EndCause before now (Err (end.Stopped stop)) = ⊤
+EndCause before now (Err end.Failed) = Rose before now
+EndCause before now (Err end.Memory) = ⊤
 
--- the input of this name, where the folder holds these files
-abbrev pub FileEnds : Files → List ℕ → Input → Type 0
-FileEnds files name (input.Bytes bytes) = IsInput files name bytes.items
-FileEnds files name input.Unfit = IsUnfit files name
-FileEnds files name input.Failed = ⊤
-FileEnds files name input.Memory = ⊤
+-- ---- files
+-- the bytes that are held for an input, or why they can't be taken; a failed call and want of memory tell nothing
+abbrev pub ReadsFile : Input → Option (List ℕ) → Result (Vec ℕ Global) End → Type 0
+ReadsFile of held (Ok bytes) = file_held of held ≡ Ok bytes.items
+ReadsFile of held (Err (end.Stopped stop)) = file_held of held ≡ Err stop
+ReadsFile of held (Err _) = ⊤
 
--- the whole script, where these are the bytes that were left
-abbrev pub ScriptEnds : List ℕ → Input → Type 0
-ScriptEnds script (input.Bytes bytes) = (bytes.items ≡ script) × (length script ≤ byte_limit)
-ScriptEnds script input.Unfit = byte_limit < length script
-ScriptEnds script input.Failed = ⊤
-ScriptEnds script input.Memory = ⊤
+-- a file that was read has a name and is not too long, also where the folder tells nothing
+pub record CanBeOpened (f : SheetFile) : Type 0 where
+  pub named : f.stem ≢ []
+  pub fits : length f.bytes ≤ byte_limit
 
--- what was read is not too much, also where no content is told
-abbrev pub Fits : Input → Type 0
-Fits (input.Bytes bytes) = length bytes.items ≤ byte_limit
-Fits input.Unfit = ⊤
-Fits input.Failed = ⊤
-Fits input.Memory = ⊤
+-- the file of a sheet, with the name in its word, or why it can't be taken
+abbrev pub ReadsSheet : Input → List ℕ → Option (List ℕ) → Result SheetFile End → Type 0
+ReadsSheet of word held (Ok file) = (file_held of held ≡ Ok file.bytes) × (file.stem ≡ unwrap_or (stem_of word) [])
+ReadsSheet of word held (Err (end.Stopped stop)) = file_held of held ≡ Err stop
+ReadsSheet of word held (Err _) = ⊤
 
--- the reading failed only where the count of faults rose
-abbrev pub InputCause : ℕ → ℕ → Input → Type 0
-InputCause before now (input.Bytes bytes) = ⊤
-InputCause before now input.Unfit = ⊤
-InputCause before now input.Failed = Rose before now
-InputCause before now input.Memory = ⊤
+-- the files of all sheets, or why the first of them can't be taken
+abbrev pub ReadsSheets : Files → List (List ℕ) → Result (Vec SheetFile Global) End → Type 0
+ReadsSheets files words (Ok read) = (held : List (List ℕ)) × (sheets_held files 0 words ≡ Ok held) × (read.items ≡ sheet_files words held)
+ReadsSheets files words (Err (end.Stopped stop)) = sheets_held files 0 words ≡ Err stop
+ReadsSheets files words (Err _) = ⊤
+
+-- the workbook that the files spell, so that the script decides what is found; or why there is none, whatever the script
+abbrev pub OpensFiles : Named → Files → Result State End → Type 0
+OpensFiles named files (Ok book) = (script : List ℕ) (f : Finding) → FindsScript book script f → Finds named files script f
+OpensFiles named files (Err (end.Stopped stop)) = (script : List ℕ) → Finds named files script (Stops stop)
+OpensFiles named files (Err _) = ⊤
+
+-- ---- the script
+-- all bytes of the script, where they are not too many
+abbrev pub ReadsScript : List ℕ → Result (Vec ℕ Global) End → Type 0
+ReadsScript script (Ok bytes) = (bytes.items ≡ script) × (length script ≤ byte_limit)
+ReadsScript script (Err (end.Stopped stop)) = (stop ≡ TooMuch limit.ScriptBytes) × (byte_limit < length script)
+ReadsScript script (Err _) = ⊤
+
+-- the records of the script, where it is text
+abbrev pub ReadsRecords : List ℕ → Result (List Record) End → Type 0
+ReadsRecords script (Ok records) = IsUtf8 script × (records ≡ sheet_records script)
+ReadsRecords script (Err (end.Stopped stop)) = (¬ (IsUtf8 script)) × (stop ≡ BadInput input.Script (cause.NotUtf8 (utf8_valid_len script)))
+ReadsRecords script (Err end.Failed) = ⊥
+ReadsRecords script (Err end.Memory) = ⊤
+
+-- what is found of the script, whatever the workbook
+abbrev pub FindsCommands : List ℕ → Result (List Record) End → Type 0
+FindsCommands script (Ok records) = (book : State) → FindsScript book script (Ready book records)
+FindsCommands script (Err (end.Stopped stop)) = (book : State) → FindsScript book script (Stops stop)
+FindsCommands script (Err _) = ⊤
+
+-- ---- both
+-- what a run finds; a failed call and want of memory tell nothing
+abbrev pub FindsAll : Named → Files → List ℕ → Result (State × List Record) End → Type 0
+FindsAll named files script (Ok found) = Finds named files script (Ready found.0 found.1)
+FindsAll named files script (Err (end.Stopped stop)) = Finds named files script (Stops stop)
+FindsAll named files script (Err _) = ⊤

@@ -1,6 +1,7 @@
 pub mod Words
+pub mod Stops
+pub mod Findings
 pub mod Headline
 pub mod Inputs
-pub mod Opening
 pub mod Answering
 pub mod Numbers

@@ -10,3 +10,5 @@ number_of status.Usage = 2
 number_of status.ReadFault = 3
 number_of status.WriteFault = 4
 number_of status.Memory = 5
+number_of status.Limit = 6
+number_of status.BadInput = 7

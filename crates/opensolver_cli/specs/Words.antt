@@ -1,15 +1,15 @@
 -- The words of the command line.
-use Rattle.std.specs.Prelude.{ℕ, ◌-◌, if◌then◌else◌, ◌==◌, ◌&&◌, nat_le, List, [], ◌∷◌, length, take, drop, Option, Some, None, option_map, codes, map, String, string_bytes}
+use Rattle.std.specs.Prelude.{ℕ, ◌-◌, if◌then◌else◌, ◌==◌, ◌&&◌, Bool, is_some, nat_le, List, [], ◌∷◌, length, take, drop, Option, Some, None, codes, map, String, string_bytes}
 use Rattle.std.specs.Option.{option_and_then}
 use Rattle.std.specs.Global.{Global}
-use Rattle.std.specs.List.{slice_split}
+use Rattle.std.specs.List.{list_all, slice_split}
 use Rattle.std.specs.Str.{bytes_eq}
+use Rattle.opensolver_cli.specs.declared.words.Named as words
 
--- the files of the names and of the sheet, and the sheet's name
+-- the file of the names and those of the sheets
 pub record Named : Type 0 where
   pub names : List ℕ
-  pub sheet : List ℕ
-  pub stem : List ℕ
+  pub sheets : List (List ℕ)
 
 -- the last part of a list of parts
 abbrev pub last_part : List (List ℕ) → List ℕ
@@ -31,14 +31,19 @@ before_csv word =
 abbrev pub stem_of : List ℕ → Option (List ℕ)
 stem_of word = option_and_then (λ path. some_text (last_part (slice_split (λ b. b == 47) path))) (before_csv word)
 
--- the files of the words `--names FILE FILE`
+-- a sheet's file: its name without the ending isn't empty
+abbrev pub is_sheet : List ℕ → Bool
+is_sheet word = is_some (stem_of word)
+
+-- the files of the words `--names FILE FILE...`
 abbrev pub files_named : List (List ℕ) → Option Named
-files_named [] = None
-files_named (a ∷ []) = None
-files_named (a ∷ b ∷ []) = None
-files_named (option ∷ names ∷ sheet ∷ []) =
-    if bytes_eq option (codes "--names") then option_map (λ stem. record { names = names; sheet = sheet; stem = stem }) (stem_of sheet) else None
-files_named (a ∷ b ∷ c ∷ d ∷ more) = None
+files_named (option ∷ names ∷ sheet ∷ more) =
+    if bytes_eq option (codes "--names") && list_all is_sheet (sheet ∷ more) then Some (record { names = names; sheets = sheet ∷ more }) else None
+files_named _ = None
 
 abbrev pub texts_of : List (String Global) → List (List ℕ)
 texts_of words = map string_bytes words
+
+-- what the words name, by their texts
+abbrev pub named_of : words.Named → Named
+named_of named = record { names = named.names.now; sheets = texts_of named.sheets.now }

@@ -5,7 +5,7 @@ use std::test::Fail;
 
 const SCRIPT: &str = "solve,plan\n";
 
-const REFUSED: &str = "refused unbuilt\n";
+const UNBUILT: &str = "refused unbuilt\n";
 
 // What a run prints over these files and this script.
 fn printed(alloc: Global, names: &[u8], plan: &[u8], script: &[u8]) -> Result<Vec<u8>, Fail> {
@@ -15,17 +15,46 @@ fn printed(alloc: Global, names: &[u8], plan: &[u8], script: &[u8]) -> Result<Ve
 }
 
 #[test]
-fn names_cut_at_every_byte(rt: HostRuntime) -> Result<(), Fail> {
+fn names_cut_within_a_record(rt: HostRuntime) -> Result<(), Fail> {
     let names = NAMES.as_bytes();
-    for end in 0..=names.len() {
+    for (end, want) in [
+        (0, UNBUILT),
+        (1, "bad-input names.csv name-row 1\n"),
+        (5, "bad-input names.csv name-row 1\n"),
+        (15, "bad-input names.csv name-row 1\n"),
+        (16, UNBUILT),
+        (20, UNBUILT),
+        (26, UNBUILT),
+        (27, "bad-input names.csv name-row 2\n"),
+        (41, "bad-input names.csv name-row 2\n"),
+        (42, UNBUILT),
+    ] {
         let text = printed(
             rt.alloc(),
             &names[..end],
             PLAN.as_bytes(),
             SCRIPT.as_bytes(),
         )?;
-        let want = if end + 1 < names.len() {
-            REFUSED
+        assert_eq!(rt; text.as_slice(), want.as_bytes(), "{end}");
+    }
+    Ok(())
+}
+
+#[test]
+fn names_cut_behind_a_record(rt: HostRuntime) -> Result<(), Fail> {
+    let names = NAMES.as_bytes();
+    for end in 0..=names.len() {
+        if end > 0 && names[end - 1] != b'\n' {
+            continue;
+        }
+        let text = printed(
+            rt.alloc(),
+            &names[..end],
+            PLAN.as_bytes(),
+            SCRIPT.as_bytes(),
+        )?;
+        let want = if end < names.len() {
+            UNBUILT
         } else {
             "optimal 8\n"
         };
@@ -45,7 +74,7 @@ fn a_sheet_cut_at_every_byte(rt: HostRuntime) -> Result<(), Fail> {
             SCRIPT.as_bytes(),
         )?;
         let want = if end + 1 < plan.len() {
-            REFUSED
+            UNBUILT
         } else {
             "optimal 8\n"
         };
@@ -66,27 +95,11 @@ fn a_script_cut_at_every_byte(rt: HostRuntime) -> Result<(), Fail> {
         )?;
         let want = match end {
             0 => "",
-            10 | 11 => "optimal 8\n",
-            _ => REFUSED,
+            1..=5 => "refused unknown-command\n",
+            6..=9 => "refused unknown-sheet\n",
+            _ => "optimal 8\n",
         };
         assert_eq!(rt; text.as_slice(), want.as_bytes(), "{end}");
-    }
-    Ok(())
-}
-
-#[test]
-fn bytes_that_are_no_text(rt: HostRuntime) -> Result<(), Fail> {
-    let names = NAMES.as_bytes();
-    let plan = PLAN.as_bytes();
-    let script = SCRIPT.as_bytes();
-    let bad = b"0,\xff\n".as_slice();
-    for (names, plan, script) in [
-        (bad, plan, script),
-        (names, bad, script),
-        (names, plan, bad),
-    ] {
-        let text = printed(rt.alloc(), names, plan, script)?;
-        assert_eq!(rt; text.as_slice(), REFUSED.as_bytes());
     }
     Ok(())
 }

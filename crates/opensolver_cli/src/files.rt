@@ -1,75 +1,108 @@
 // Reading the files that the words name.
-ghost use Rattle.std.specs.Prelude.{◌≡◌, ◌≤◌, IfSome};
-ghost use Rattle.opensolver_cli.specs.Inputs.{FileEnds, Fits, InputCause};
-ghost use Rattle.opensolver_cli.specs.Opening.{OpenCause, OpensFiles};
+ghost use Rattle.std.specs.Prelude.{◌≡◌, ◌≤◌, ◌<◌, All, IfOk, IfSome, length, string_bytes, true};
+ghost use Rattle.std.specs.FinMap.{get};
+ghost use Rattle.opensolver_cli.specs.Findings.{byte_limit};
+ghost use Rattle.opensolver_cli.specs.Inputs.{CanBeOpened, EndCause, OpensFiles, ReadsFile, ReadsSheet, ReadsSheets};
+ghost use Rattle.opensolver_cli.specs.Words.{is_sheet, named_of, texts_of};
 
-use crate::words::Named;
-use session::{OpenFault, Workbook};
+use crate::stop::{Cause, End, Input, Limit, Stop};
+use crate::words::{Named, stem_of};
 use solver_io::{Folder, ReadEnd};
 use std::alloc::Global;
-
-/// How the reading of an input ended.
-#[derive(Drop)]
-pub(crate) enum Input {
-    Bytes(Vec<u8>),
-    /// It isn't there, or it is longer than an input may be.
-    Unfit,
-    Failed,
-    Memory,
-}
-
-/// How the opening of the files ended.
-#[derive(Drop)]
-pub(crate) enum Opened {
-    Ready(Workbook),
-    Unbuilt,
-    Failed,
-    Memory,
-}
+use workbook::{File, Workbook};
 
 /// How many bytes an input may have.
-pub(crate) const LIMIT: usize = 16777216;
+pub(crate) const BYTES: usize = 16777216;
 
-/// Reads the names and then the sheet, and opens the workbook that they spell.
-pub(crate) fn open_files<F: Folder>(alloc: Global, named: &Named, folder: &mut F) -> Opened
-    ensures opens { IfSome (F.content folder.old) (λ files. OpensFiles (record { names = named.now.names.now; sheet = named.now.sheet.now; stem = named.now.stem.now }) files result) }
+/// How many sheets may be named.
+const SHEETS: usize = 32;
+
+/// Reads the names and then the sheets, and opens the workbook that they spell.
+pub(crate) fn open_files<F: Folder>(
+    alloc: Global,
+    named: &Named,
+    folder: &mut F,
+) -> Result<Workbook, End>
+    requires some { 0 < length named.now.sheets.now }
+    requires sheets { All (λ w. is_sheet (string_bytes w) ≡ true) named.now.sheets.now }
+    ensures opens { IfSome (F.content folder.old) (λ files. OpensFiles (named_of named.now) files result) }
     ensures same { F.content folder.new ≡ F.content folder.old }
-    ensures cause { OpenCause (F.read_faults folder.old) (F.read_faults folder.new) result }
     ensures later { F.read_faults folder.old ≤ F.read_faults folder.new }
+    ensures cause { EndCause (F.read_faults folder.old) (F.read_faults folder.new) result }
 {
-    let names = match read_file(alloc, folder, named.names) {
-        Input::Bytes(bytes) => bytes,
-        Input::Unfit => return Opened::Unbuilt,
-        Input::Failed => return Opened::Failed,
-        Input::Memory => return Opened::Memory,
-    };
-    let sheet = match read_file(alloc, folder, named.sheet) {
-        Input::Bytes(bytes) => bytes,
-        Input::Unfit => return Opened::Unbuilt,
-        Input::Failed => return Opened::Failed,
-        Input::Memory => return Opened::Memory,
-    };
-    match Workbook::open(alloc, named.stem, &sheet, &names) {
-        Ok(book) => Opened::Ready(book),
-        Err(OpenFault::Unbuilt) => Opened::Unbuilt,
-        Err(OpenFault::Memory) => Opened::Memory,
+    if named.sheets.len() > SHEETS {
+        return Err(End::Stopped(Stop::TooMuch(Limit::Sheets)));
+    }
+    let names = read_file(alloc, folder, Input::Names, named.names)?;
+    let sheets = read_sheets(alloc, folder, named.sheets)?;
+    match Workbook::open(alloc, &sheets, &names) {
+        Ok(book) => Ok(book),
+        Err(fault) => match Stop::of_files(fault) {
+            Some(stop) => Err(End::Stopped(stop)),
+            None => Err(End::Memory),
+        },
     }
 }
 
-/// Reads the file of this name.
-pub(crate) fn read_file<F: Folder>(alloc: Global, folder: &mut F, name: &str) -> Input
-    ensures ends { IfSome (F.content folder.old) (λ files. FileEnds files name.now result) }
-    ensures fits { Fits result }
+// Reads the files of the sheets.
+fn read_sheets<F: Folder>(alloc: Global, folder: &mut F, words: &[String]) -> Result<Vec<File>, End>
+    requires few { length words.now ≤ 32 }
+    requires sheets { All (λ w. is_sheet (string_bytes w) ≡ true) words.now }
+    ensures reads { IfSome (F.content folder.old) (λ files. ReadsSheets files (texts_of words.now) result) }
+    ensures count { IfOk result (λ files. length files.items ≡ length words.now) }
+    ensures open { IfOk result (λ files. All CanBeOpened files.items) }
     ensures same { F.content folder.new ≡ F.content folder.old }
-    ensures cause { InputCause (F.read_faults folder.old) (F.read_faults folder.new) result }
     ensures later { F.read_faults folder.old ≤ F.read_faults folder.new }
+    ensures cause { EndCause (F.read_faults folder.old) (F.read_faults folder.new) result }
+{
+    let mut files = Vec::new(alloc);
+    for (place, word) in words.iter().enumerate() {
+        let file = read_sheet(alloc, folder, place as u8, word.as_str())?;
+        let Ok(()) = files.push(file) else {
+            return Err(End::Memory);
+        };
+    }
+    Ok(files)
+}
+
+// Reads the file of a sheet, by the sheet's number.
+fn read_sheet<F: Folder>(alloc: Global, folder: &mut F, place: u8, word: &str) -> Result<File, End>
+    requires { is_sheet word.now ≡ true }
+    ensures reads { IfSome (F.content folder.old) (λ files. ReadsSheet (Input.Sheet place) word.now (get files word.now) result) }
+    ensures open { IfOk result CanBeOpened }
+    ensures same { F.content folder.new ≡ F.content folder.old }
+    ensures later { F.read_faults folder.old ≤ F.read_faults folder.new }
+    ensures cause { EndCause (F.read_faults folder.old) (F.read_faults folder.new) result }
+{
+    let bytes = read_file(alloc, folder, Input::Sheet(place), word)?;
+    let Some(stem) = stem_of(word) else {
+        unreachable!()
+    };
+    let Ok(stem) = String::from_str(alloc, stem) else {
+        return Err(End::Memory);
+    };
+    Ok(File::new(stem, bytes))
+}
+
+// Reads the file of an input.
+fn read_file<F: Folder>(
+    alloc: Global,
+    folder: &mut F,
+    input: Input,
+    word: &str,
+) -> Result<Vec<u8>, End>
+    ensures reads { IfSome (F.content folder.old) (λ files. ReadsFile input (get files word.now) result) }
+    ensures fits { IfOk result (λ bytes. length bytes.items ≤ byte_limit) }
+    ensures same { F.content folder.new ≡ F.content folder.old }
+    ensures later { F.read_faults folder.old ≤ F.read_faults folder.new }
+    ensures cause { EndCause (F.read_faults folder.old) (F.read_faults folder.new) result }
 {
     let mut bytes = Vec::new(alloc);
-    match folder.read(name, LIMIT, &mut bytes) {
-        ReadEnd::Whole => Input::Bytes(bytes),
-        ReadEnd::Missing => Input::Unfit,
-        ReadEnd::TooLong => Input::Unfit,
-        ReadEnd::Failed => Input::Failed,
-        ReadEnd::Memory => Input::Memory,
+    match folder.read(word, BYTES, &mut bytes) {
+        ReadEnd::Whole => Ok(bytes),
+        ReadEnd::Missing => Err(End::Stopped(Stop::BadInput(input, Cause::Missing))),
+        ReadEnd::TooLong => Err(End::Stopped(Stop::TooMuch(Limit::FileBytes))),
+        ReadEnd::Failed => Err(End::Failed),
+        ReadEnd::Memory => Err(End::Memory),
     }
 }

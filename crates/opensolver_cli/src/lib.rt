@@ -5,15 +5,16 @@ mod answer;
 mod files;
 mod script;
 mod status;
+mod stop;
 mod top;
 mod words;
 
 pub use status::Status;
-pub use top::run;
+pub use top::{run, there_is_one_finding};
 
 #[cfg(test)]
 mod cut_tests;
 #[cfg(test)]
-mod plain_tests;
+mod stop_tests;
 #[cfg(test)]
 mod tests;

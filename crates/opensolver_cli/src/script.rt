@@ -1,11 +1,11 @@
 // Reading the script.
-ghost use Rattle.std.specs.Prelude.{◌≡◌, ◌≤◌, ◌<◌, IfOk, IfSome, MatchOption, length};
-ghost use Rattle.sheet_csv.specs.Sheet.{sheet_records};
-ghost use Rattle.session.specs.Book.{IsUnmarkedText};
-ghost use Rattle.session.specs.Commands.{IsCommandOf};
-ghost use Rattle.opensolver_cli.specs.Inputs.{Fits, InputCause, ScriptEnds};
+ghost use Rattle.std.specs.Prelude.{◌≡◌, ◌≤◌, IfOk, IfSome, length};
+ghost use Rattle.commands.specs.Commands.{command_of, spoken};
+ghost use Rattle.opensolver_cli.specs.Findings.{byte_limit};
+ghost use Rattle.opensolver_cli.specs.Inputs.{EndCause, FindsCommands, ReadsRecords, ReadsScript};
 
-use crate::files::{Input, LIMIT};
+use crate::files::BYTES;
+use crate::stop::{Cause, End, Input, Limit, Stop};
 use session::{Command, Memory};
 use sheet_csv::{Record, Rows, SheetFault, read_records};
 use solver_io::Source;
@@ -13,52 +13,64 @@ use std::alloc::Global;
 
 const CHUNK: usize = 4096;
 
-/// Reads all that is left of the script.
-pub(crate) fn read_script<S: Source>(alloc: Global, script: &mut S) -> Input
-    ensures ends { IfSome (S.left script.old) (λ bytes. ScriptEnds bytes result) }
-    ensures fits { Fits result }
-    ensures cause { InputCause (S.faults script.old) (S.faults script.new) result }
+/// Reads the script to its end, and the records in it.
+pub(crate) fn read_commands<S: Source>(alloc: Global, script: &mut S) -> Result<Rows, End>
+    ensures finds { IfSome (S.left script.old) (λ bytes. FindsCommands bytes result) }
     ensures later { S.faults script.old ≤ S.faults script.new }
+    ensures cause { EndCause (S.faults script.old) (S.faults script.new) result }
+{
+    let bytes = read_script(alloc, script)?;
+    records(alloc, &bytes)
+}
+
+// Reads all that is left of the script.
+fn read_script<S: Source>(alloc: Global, script: &mut S) -> Result<Vec<u8>, End>
+    ensures reads { IfSome (S.left script.old) (λ bytes. ReadsScript bytes result) }
+    ensures fits { IfOk result (λ bytes. length bytes.items ≤ byte_limit) }
+    ensures later { S.faults script.old ≤ S.faults script.new }
+    ensures cause { EndCause (S.faults script.old) (S.faults script.new) result }
 {
     let mut bytes = Vec::new(alloc);
     let mut chunk = [0u8; CHUNK];
     loop {
         let Ok(count) = script.read(&mut chunk) else {
-            return Input::Failed;
+            return Err(End::Failed);
         };
         if count == 0 {
-            return Input::Bytes(bytes);
+            return Ok(bytes);
         }
-        if count > LIMIT - bytes.len() {
-            return Input::Unfit;
+        if count > BYTES - bytes.len() {
+            return Err(End::Stopped(Stop::TooMuch(Limit::ScriptBytes)));
         }
         if bytes.extend_from_slice(&chunk[..count]).is_err() {
-            return Input::Memory;
+            return Err(End::Memory);
         }
     }
 }
 
-/// The records of a script, where it is text without a byte order mark.
-pub(crate) fn script_records(alloc: Global, script: &[u8]) -> Result<Option<Rows>, Memory>
-    requires { length script.now ≤ 16777216 }
-    ensures { IfOk result (λ found. MatchOption found (¬ (IsUnmarkedText script.now)) (λ rows. IsUnmarkedText script.now × (rows ≡ sheet_records script.now))) }
+// The records of a script.
+fn records(alloc: Global, script: &[u8]) -> Result<Rows, End>
+    requires { length script.now ≤ byte_limit }
+    ensures { ReadsRecords script.now result }
 {
-    if script.starts_with(b"\xef\xbb\xbf") {
-        return Ok(None);
-    }
     match read_records(alloc, script) {
-        Ok(rows) => Ok(Some(rows)),
-        Err(SheetFault::Memory) => Err(Memory),
-        Err(_) => Ok(None),
+        Ok(rows) => Ok(rows),
+        Err(SheetFault::NotUtf8(place)) => {
+            let cause = Cause::NotUtf8(place);
+            Err(End::Stopped(Stop::BadInput(Input::Script, cause)))
+        }
+        Err(SheetFault::Memory) => Err(End::Memory),
+        Err(_) => unreachable!(),
     }
 }
 
 /// The command of a record.
 pub(crate) fn command_of(alloc: Global, fields: &Record) -> Result<Command, Memory>
-    ensures { IfOk result (IsCommandOf fields.now) }
+    ensures { IfOk result (λ c. spoken c ≡ command_of fields.now) }
 {
-    if fields.len() != 2 {
-        return Ok(Command::Unknown);
+    match fields.len() {
+        2 => Command::of(alloc, &[fields.text(0), fields.text(1)]),
+        3 => Command::of(alloc, &[fields.text(0), fields.text(1), fields.text(2)]),
+        _ => Ok(Command::Unknown),
     }
-    Command::of(alloc, &[fields.text(0), fields.text(1)])
 }

@@ -5,9 +5,9 @@ ghost use Rattle.opensolver_cli.specs.Numbers.{number_of};
 /// How a run ends.
 #[derive(Clone, Copy, Debug, PartialEq, Eq)]
 pub enum Status {
-    /// Every record of the script was answered.
+    /// Every record of the script was answered, and no answer is a refusal.
     Done,
-    /// The files or the script ask for what can't be done yet: the run says so in one line, and answers no record.
+    /// Every record of the script was answered, and an answer is a refusal.
     Refused,
     /// The words are no command line of this program.
     Usage,
@@ -16,6 +16,10 @@ pub enum Status {
     /// A write failed.
     WriteFault,
     Memory,
+    /// There is too much of something, and no record was answered: the run says of what in one line.
+    Limit,
+    /// A file or the script can't be taken, and no record was answered: the run says why in one line.
+    BadInput,
 }
 
 impl Status {
@@ -30,6 +34,8 @@ impl Status {
             Status::ReadFault => 3,
             Status::WriteFault => 4,
             Status::Memory => 5,
+            Status::Limit => 6,
+            Status::BadInput => 7,
         }
     }
 }

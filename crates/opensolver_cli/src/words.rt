@@ -1,38 +1,52 @@
 // The words of the command line.
-ghost use Rattle.std.specs.Prelude.{◌≡◌, ◌==◌, option_map};
-ghost use Rattle.std.specs.List.{slice_split};
+ghost use Rattle.std.specs.Prelude.{◌≡◌, ◌==◌, ◌≢◌, ◌<◌, [], All, IfSome, length, option_map, string_bytes, true};
+ghost use Rattle.std.specs.List.{list_all, slice_split};
 ghost use Rattle.opensolver_cli.specs.Words as line;
 
 /// The files that the words name.
 #[derive(Clone, Copy)]
 pub(crate) struct Named<'a> {
     pub(crate) names: &'a str,
-    pub(crate) sheet: &'a str,
-    /// The sheet's name: what stands behind the last slash of its file and before the ending.
-    pub(crate) stem: &'a str,
+    /// The files of the sheets, each with a name before its ending.
+    pub(crate) sheets: &'a [String],
 }
 
-/// The files of the words `--names FILE FILE`; none where they aren't of this form.
+/// The files of the words `--names FILE FILE...`; none where they aren't of this form.
 pub(crate) fn named_files(words: &[String]) -> Option<Named<'_>>
-    ensures { option_map (λ n. record { names = n.names.now; sheet = n.sheet.now; stem = n.stem.now }) result ≡ line.files_named (line.texts_of words.now) }
+    ensures named { option_map (λ n. line.named_of n) result ≡ line.files_named (line.texts_of words.now) }
+    ensures some { IfSome result (λ n. 0 < length n.sheets.now) }
+    ensures sheets { IfSome result (λ n. All (λ w. line.is_sheet (string_bytes w) ≡ true) n.sheets.now) }
 {
-    let [option, names, sheet] = words else {
+    let [option, names, sheets @ ..] = words else {
         return None;
     };
-    if option.as_str() != "--names" {
+    if option.as_str() != "--names" || sheets.is_empty() || !are_sheets(sheets) {
         return None;
     }
-    let names = names.as_str();
-    let sheet = sheet.as_str();
-    match stem_of(sheet) {
-        Some(stem) => Some(Named { names, sheet, stem }),
-        None => None,
-    }
+    Some(Named {
+        names: names.as_str(),
+        sheets,
+    })
 }
 
-// What stands behind the last slash and before the ending `.csv`, where that isn't empty.
-fn stem_of(word: &str) -> Option<&str>
-    ensures { option_map (λ s. s.now) result ≡ line.stem_of word.now }
+// Whether each word is a sheet's file.
+fn are_sheets(words: &[String]) -> bool
+    ensures { result ≡ list_all line.is_sheet (line.texts_of words.now) }
+{
+    words.iter().all(|word| is_sheet(word.as_str()))
+}
+
+// Whether the word is a sheet's file.
+fn is_sheet(word: &str) -> bool
+    ensures { result ≡ line.is_sheet word.now }
+{
+    stem_of(word).is_some()
+}
+
+/// What stands behind the last slash and before the ending `.csv`, where that isn't empty.
+pub(crate) fn stem_of(word: &str) -> Option<&str>
+    ensures stem { option_map (λ s. s.now) result ≡ line.stem_of word.now }
+    ensures some { IfSome result (λ s. s.now ≢ []) }
 {
     let Some(path) = before_csv(word) else {
         return None;

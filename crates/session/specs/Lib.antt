@@ -1,10 +1,2 @@
-pub mod Names
-pub mod Statement
-pub mod Choices
-pub mod Settings
-pub mod Plain
-pub mod Model
-pub mod Book
-pub mod Opening
-pub mod Commands
-pub mod Session
+pub mod States
+pub mod Steps

@@ -66,14 +66,14 @@ module _ (s : State) (texts rest : Texts) (e : Cell × List ℕ) (last : texts �
     formulas = let a = more_formulas in let b = fits.formulas in let c = formulas_grow s.contents e.0 e.1 in omega arith;
   }
 
-  pub fits_field : IsFieldText (length s.sheets) e
-  fits_field = (All-pop (IsFieldText (length s.sheets)) texts rest (Some e) last fits.fields).1
+  pub fits_field : IsFieldText s.sheets e
+  fits_field = (All-pop (IsFieldText s.sheets) texts rest (Some e) last fits.fields).1
 
   pub fits_rest : (t : State) → t ≡ record s { contents = insert s.contents e.0 e.1 } → TextsFit t rest
   fits_rest t is = subst (λ u. TextsFit u rest) (sym is) (record {
     room = let a = longer in let b = fits.room in let c = texts_grow s.contents e.0 e.1 in omega arith;
     formulas = let a = more_formulas in let b = fits.formulas in let c = formulas_grow s.contents e.0 e.1 in omega arith;
-    fields = (All-pop (IsFieldText (length s.sheets)) texts rest (Some e) last fits.fields).0;
+    fields = (All-pop (IsFieldText s.sheets) texts rest (Some e) last fits.fields).0;
   })
 
   pub fills_on : (t : State) (total : Contents) → t ≡ record s { contents = insert s.contents e.0 e.1 } → put_all texts s.contents ≡ total → put_all rest t.contents ≡ total

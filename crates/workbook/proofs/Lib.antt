@@ -10,3 +10,6 @@ pub mod Listing
 pub mod OpenLaws
 pub mod NameRows
 pub mod NextCells
+pub mod Widths
+pub mod OneWay
+pub mod Exchanges

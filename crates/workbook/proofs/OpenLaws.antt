@@ -75,32 +75,37 @@ any_split : (b c : Bool) → (b || c) ≡ false → (b ≡ false) × (c ≡ fals
 any_split true c e = absurd cc
 any_split false c e = (refl, e)
 
-module _ (sheets : ℕ) where
+module _ (sheets : List (List ℕ)) where
   abbrev pub AreFieldTexts : Texts → Type 0
   AreFieldTexts texts = All (IsFieldText sheets) texts
 
-  field_texts : (sheet row column : ℕ) (fields : Record) → sheet < sheets → is_long 8192 fields ≡ false → AreFieldTexts (texts_in_record sheet row column fields)
-  field_texts sheet row column [] lt h = All-nil (IsFieldText sheets)
-  field_texts sheet row column ([] ∷ fields) lt h = field_texts sheet row (suc column) fields lt (any_split (nat_lt 8192 0) (is_long 8192 fields) h).1
-  field_texts sheet row column ((b ∷ text) ∷ fields) lt h =
+  field_texts : (sheet row column : ℕ) (fields : Record) → sheet < length sheets → row < 4096 → column + length fields ≤ 256 → is_long 8192 fields ≡ false
+      → AreFieldTexts (texts_in_record sheet row column fields)
+  field_texts sheet row column [] lt low fits h = All-nil (IsFieldText sheets)
+  field_texts sheet row column ([] ∷ fields) lt low fits h =
+      field_texts sheet row (suc column) fields lt low (omega arith) (any_split (nat_lt 8192 0) (is_long 8192 fields) h).1
+  field_texts sheet row column ((b ∷ text) ∷ fields) lt low fits h =
       let k = any_split (nat_lt 8192 (length (b ∷ text))) (is_long 8192 fields) h in
       All-cons (IsFieldText sheets) _ _
-      (record { some = λ e. cc; short = not_more 8192 (length (b ∷ text)) k.0; listed = lt })
-      (field_texts sheet row (suc column) fields lt k.1)
+      (record { some = λ e. cc; short = not_more 8192 (length (b ∷ text)) k.0; listed = record { sheet = lt; row = low; column = omega arith } })
+      (field_texts sheet row (suc column) fields lt low (omega arith) k.1)
 
-  record_texts : (sheet row : ℕ) (rows : List Record) → sheet < sheets → first_long 8192 rows ≡ None → AreFieldTexts (texts_in_records sheet row rows)
-  record_texts sheet row [] lt h = All-nil (IsFieldText sheets)
-  record_texts sheet row (fields ∷ rows) lt h =
+  record_texts : (sheet row : ℕ) (rows : List Record) → sheet < length sheets → row + length rows ≤ 4096 → first_wide 256 rows ≡ None → first_long 8192 rows ≡ None
+      → AreFieldTexts (texts_in_records sheet row rows)
+  record_texts sheet row [] lt fits wide h = All-nil (IsFieldText sheets)
+  record_texts sheet row (fields ∷ rows) lt fits wide h =
       let k = nowhere (is_long 8192) fields rows h in
+      let w = nowhere (λ (row : Record). nat_lt 256 (length row)) fields rows wide in
+      let few = not_more 256 (length fields) w.0 in
       All-append (IsFieldText sheets) (texts_in_record sheet row 0 fields) (texts_in_records sheet (suc row) rows)
-      (field_texts sheet row 0 fields lt k.0) (record_texts sheet (suc row) rows lt k.1)
+      (field_texts sheet row 0 fields lt (omega arith) (omega arith) k.0) (record_texts sheet (suc row) rows lt (omega arith) w.1 k.1)
 
-  pub file_texts : (sheet : ℕ) (files : List SheetFile) → sheet + length files ≤ sheets → All (λ (f : SheetFile). IsRead sheet_limits f.bytes) files → AreFieldTexts (texts_in_files sheet files)
+  pub file_texts : (sheet : ℕ) (files : List SheetFile) → sheet + length files ≤ length sheets → All (λ (f : SheetFile). IsRead sheet_limits f.bytes) files → AreFieldTexts (texts_in_files sheet files)
   file_texts sheet [] fits h = All-nil (IsFieldText sheets)
   file_texts sheet (f ∷ files) fits h =
       let one = All-head (λ (f : SheetFile). IsRead sheet_limits f.bytes) f files h in
       All-append (IsFieldText sheets) (texts_in_records sheet 0 (sheet_records f.bytes)) (texts_in_files (suc sheet) files)
-      (record_texts sheet 0 (sheet_records f.bytes) (omega arith) one.4)
+      (record_texts sheet 0 (sheet_records f.bytes) (omega arith) (omega (arith, one.2)) one.3 one.4)
       (file_texts (suc sheet) files (omega arith) (All-tail (λ (f : SheetFile). IsRead sheet_limits f.bytes) f files h))
 
 -- ---- names are short
@@ -142,7 +147,7 @@ pub room_for : (files : List SheetFile) (names : List Name) (texts : Texts) (sta
 room_for files names texts state is same few few_f read = subst (λ s. TextsFit s texts) (sym is) (record {
   room = let a = no_texts in omega arith;
   formulas = let a = no_formulas in omega arith;
-  fields = subst (λ l. All (IsFieldText (length (stems_of files))) l) (sym same) (file_texts (length (stems_of files)) 0 files (let e = listed files in omega arith) read);
+  fields = subst (λ l. All (IsFieldText (stems_of files)) l) (sym same) (file_texts (stems_of files) 0 files (let e = listed files in omega arith) read);
 })
   where
     listed : (files : List SheetFile) → length (stems_of files) ≡ length files
@@ -196,8 +201,8 @@ module _ (files : List SheetFile) (names : List ℕ) where
   name_fault fault.TooManyNames stems is fit h =
       (record { contents = fit; read = h.0; good = subst (λ s. bad_name_row s [] (sheet_records names) ≡ None) is h.1 }, h.2)
   name_fault (fault.NameFile (sheet_fault.NotUtf8 n)) stems is fit h = (fit, h)
-  name_fault (fault.NameFile sheet_fault.TooManyRows) stems is fit h = (fit, h)
-  name_fault (fault.NameFile (sheet_fault.TooManyColumns n)) stems is fit h = (fit, h)
+  name_fault (fault.NameFile sheet_fault.TooManyRows) stems is fit h = absurd h
+  name_fault (fault.NameFile (sheet_fault.TooManyColumns n)) stems is fit h = absurd h
   name_fault (fault.NameFile (sheet_fault.FieldTooLong n)) stems is fit h = (fit, h)
   name_fault (fault.NameFile sheet_fault.Memory) stems is fit h = absurd h
   name_fault fault.Memory stems is fit h = tt

@@ -6,6 +6,7 @@ use Rattle.workbook.specs.declared.limits.TheConstants.{TEXTS}
 use Rattle.workbook.specs.declared.gather.Stop.{Stop}
 use Rattle.workbook.specs.declared.gather.Stop.TheVariants as stop
 use Rattle.workbook.specs.Files.{SheetFile, texts_in_records}
+use Rattle.workbook.specs.Listed.{IsListed}
 
 -- the texts of sheets by their records, from a sheet on
 abbrev pub texts_in_sheets : ℕ → List (List Record) → List (Cell × List ℕ)
@@ -27,7 +28,7 @@ IsStop texts stop.Full = TEXTS < length texts
 IsStop texts stop.Memory = ⊤
 
 -- a text that a file gives a cell: it is not empty, no longer than a field, and on a sheet
-pub record IsFieldText (sheets : ℕ) (e : Cell × List ℕ) : Type 0 where
+pub record IsFieldText (sheets : List (List ℕ)) (e : Cell × List ℕ) : Type 0 where
   pub some : e.1 ≢ []
   pub short : length e.1 ≤ 8192
-  pub listed : e.0.sheet.0 < sheets
+  pub listed : IsListed sheets e.0

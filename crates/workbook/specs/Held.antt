@@ -13,6 +13,7 @@ use Rattle.workbook.specs.declared.held.Said.{Said}
 use Rattle.workbook.specs.declared.held.Said.TheVariants as said
 use Rattle.workbook.specs.declared.limits.TheConstants.{FORMULAS, TEXTS}
 use Rattle.workbook.specs.Kinds.{says}
+use Rattle.workbook.specs.Listed.{IsListed}
 use Rattle.workbook.specs.Scoped.{IsShort}
 use Rattle.workbook.specs.State.{Name, formula_count, text_count}
 
@@ -36,8 +37,9 @@ abbrev pub IsSoundly : Said → Type 0
 IsSoundly (said.Formula t) = IsSound t
 IsSoundly _ = ⊤
 
--- what is held of a cell says what its text says, which is not empty
+-- what is held of a cell on a sheet says what its text says, which is not empty
 pub record IsHeld (sheets : List (List ℕ)) (names : List Name) (cell : Cell) (held : Held) : Type 0 where
+  pub listed : IsListed sheets cell
   pub some : held.text ≢ []
   pub agrees : entry_of held.text held.said ≡ says sheets names cell held.text
   pub sound : IsSoundly held.said

@@ -11,3 +11,7 @@ pub mod Scoped
 pub mod Room
 pub mod Gathered
 pub mod Opened
+pub mod Listed
+pub mod Replacing
+pub mod Determined
+pub mod Exchanging

@@ -76,6 +76,8 @@ ReadsNames sheets bytes (Ok names) =
     × (bad_name_row sheets [] (sheet_records bytes) ≡ None) × (names ≡ names_in sheets [] (sheet_records bytes))
 ReadsNames sheets bytes (Err fault.Memory) = Unit {0}
 ReadsNames sheets bytes (Err (fault.NameFile sheet_fault.Memory)) = ⊥
+ReadsNames sheets bytes (Err (fault.NameFile sheet_fault.TooManyRows)) = ⊥
+ReadsNames sheets bytes (Err (fault.NameFile (sheet_fault.TooManyColumns n))) = ⊥
 ReadsNames sheets bytes (Err (fault.NameFile f)) = ReadsSheet name_limits bytes (Err f)
 ReadsNames sheets bytes (Err (fault.BadNameRow row)) = IsRead name_limits bytes × (bad_name_row sheets [] (sheet_records bytes) ≡ Some row)
 ReadsNames sheets bytes (Err fault.TooManyNames) =
@@ -86,4 +88,4 @@ ReadsNames sheets bytes (Err _) = ⊥
 pub record TextsFit (state : State) (texts : List (Cell × List ℕ)) : Type 0 where
   pub room : length texts + text_count state.contents ≤ TEXTS
   pub formulas : length (formulas_in texts) + formula_count state.contents ≤ FORMULAS
-  pub fields : All (IsFieldText (length state.sheets)) texts
+  pub fields : All (IsFieldText state.sheets) texts

@@ -16,7 +16,7 @@ use Rattle.workbook.specs.declared.fault.OpenFault.TheVariants as fault
 use Rattle.workbook.specs.State.{State, is_formula_text}
 use Rattle.workbook.specs.Files.{SheetFile, bad_name_row, here_or_later, state_in, stems_of, texts_in_files}
 
--- what is allowed of a sheet's file, and of the file of names
+-- what is allowed of a sheet's file, and of the file of names, which may have any number of records and fields
 abbrev pub sheet_limits : CsvLimits
 sheet_limits = record { rows = ROWS; columns = COLUMNS; field = FIELD }
 
@@ -71,6 +71,8 @@ Opens files names (Err fault.TooManyCells) = SheetsAreRead files × (TEXTS < len
 Opens files names (Err fault.TooManyFormulas) =
     SheetsAreRead files × (length (texts_in_files 0 files) ≤ TEXTS) × (FORMULAS < length (formulas_in (texts_in_files 0 files)))
 Opens files names (Err (fault.NameFile sheet_fault.Memory)) = ⊥
+Opens files names (Err (fault.NameFile sheet_fault.TooManyRows)) = ⊥
+Opens files names (Err (fault.NameFile (sheet_fault.TooManyColumns n))) = ⊥
 Opens files names (Err (fault.NameFile f)) = ContentsFit files × ReadsSheet name_limits names (Err f)
 Opens files names (Err (fault.BadNameRow row)) =
     ContentsFit files × IsRead name_limits names × (bad_name_row (stems_of files) [] (sheet_records names) ≡ Some row)

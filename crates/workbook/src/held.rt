@@ -1,5 +1,5 @@
 // What is held of a cell.
-ghost use Rattle.std.specs.Prelude.{◌≡◌, ◌+◌, if◌then◌else◌, None, OnErr, OnOk, Some, is_some, length, option_map};
+ghost use Rattle.std.specs.Prelude.{◌≡◌, ◌+◌, if◌then◌else◌, IsSome, None, OnErr, OnOk, Some, is_some, length, option_map};
 ghost use Rattle.std.specs.BTreeMap.{is_at};
 ghost use Rattle.cell_refs.specs.declared.cell.Cell.{Cell};
 ghost use Rattle.cell_refs.specs.Cells.{cell_cmp};
@@ -78,5 +78,17 @@ pub(crate) fn put_in(cells: &mut BTreeMap<Cell, Held>, cell: Cell, held: Held) -
     match cells.insert(cell, held) {
         Ok(_) => Ok(()),
         Err(_) => Err(Memory),
+    }
+}
+
+/// Puts into a cell what is held of it, in place of what is there.
+pub(crate) fn put_over(cells: &mut BTreeMap<Cell, Held>, cell: Cell, held: Held)
+    requires { IsSome (held_at cells.old.entries cell) }
+    ensures put { (q : Cell) → held_at cells.new.entries q
+        ≡ (if is_at (cell_cmp cell) q then Some held else held_at cells.old.entries q) }
+    ensures len { length cells.new.entries ≡ length cells.old.entries }
+{
+    if let Some(place) = cells.get_mut(&cell) {
+        *place = held;
     }
 }

@@ -19,6 +19,7 @@ mod workbook;
 pub use fault::{EditFault, OpenFault};
 pub use file::File;
 pub use kind::Kind;
+pub use open::files_open_in_one_way;
 pub use workbook::Workbook;
 
 #[cfg(test)]

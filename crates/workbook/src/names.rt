@@ -49,12 +49,12 @@ impl Name {
 }
 
 // Whether two sheets are the same.
-fn is_same_sheet(own: Option<SheetId>, sheet: Option<SheetId>) -> bool
-    ensures { result ≡ is_same_sheet (option_map (λ s. s.0) own) (option_map (λ s. s.0) sheet) }
+fn is_same_sheet(named: Option<SheetId>, sheet: Option<SheetId>) -> bool
+    ensures { result ≡ is_same_sheet (option_map (λ s. s.0) named) (option_map (λ s. s.0) sheet) }
 {
-    match (own, sheet) {
+    match (named, sheet) {
         (None, None) => true,
-        (Some(own), Some(sheet)) => own.0 == sheet.0,
+        (Some(named), Some(sheet)) => named.0 == sheet.0,
         _ => false,
     }
 }

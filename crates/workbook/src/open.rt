@@ -1,6 +1,7 @@
 // Opening a workbook.
 ghost use Rattle.std.specs.Prelude.{◌≡◌, ◌≢◌, ◌≤◌, ◌<◌, ◌++◌, ◌∷◌, [], All, IfOk, MatchBool, OnOk, length, option_map};
 ghost use Rattle.workbook.specs.Files.{SheetFile, is_new, name_in, sheet_in, with_name};
+ghost use Rattle.workbook.specs.Determined.{OneOpening};
 ghost use Rattle.workbook.specs.Opening.{Opens};
 ghost use Rattle.workbook.specs.Gathered.{FitsSheet};
 ghost use Rattle.workbook.specs.Held.{put_all};
@@ -39,6 +40,11 @@ impl Workbook {
         Ok(workbook)
     }
 }
+
+/// But for want of memory, files are opened as one workbook, or have one fault.
+pub fn files_open_in_one_way()
+    ensures { OneOpening }
+{}
 
 // The sheets' names.
 fn sheets_of(alloc: Global, files: &[File]) -> Result<SheetNames, OpenFault>

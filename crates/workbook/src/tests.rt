@@ -1,13 +1,16 @@
 // Workbooks over files in memory. What is expected follows from the rules by hand.
 ghost use Rattle.std.specs.Prelude.{◌≡◌, ◌≢◌, ◌≤◌, ◌<◌, [], All, IfOk, length};
 ghost use Rattle.workbook.specs.Files.{SheetFile};
+ghost use Rattle.workbook.specs.Replacing.{CanReplace};
 
+use crate::words::is_formula;
 use crate::workbook::is_outside;
 use crate::{EditFault, File, Kind, OpenFault, Workbook};
 use cell_refs::{Cell, SheetId};
 use formula_ast::Node;
 use frac128::Frac;
 use sheet_csv::SheetFault;
+use sheet_model::Text;
 use std::alloc::Global;
 use std::test::Fail;
 
@@ -270,5 +273,61 @@ fn texts_that_are_set(rt: HostRuntime) -> Result<(), Fail> {
     assert!(rt; fault == Some(EditFault::OutOfSheet));
     let fault = set(&mut workbook, at(0, 0, 256), "1")?;
     assert!(rt; fault == Some(EditFault::OutOfSheet));
+    Ok(())
+}
+
+// A text for a cell, where it can take the place of the cell's.
+fn replacing(
+    alloc: Global,
+    workbook: &Workbook,
+    cell: Cell,
+    text: &str,
+) -> Result<(Cell, Text), Fail>
+    ensures { IfOk result (λ e. CanReplace workbook.now.contents e) }
+{
+    if workbook.content(cell).is_empty() {
+        return Err(Fail::new("the cell has no text"));
+    }
+    if text.is_empty() || text.len() > 1000 || is_formula(text) {
+        return Err(Fail::new("the text can take no place"));
+    }
+    Ok((cell, Text::new(String::from_str(alloc, text)?)))
+}
+
+// Puts texts in place of others.
+fn replace(alloc: Global, workbook: &mut Workbook, texts: &[(Cell, &str)]) -> Result<(), Fail> {
+    let mut list = Vec::new(alloc);
+    for (cell, text) in texts {
+        let entry = replacing(alloc, workbook, *cell, text)?;
+        list.push(entry)?;
+    }
+    Ok(workbook.replace_all(list)?)
+}
+
+#[test]
+fn texts_that_are_replaced(rt: HostRuntime) -> Result<(), Fail> {
+    let Some(five) = Frac::new(5, 1) else {
+        return Err(Fail::new("five"));
+    };
+    let mut workbook = two(rt.alloc())?;
+    replace(
+        rt.alloc(),
+        &mut workbook,
+        &[
+            (at(0, 0, 0), "5"),
+            (at(0, 2, 1), "true"),
+            (at(0, 0, 0), "6"),
+        ],
+    )?;
+    for (cell, text, want) in [
+        (at(0, 0, 0), "5", Kind::Number(five)),
+        (at(0, 2, 1), "true", Kind::Logical(true)),
+        (at(0, 0, 2), "x", Kind::Plain),
+        (at(0, 0, 1), "", Kind::Empty),
+    ] {
+        assert!(rt; has(&workbook, cell, text)?, "{text:?}");
+        assert!(rt; kind(&workbook, cell)? == want, "{text:?}");
+    }
+    assert!(rt; workbook.texts() == 4);
     Ok(())
 }

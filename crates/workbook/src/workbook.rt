@@ -1,17 +1,20 @@
 // A workbook.
-ghost use Rattle.std.specs.Prelude.{◌≡◌, ◌&&◌, ◌<◌, ◌≤◌, ◌≢◌, [], All, MatchOption, None, OnErr, OnOk, Some, false, length, nat_le, nat_lt, not, option_map};
+ghost use Rattle.std.specs.Prelude.{◌≡◌, ◌&&◌, ◌<◌, ◌≤◌, ◌≢◌, [], All, IfOk, MatchOption, None, OnErr, OnOk, Some, false, length, map, nat_le, nat_lt, not, option_map};
 ghost use Rattle.std.specs.FinMap as finmap;
 ghost use Rattle.workbook.specs.Contents.{IsLast, IsNext, content_of, kind_of, tree_of};
 ghost use Rattle.recalculation.specs.Entries.{entry};
 ghost use Rattle.recalculation.specs.Ordered.{HasAreasInOrder};
 ghost use Rattle.workbook.specs.Edits.{Sets, after_set, is_outside, set_fault};
-ghost use Rattle.workbook.specs.Held.{IsHeld};
+ghost use Rattle.workbook.specs.Held.{put_all, text_entry};
 ghost use Rattle.workbook.specs.Kinds.{book_of};
+ghost use Rattle.workbook.specs.Listed.{IsListed, TextsAreListed};
+ghost use Rattle.workbook.specs.Exchanging.{IsExchange};
+ghost use Rattle.workbook.specs.Replacing.{CanReplace};
 ghost use Rattle.workbook.specs.State.{formula_count, is_formula_text, text_count, text_of, with_text};
 ghost use Rattle.workbook.specs.Room.{HasRoom};
 ghost use Rattle.workbook.specs.Scoped.{IsShort};
 
-use crate::held::{Held, put_in, take_away};
+use crate::held::{Held, put_in, put_over, take_away};
 use crate::limits::{FIELD, FORMULAS, TEXTS};
 use crate::memory::Memory;
 use crate::named::Scope;
@@ -142,7 +145,7 @@ impl Workbook {
 
     // Puts a text into a cell.
     pub(crate) fn put(&mut self, cell: Cell, text: Text) -> Result<(), Memory>
-        requires listed { cell.sheet.0 < length self.old.sheets }
+        requires listed { IsListed self.old.sheets cell }
         requires some { text ≢ [] }
         requires short { length text ≤ 8192 }
         requires room { HasRoom self.old.contents cell text }
@@ -160,6 +163,77 @@ impl Workbook {
         put_in(&mut self.cells, cell, Held { text, said })?;
         self.formulas = self.formulas + one(is_one) - one(was_one);
         Ok(())
+    }
+
+    /// Puts texts in place of those that their cells have, the last of them first. On want of memory nothing has changed.
+    pub fn replace_all(&mut self, texts: Vec<(Cell, Text)>) -> Result<(), sheet_model::Memory>
+        requires { All (CanReplace self.old.contents) texts.items }
+        ensures ok { OnOk result (self.new ≡ record self.old { contents = put_all texts.items self.old.contents }) }
+        ensures err { OnErr result (self.new ≡ self.old) }
+    {
+        let Ok(held) = self.all_said(texts) else {
+            return Err(sheet_model::Memory);
+        };
+        self.exchange_all(held);
+        Ok(())
+    }
+
+    // What texts say in their cells.
+    fn all_said(&self, texts: Vec<(Cell, Text)>) -> Result<Vec<(Cell, Held)>, Memory>
+        requires { All (CanReplace self.now.contents) texts.items }
+        ensures texts { IfOk result (λ held. map text_entry held.items ≡ texts.items) }
+        ensures fit { IfOk result (λ held. All (IsExchange self.now) held.items) }
+    {
+        let mut held = Vec::new(self.alloc);
+        for (cell, text) in texts {
+            let entry = self.held(cell, text)?;
+            held.push((cell, entry))?;
+        }
+        Ok(held)
+    }
+
+    // What is held of a cell that has a text, with another text in its place.
+    fn held(&self, cell: Cell, text: Text) -> Result<Held, Memory>
+        requires { CanReplace self.now.contents (cell, text) }
+        ensures text { IfOk result (λ held. held.text ≡ text) }
+        ensures fits { IfOk result (λ held. IsExchange self.now (cell, held)) }
+    {
+        let said = say(self.alloc, &self.scope(cell), cell, text.as_str())?;
+        Ok(Held { text, said })
+    }
+
+    // The sheets and the names by which a cell's text is read.
+    fn scope(&self, cell: Cell) -> Scope<'_>
+        ensures home { result.home ≡ cell.sheet }
+        ensures sheets { result.sheets.now ≡ self.now.sheets }
+        ensures names { result.names.now ≡ self.now.names }
+        ensures short { All IsShort self.now.names }
+    {
+        Scope {
+            home: cell.sheet,
+            sheets: &self.sheets,
+            names: &self.names,
+        }
+    }
+
+    // Puts what is held into cells that have a text, the last of them first.
+    fn exchange_all(&mut self, mut held: Vec<(Cell, Held)>)
+        requires { All (IsExchange self.old) held.items }
+        ensures { self.new ≡ record self.old { contents = put_all (map text_entry held.items) self.old.contents } }
+    {
+        while let Some((cell, entry)) = held.pop() {
+            self.exchange(cell, entry);
+        }
+    }
+
+    // Puts what is held into a cell that has a text.
+    fn exchange(&mut self, cell: Cell, held: Held)
+        requires { IsExchange self.old (cell, held) }
+        ensures { self.new ≡ record self.old { contents = finmap.insert self.old.contents cell held.text } }
+    {
+        let was_one = self.has_formula(cell);
+        put_over(&mut self.cells, cell, held);
+        self.formulas -= one(was_one);
     }
 
     /// Takes away the text of a cell.
@@ -237,6 +311,13 @@ impl Workbook {
     /// Each area to which a formula refers has its top left corner first.
     pub fn areas_are_in_order(&self)
         ensures { HasAreasInOrder (book_of self.now) }
+    {
+        let _formulas = self.formulas;
+    }
+
+    /// Each cell with a text lies on one of the sheets.
+    pub fn texts_are_listed(&self)
+        ensures { TextsAreListed self.now }
     {
         let _formulas = self.formulas;
     }

@@ -1,7 +1,15 @@
-use Rattle.std.proofs.Common.{◌∙◌}
-use Rattle.opensolver_cli.proofs.StepLaws.{answered}
+use Rattle.std.proofs.Common.{ap, ◌∙◌}
+use Rattle.std.proofs.lemmas.Result.{err_from_is_err_and}
+use Rattle.commands.specs.Commands.{spoken}
+use Rattle.commands.specs.Lines.{answer_text}
+use Rattle.opensolver_cli.proofs.StepLaws.{cut_off}
 use Rattle.opensolver_cli.proofs.answer.answer_record.Goals as goal
 
-pub returns-clause-answers : goal.returns-clause-answers
-returns-clause-answers g c =
-    answered c.args.session.now c.apply.new.self c.args.fields.now c.in-Ok.command c.in-Ok-apply.answer _ _ _ c.write.result c.in-Ok.ensures c.in-Ok-apply.ensures.answers (c.as_bytes.ensures.value ∙ c.in-Ok-line.ensures) c.write.ensures.appends
+pub returns-in_err-write-clause-answers : goal.returns-in_err-write-clause-answers
+returns-in_err-write-clause-answers g c =
+    let p = err_from_is_err_and c.from_residual.result c.from_residual.ensures.1 in
+    let sheets = c.sheets.ensures ∙ c.in-Ok-apply.ensures.sheets in
+    let text = c.as_bytes.ensures.value ∙ c.in-Ok-line.ensures ∙ ap (λ z. answer_text z c.in-Ok-apply.answer) sheets in
+    rw p.1
+    (cut_off c.args.session.now c.apply.new.self c.args.fields.now (spoken c.in-Ok.command) c.in-Ok-apply.answer c.as_bytes.result.now (g.K.Sink.written c.args.out.now) (g.K.Sink.written c.write.new.self)
+    c.in-Ok.ensures c.in-Ok-apply.ensures.step text c.in_err-write.ensures.appends)

@@ -1,10 +1,12 @@
-use Rattle.std.proofs.Common.{◌∙◌, [], ap, arith, length, refl, subst, sym}
+use Rattle.std.proofs.Common.{◌∙◌, [], Err, ap, arith, length, refl, subst, sym}
 use Rattle.std.specs.Prelude.{All}
 use Rattle.std.proofs.lemmas.List.Elements.{All-nil}
 use Rattle.sheet_csv.specs.Sheet.{sheet_records}
 use Rattle.workbook.specs.Files.{bad_name_row, names_in}
 use Rattle.workbook.specs.Scoped.{IsShort}
+use Rattle.workbook.specs.Opened.{ReadsNames}
 use Rattle.workbook.proofs.OpenLaws.{short_names}
+use Rattle.workbook.proofs.Widths.{names_unread}
 use Rattle.workbook.proofs.open.names_of.Goals as goal
 
 pub returns : goal.returns
@@ -18,3 +20,8 @@ returns c =
       ap (bad_name_row c.args.sheets.now []) (sym read.0) ∙ c.in_ok-names.ensures.0,
       named,
     )
+
+pub returns-in-Err : goal.returns-in-Err
+returns-in-Err c =
+    subst (λ f. ReadsNames c.args.sheets.now c.args.bytes.now (Err f)) (sym c.name_fault.ensures)
+    (names_unread c.args.sheets.now c.args.bytes.now c.in-Err.fault c.requires c.in-Err.ensures.reads)

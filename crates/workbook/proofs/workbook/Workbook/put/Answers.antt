@@ -3,6 +3,7 @@ use Rattle.std.specs.FinMap.{insert}
 use Rattle.workbook.specs.Contents.{content_of}
 use Rattle.workbook.specs.Held.{IsHeld, contents_of, entry_of}
 use Rattle.workbook.specs.Kinds.{says}
+use Rattle.workbook.specs.Listed.{IsListed}
 use Rattle.workbook.specs.Room.{HasRoom}
 use Rattle.workbook.specs.State.{is_formula_text}
 use Rattle.workbook.specs.declared.held.Held.{Held}
@@ -27,6 +28,7 @@ invariant_of-self-2 c =
     let is : c.one.result ≡ one (is_formula_text c.args.text) = c.one.ensures ∙ ap one (c.is_formula-is_one.ensures ∙ ap is_formula_text c.as_str-2.ensures) in
     let held : Held = record { text = c.args.text; said = c.in_ok-said.said } in
     let own : IsHeld sheets names c.args.cell held = record {
+      listed = subst (λ s. IsListed s.sheets c.args.cell) (sym c.self.view_is) c.requires.listed;
       some = c.requires.some;
       agrees = subst (λ t. entry_of t c.in_ok-said.said ≡ says sheets names c.args.cell t) c.as_str.ensures c.in_ok-said.ensures.agrees;
       sound = c.in_ok-said.ensures.sound;

@@ -1,0 +1,16 @@
+pub mod Sizes
+pub mod Terms
+pub mod StatementLaws
+pub mod ChoiceLaws
+pub mod AreaLaws
+pub mod DecisionLaws
+pub mod WorthLaws
+pub mod SideLaws
+pub mod RowLaws
+pub mod PlainLaws
+pub mod Bits
+pub mod Solutions
+pub mod Written
+pub mod After
+pub mod WholeNumbers
+pub mod OneStatement

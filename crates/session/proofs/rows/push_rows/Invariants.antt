@@ -1,9 +1,0 @@
-use Rattle.std.proofs.Common.{true, take}
-use Rattle.session.specs.Plain.{rows_of_one}
-use Rattle.session.specs.Model.{PushesRows}
-use Rattle.session.specs.declared.statement.Constraint.TheVariants.{AtMost}
-use Rattle.session.proofs.rows.push_rows.Given as goal
-
--- the rows so far were pushed
-abbrev pub invariant-loop-place : goal.invariant-loop-place
-invariant-loop-place l = PushesRows l.contents l.decisions l.initial.all.items l.all.items (take l.place (rows_of_one (AtMost l.left l.right))) true
