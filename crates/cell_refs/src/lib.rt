@@ -5,7 +5,6 @@ mod address;
 mod cell;
 mod error_kind;
 mod limits;
-mod memory;
 mod names;
 mod op;
 mod print;

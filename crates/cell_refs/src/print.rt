@@ -4,7 +4,8 @@ ghost use Rattle.std.specs.List.{list_all};
 ghost use Rattle.cell_refs.specs.Address.{IsAddress, address_text, column_text};
 ghost use Rattle.cell_refs.specs.Names.{begins_word, cell_text, doubled, goes_on_word, is_plain, name_text};
 
-use crate::{COLUMNS, Cell, Memory, ROWS, SheetNames};
+use crate::{COLUMNS, Cell, ROWS, SheetNames};
+use memory::Memory;
 use std::fmt::Write;
 
 /// Appends the address of a row and a column, from 0: `A2` of 1 and 0. It reads back as them.

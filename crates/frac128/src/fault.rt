@@ -6,8 +6,3 @@ use thiserror::Error;
 #[derive(Debug, Clone, Copy, PartialEq, Eq, Drop, Error)]
 #[error("a number does not fit 128 bits")]
 pub struct Wide;
-
-/// The memory ran out.
-#[derive(Debug, Clone, Copy, PartialEq, Eq, Drop, Error)]
-#[error("out of memory")]
-pub struct Memory;

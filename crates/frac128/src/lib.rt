@@ -12,8 +12,9 @@ mod read;
 mod significand;
 mod write;
 
-pub use fault::{Memory, Wide};
+pub use fault::Wide;
 pub use laws::narrow_is_tested;
+pub use memory::Memory;
 pub use number::Frac;
 pub use numeral_fault::NumeralFault;
 pub use read::no_text_spells_two;

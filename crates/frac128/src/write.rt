@@ -5,9 +5,9 @@ ghost use Rattle.std.specs.Fmt.{decimal};
 ghost use Rattle.frac128.specs.Appends.{Appends, HasRoom};
 ghost use Rattle.frac128.specs.Printed.{least_places, short_decimal, with_point, fraction_text, size_text, minus_text, printed, PlacesAreLeast, PrintedReadsBack};
 
-use crate::fault::Memory;
 use crate::number::Frac;
 use itoa::Buffer;
+use memory::Memory;
 
 /// A decimal: a whole number, and how many of its digits stand behind the point.
 #[derive(Clone, Copy)]

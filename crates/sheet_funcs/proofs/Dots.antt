@@ -7,7 +7,7 @@ use Rattle.fractions.specs.Rational.{ℚ}
 use Rattle.calculations.specs.Calculation.{Calculation, sum, product, after, done, followed_by, narrow, through}
 use Rattle.calculations.proofs.CalculationLaws.{narrow-followed_by}
 use Rattle.sheet_model.specs.Answers.{Answers}
-use Rattle.sheet_model.specs.declared.memory.FuncStop.{FuncStop}
+use Rattle.sheet_model.specs.declared.stop.FuncStop.{FuncStop}
 use Rattle.sheet_model.proofs.Spreading.{stopped}
 use Rattle.sheet_funcs.specs.Products.{product_of}
 use Rattle.sheet_funcs.specs.Steps.{IsStep}

@@ -11,7 +11,7 @@ use Rattle.sheet_model.specs.Answers.{Answers}
 use Rattle.sheet_model.specs.Grids.{Rectangle}
 use Rattle.sheet_model.specs.declared.grid.Arg.{Arg}
 use Rattle.sheet_model.specs.declared.grid.Arg.TheVariants.{Area}
-use Rattle.sheet_model.specs.declared.memory.FuncStop.{FuncStop}
+use Rattle.sheet_model.specs.declared.stop.FuncStop.{FuncStop}
 use Rattle.sheet_model.specs.declared.value.Value.{Value}
 use Rattle.sheet_model.specs.declared.value.Value.TheVariants.{Number}
 use Rattle.sheet_model.proofs.Spreading.{stopped}

@@ -7,7 +7,7 @@ use Rattle.calculations.specs.Calculation.{Calculation, quotient, after, done, f
 use Rattle.sheet_model.specs.Answers.{Answers}
 use Rattle.sheet_model.specs.declared.grid.Arg.{Arg}
 use Rattle.sheet_model.specs.declared.grid.Arg.TheVariants.{One}
-use Rattle.sheet_model.specs.declared.memory.FuncStop.{FuncStop}
+use Rattle.sheet_model.specs.declared.stop.FuncStop.{FuncStop}
 use Rattle.sheet_model.specs.declared.value.Value.TheVariants.{Number}
 use Rattle.sheet_funcs.specs.Arguments.{counted}
 use Rattle.sheet_funcs.specs.Steps.{IsStep}

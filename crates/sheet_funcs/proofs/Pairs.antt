@@ -4,7 +4,7 @@ use Rattle.calculations.specs.Calculation.{Calculation}
 use Rattle.fractions.specs.Rational.{ℚ}
 use Rattle.sheet_model.specs.Answers.{Answers}
 use Rattle.sheet_model.specs.declared.grid.Arg.{Arg}
-use Rattle.sheet_model.specs.declared.memory.FuncStop.{FuncStop}
+use Rattle.sheet_model.specs.declared.stop.FuncStop.{FuncStop}
 use Rattle.sheet_funcs.specs.Arguments.{of_two, on_ok}
 use Rattle.sheet_funcs.specs.Rounding.{number_of}
 

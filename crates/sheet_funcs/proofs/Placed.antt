@@ -7,7 +7,7 @@ use Rattle.std.specs.Result.{IsErrAnd, result_map_both}
 use Rattle.calculations.specs.Calculation.{Calculation, for_each, narrow, turned_into}
 use Rattle.calculations.proofs.CalculationLaws.{behind_answers, narrow-followed_by, narrow-turned_into}
 use Rattle.sheet_model.specs.Answers.{Answers}
-use Rattle.sheet_model.specs.declared.memory.FuncStop.{FuncStop}
+use Rattle.sheet_model.specs.declared.stop.FuncStop.{FuncStop}
 use Rattle.sheet_model.proofs.Spreading.{each-one_more, each-stops, stopped, stopped_items}
 use Rattle.sheet_funcs.proofs.Ranges.{from_below, from_end}
 

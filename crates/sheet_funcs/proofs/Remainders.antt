@@ -10,7 +10,7 @@ use Rattle.sheet_model.specs.Answers.{Answers}
 use Rattle.sheet_model.specs.Tests.{is_zero}
 use Rattle.sheet_model.specs.declared.grid.Arg.{Arg}
 use Rattle.sheet_model.specs.declared.grid.Arg.TheVariants.{One}
-use Rattle.sheet_model.specs.declared.memory.FuncStop.{FuncStop}
+use Rattle.sheet_model.specs.declared.stop.FuncStop.{FuncStop}
 use Rattle.sheet_model.specs.declared.value.Value.TheVariants.{Number, Error}
 use Rattle.sheet_funcs.specs.Arguments.{counted}
 use Rattle.sheet_funcs.specs.Rounding.{remainder, rounded}

@@ -13,8 +13,8 @@ use Rattle.calculations.proofs.CalculationLaws.{narrow-followed_by, narrow-turne
 use Rattle.cell_refs.specs.declared.error_kind.ErrorKind.{ErrorKind}
 use Rattle.sheet_model.specs.Answers.{Answers}
 use Rattle.sheet_model.specs.declared.grid.Arg.{Arg}
-use Rattle.sheet_model.specs.declared.memory.FuncStop.{FuncStop}
-use Rattle.sheet_model.specs.declared.memory.FuncStop.TheVariants as stop
+use Rattle.sheet_model.specs.declared.stop.FuncStop.{FuncStop}
+use Rattle.sheet_model.specs.declared.stop.FuncStop.TheVariants as stop
 use Rattle.sheet_model.proofs.Spreading.{stopped}
 use Rattle.sheet_funcs.specs.Arguments.{on_ok}
 use Rattle.sheet_funcs.specs.Steps.{IsStep}

@@ -2,8 +2,8 @@
 use Rattle.std.specs.Prelude.{◌≡◌, true, false, Result, Ok, Err}
 use Rattle.fractions.specs.Rational.{ℚ}
 use Rattle.calculations.specs.Calculation.{Operation, result_of, stays_narrow}
-use Rattle.sheet_model.specs.declared.memory.FuncStop.{FuncStop}
-use Rattle.sheet_model.specs.declared.memory.FuncStop.TheVariants as stop
+use Rattle.sheet_model.specs.declared.stop.FuncStop.{FuncStop}
+use Rattle.sheet_model.specs.declared.stop.FuncStop.TheVariants as stop
 
 -- the operation's result, where it meets narrow numbers alone, and else Wide
 abbrev pub IsStep : Operation → Result ℚ FuncStop → Type 0

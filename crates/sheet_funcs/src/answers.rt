@@ -8,7 +8,7 @@ ghost use Rattle.sheet_funcs.specs.Arguments.{counted};
 ghost use Rattle.sheet_model.specs.Answers.{Answers};
 ghost use Rattle.sheet_model.specs.Grids.{IsFull};
 ghost use Rattle.sheet_model.specs.declared.grid.Arg.TheVariants.{Area, One};
-ghost use Rattle.sheet_model.specs.declared.memory.FuncStop.TheVariants as stops;
+ghost use Rattle.sheet_model.specs.declared.stop.FuncStop.TheVariants as stops;
 ghost use Rattle.sheet_model.specs.declared.value.Value.TheVariants.{Error, Logical, Number};
 
 use cell_refs::ErrorKind;

@@ -10,7 +10,7 @@ ghost use Rattle.sheet_funcs.specs.Matrices.{are_factors, behind_items, grid_pro
 ghost use Rattle.sheet_funcs.specs.Products.{all_elements, dot, factor, factors_at, is_of_size, mmult_of, places_of, product_at, product_of, sumproduct_of, transpose_of, transposed};
 ghost use Rattle.sheet_funcs.specs.Sums.{is_number};
 ghost use Rattle.sheet_model.specs.Answers.{Answers};
-ghost use Rattle.sheet_model.specs.declared.memory.FuncStop.TheVariants as stops;
+ghost use Rattle.sheet_model.specs.declared.stop.FuncStop.TheVariants as stops;
 ghost use Rattle.sheet_model.specs.declared.value.Value.TheVariants.{Empty};
 
 use crate::answers::{area, calculated, fault};

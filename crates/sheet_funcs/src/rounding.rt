@@ -8,7 +8,7 @@ ghost use Rattle.sheet_funcs.specs.Rounding.{abs_of, half, int_of, magnitude, mo
 ghost use Rattle.sheet_model.specs.Answers.{Answers};
 ghost use Rattle.sheet_model.specs.Operators.{raised};
 ghost use Rattle.sheet_model.specs.declared.grid.Arg.TheVariants.{One};
-ghost use Rattle.sheet_model.specs.declared.memory.FuncStop.TheVariants as stops;
+ghost use Rattle.sheet_model.specs.declared.stop.FuncStop.TheVariants as stops;
 
 use crate::answers::{calculated, fault, number, whole};
 use crate::items::{number_of, place_of};

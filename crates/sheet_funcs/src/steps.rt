@@ -4,7 +4,7 @@ ghost use Rattle.std.specs.Result.{result_map_both};
 ghost use Rattle.calculations.specs.Calculation.{power, product, quotient, sum};
 ghost use Rattle.fractions.specs.Rational.{zero_ℚ};
 ghost use Rattle.sheet_funcs.specs.Steps.{IsStep};
-ghost use Rattle.sheet_model.specs.declared.memory.FuncStop.TheVariants as stops;
+ghost use Rattle.sheet_model.specs.declared.stop.FuncStop.TheVariants as stops;
 
 use frac128::{Frac, Wide};
 use sheet_model::FuncStop;

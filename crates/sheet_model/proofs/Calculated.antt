@@ -13,8 +13,8 @@ use Rattle.sheet_model.specs.Answers.{Answers}
 use Rattle.cell_refs.specs.declared.error_kind.ErrorKind.TheVariants as kind
 use Rattle.sheet_model.specs.Operators.{calculated, divided, raised}
 use Rattle.sheet_model.specs.Tests.{is_zero, is_negative, is_exponent}
-use Rattle.sheet_model.specs.declared.memory.FuncStop.{FuncStop}
-use Rattle.sheet_model.specs.declared.memory.FuncStop.TheVariants as stop
+use Rattle.sheet_model.specs.declared.stop.FuncStop.{FuncStop}
+use Rattle.sheet_model.specs.declared.stop.FuncStop.TheVariants as stop
 use Rattle.sheet_model.specs.declared.value.Value.TheVariants.{Number, Error}
 
 -- the test of what does not hold

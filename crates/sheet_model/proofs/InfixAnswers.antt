@@ -6,7 +6,7 @@ use Rattle.cell_refs.specs.declared.op.Op.{Op}
 use Rattle.sheet_model.specs.Answers.{Answers}
 use Rattle.sheet_model.specs.Operators.{infix_of, infix_value, on_pairs, single}
 use Rattle.sheet_model.specs.declared.grid.Arg.{Arg}
-use Rattle.sheet_model.specs.declared.memory.FuncStop.{FuncStop}
+use Rattle.sheet_model.specs.declared.stop.FuncStop.{FuncStop}
 use Rattle.sheet_model.proofs.Calculated.{answer-exact}
 
 -- what an infix operator ensures

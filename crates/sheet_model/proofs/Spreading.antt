@@ -5,8 +5,8 @@ use Rattle.std.proofs.lemmas.Bool.{eq-eqb}
 use Rattle.std.specs.Result.{IsErrAnd, result_map_both}
 use Rattle.calculations.specs.Calculation.{Calculation, narrow, for_each, turned_into}
 use Rattle.sheet_model.specs.Answers.{Answers}
-use Rattle.sheet_model.specs.declared.memory.FuncStop.{FuncStop}
-use Rattle.sheet_model.specs.declared.memory.FuncStop.TheVariants as stop
+use Rattle.sheet_model.specs.declared.stop.FuncStop.{FuncStop}
+use Rattle.sheet_model.specs.declared.stop.FuncStop.TheVariants as stop
 use Rattle.calculations.proofs.CalculationLaws.{behind_answers, behind-one_more, behind-stops, narrow-turned_into}
 
 -- what is left from a place on

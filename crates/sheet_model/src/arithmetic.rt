@@ -7,13 +7,13 @@ ghost use Rattle.sheet_model.specs.Answers.{Answers};
 ghost use Rattle.sheet_model.specs.Conversions.{number_in, text_in};
 ghost use Rattle.sheet_model.specs.Operators.{asks_for, calculated, compared, divided, infix_value, joined_texts, minus_value, on_numbers, percent_value, raised};
 ghost use Rattle.sheet_model.specs.Tests.{is_exponent, is_negative, is_zero};
-ghost use Rattle.sheet_model.specs.declared.memory.FuncStop.TheVariants as stops;
+ghost use Rattle.sheet_model.specs.declared.stop.FuncStop.TheVariants as stops;
 ghost use Rattle.sheet_model.specs.declared.value.Value.{Value};
 ghost use Rattle.sheet_model.specs.declared.value.Value.TheVariants.{Number};
 
 use crate::convert::{to_number, to_text};
-use crate::memory::FuncStop;
 use crate::order::compare;
+use crate::stop::FuncStop;
 use crate::value::{Text, Value};
 use cell_refs::{ErrorKind, Op};
 use frac128::{Frac, Wide};

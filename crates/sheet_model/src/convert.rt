@@ -4,10 +4,10 @@ ghost use Rattle.std.specs.Result.{result_map_both};
 ghost use Rattle.frac128.specs.Printed.{printed};
 ghost use Rattle.sheet_model.specs.Conversions.{logical_in, number_in, text_in};
 
-use crate::memory::Memory;
 use crate::value::Value;
 use cell_refs::ErrorKind;
 use frac128::Frac;
+use memory::Memory;
 use std::alloc::Global;
 
 /// The value as a number.

@@ -2,8 +2,8 @@
 ghost use Rattle.std.specs.Prelude.{◌≡◌, ◌<◌, ◌+◌, ◌*◌, IfOk, IfNone, IfSome, Some, length, slice_get};
 ghost use Rattle.sheet_model.specs.Grids.{IsFull};
 
-use crate::memory::Memory;
 use crate::value::Value;
+use memory::Memory;
 use std::alloc::Global;
 use std::marker::Model;
 

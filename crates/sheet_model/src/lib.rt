@@ -8,20 +8,21 @@ mod convert;
 mod cut;
 mod formula;
 mod grid;
-mod memory;
 mod number;
 mod operators;
 mod order;
+mod stop;
 mod value;
 
 pub use address::{area, cell};
 pub use convert::{to_logical, to_number};
 pub use formula::{Factor, Product, Sign, Term, formulas_are_read_as_spelled, plain_formula};
 pub use grid::{Arg, Grid};
-pub use memory::{FuncStop, Memory};
+pub use memory::Memory;
 pub use number::small_number;
 pub use operators::{infix, minus, percent};
 pub use order::{compare, order_laws};
+pub use stop::FuncStop;
 pub use value::{Text, Value};
 
 #[cfg(test)]

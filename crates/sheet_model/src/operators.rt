@@ -10,7 +10,7 @@ ghost use Rattle.sheet_model.specs.declared.value.Value.{Value};
 
 use crate::arithmetic::{infix_value, minus_value, percent_value};
 use crate::grid::{Arg, Grid};
-use crate::memory::FuncStop;
+use crate::stop::FuncStop;
 use crate::value::Value;
 use cell_refs::{ErrorKind, Op};
 use std::alloc::Global;

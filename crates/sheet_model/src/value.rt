@@ -1,9 +1,9 @@
 // Values of cells and of parts of formulas.
 ghost use Rattle.std.specs.Prelude.{◌≡◌, IfOk, List, ℕ, string_bytes};
 
-use crate::memory::Memory;
 use cell_refs::ErrorKind;
 use frac128::Frac;
+use memory::Memory;
 use std::alloc::Global;
 use std::marker::Model;
 

@@ -6,9 +6,9 @@ ghost use Rattle.workbook.specs.Gathered.{FitsSheet, IsStop, texts_in_sheets};
 ghost use Rattle.workbook.specs.Opening.{formulas_in};
 
 use crate::limits::TEXTS;
-use crate::memory::Memory;
 use crate::words::is_formula;
 use cell_refs::{Cell, SheetId};
+use memory::Memory;
 use sheet_csv::{Record, Rows};
 use sheet_model::Text;
 use std::alloc::Global;

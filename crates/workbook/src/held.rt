@@ -7,10 +7,10 @@ ghost use Rattle.workbook.specs.Contents.{kind_of, tree_of};
 ghost use Rattle.workbook.specs.Held.{entry_of, held_at};
 
 use crate::Kind;
-use crate::memory::Memory;
 use cell_refs::Cell;
 use formula_ast::Expr;
 use frac128::Frac;
+use memory::Memory;
 use sheet_model::Text;
 use std::collections::BTreeMap;
 use std::mem::drop;

@@ -7,7 +7,6 @@ mod gather;
 mod held;
 mod kind;
 mod limits;
-mod memory;
 mod named;
 mod names;
 mod naming;

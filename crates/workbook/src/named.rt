@@ -4,13 +4,13 @@ ghost use Rattle.formula_ast.specs.Sound.{IsForward, IsOnSheet};
 ghost use Rattle.workbook.specs.Kinds.{Amount, Cells, meant, meant_by, put_at};
 ghost use Rattle.workbook.specs.Scoped.{IsMeantOnSheet, IsShort, meant_of, text_for};
 
-use crate::memory::Memory;
 use crate::names::{Key, Names};
 use crate::words::{behind_equals, number};
 use cell_refs::{Area, SheetId, SheetNames, Span};
 use formula_ast::{Expr, Node};
 use formula_parser::parse_reference;
 use frac128::Frac;
+use memory::Memory;
 use std::alloc::Global;
 
 /// What a name stands for.

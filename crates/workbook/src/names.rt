@@ -6,9 +6,9 @@ ghost use Rattle.std.specs.Map.{lookup};
 ghost use Rattle.workbook.specs.Keyed.{is_key};
 ghost use Rattle.workbook.specs.State.{is_called, is_same_sheet, text_of};
 
-use crate::memory::Memory;
 use cell_refs::SheetId;
 use indexmap::IndexMap;
+use memory::Memory;
 use std::alloc::Global;
 use std::marker::Model;
 

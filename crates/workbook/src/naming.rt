@@ -7,10 +7,10 @@ ghost use Rattle.formula_ast.specs.Tree as tree;
 ghost use Rattle.workbook.specs.Kinds.{all_with_names, meant, with_names};
 ghost use Rattle.workbook.specs.Scoped.{IsShort};
 
-use crate::memory::Memory;
 use crate::named::{Scope, in_place};
 use cell_refs::{Op, Span};
 use formula_ast::{Expr, Func, Node};
+use memory::Memory;
 use std::alloc::Global;
 
 /// A formula with what its names stand for in their places; none where one stands for nothing, or where there is no function of

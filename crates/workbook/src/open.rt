@@ -9,11 +9,11 @@ ghost use Rattle.workbook.specs.Opened.{GathersTexts, ListsSheets, PutsNames, Re
 
 use crate::gather::{Stop, count_formulas, texts_in};
 use crate::limits::{FIELD, FORMULAS, NAMES};
-use crate::memory::Memory;
 use crate::names::{Name, Names};
 use crate::words::is_name;
 use crate::{File, OpenFault, Workbook};
 use cell_refs::{COLUMNS, Cell, NameFault, ROWS, SheetId, SheetNames};
+use memory::Memory;
 use sheet_csv::{CsvLimits, Record, Rows, SheetFault, read_sheet};
 use sheet_model::Text;
 use std::alloc::Global;

@@ -8,13 +8,13 @@ ghost use Rattle.frac128.specs.NumeralReading.{reading};
 ghost use Rattle.workbook.specs.Scoped.{IsShort};
 
 use crate::held::Said;
-use crate::memory::Memory;
 use crate::named::Scope;
 use crate::naming::named;
 use crate::words::{is_formula, logical};
 use cell_refs::Cell;
 use formula_parser::{ParseFault, parse};
 use frac128::{Frac, NumeralFault};
+use memory::Memory;
 use std::alloc::Global;
 
 /// What the text of a cell says.

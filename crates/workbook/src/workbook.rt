@@ -16,7 +16,6 @@ ghost use Rattle.workbook.specs.Scoped.{IsShort};
 
 use crate::held::{Held, put_in, put_over, take_away};
 use crate::limits::{FIELD, FORMULAS, TEXTS};
-use crate::memory::Memory;
 use crate::named::Scope;
 use crate::names::Names;
 use crate::say::say;
@@ -24,6 +23,7 @@ use crate::words::{is_formula, one};
 use crate::{EditFault, Kind};
 use cell_refs::{COLUMNS, Cell, ROWS, SheetId, SheetNames};
 use formula_ast::Expr;
+use memory::Memory;
 use sheet_model::Text;
 use std::alloc::Global;
 use std::collections::BTreeMap;

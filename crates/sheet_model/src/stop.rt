@@ -1,32 +1,10 @@
-// Want of memory, and what else may stop an operator or a function.
+// What may stop an operator or a function.
 ghost use Rattle.std.specs.Prelude.{◌≡◌};
-ghost use Rattle.sheet_model.specs.declared.memory.FuncStop.TheVariants as stops;
+ghost use Rattle.sheet_model.specs.declared.stop.FuncStop.TheVariants as stops;
 
+use memory::Memory;
 use std::alloc::{AllocError, AllocFailed};
 use thiserror::Error;
-
-/// Memory ran out.
-#[derive(Clone, Copy, Debug, PartialEq, Eq, Error)]
-#[error("memory ran out")]
-pub struct Memory;
-
-impl From<AllocError> for Memory {
-    fn from(_: AllocError) -> Memory {
-        Memory
-    }
-}
-
-impl<T: Drop> From<AllocFailed<T>> for Memory {
-    fn from(_: AllocFailed<T>) -> Memory {
-        Memory
-    }
-}
-
-impl From<frac128::Memory> for Memory {
-    fn from(_: frac128::Memory) -> Memory {
-        Memory
-    }
-}
 
 /// Why an operator or a function has no value.
 #[derive(Clone, Copy, Debug, PartialEq, Eq, Error)]

@@ -1,12 +1,12 @@
-// What fails where memory runs out.
-ghost use Rattle.std.specs.Prelude.{⊤};
+//! Want of memory: the one answer that a call may give for no reason of its own.
+#![tactic(auto)]
 
 use std::alloc::{AllocError, AllocFailed};
 use thiserror::Error;
 
 /// Memory ran out.
 #[derive(Clone, Copy, Debug, PartialEq, Eq, Error)]
-#[error("out of memory")]
+#[error("memory ran out")]
 pub struct Memory;
 
 impl From<AllocError> for Memory {
