@@ -1,0 +1,64 @@
+// Which of the nodes that wait each picker chooses. What is expected follows from the rules by hand.
+
+ghost use Rattle.std.specs.Prelude.{IsTrue};
+ghost use Rattle.node_pick.specs.Rules.{IsRising};
+
+use crate::{Best, Depth, NodeEvent, NodeInfo, Oldest, Picker};
+use frac128::Frac;
+use std::test::Fail;
+
+// The nodes are given as "number depth bound", with - for no bound.
+fn nodes(rt: &HostRuntime, shown: &str) -> Result<Vec<NodeInfo>, Fail> {
+    let mut nodes = Vec::new(rt.alloc());
+    for node in shown.split(';') {
+        let (number, rest) = node.split_once(' ').ok_or("no number")?;
+        let (depth, bound) = rest.split_once(' ').ok_or("no depth")?;
+        let bound = if bound == "-" {
+            None
+        } else {
+            Some(Frac::read(bound)?)
+        };
+        nodes.push(NodeInfo {
+            number: number.parse::<u64>()?,
+            depth: depth.parse::<u32>()?,
+            bound,
+        })?;
+    }
+    Ok(nodes)
+}
+
+// Whether the numbers rise.
+fn rise(waiting: &[NodeInfo]) -> bool
+    ensures { IsTrue result → IsRising waiting.now }
+{
+    for next in 1..waiting.len() {
+        if waiting[next].number <= waiting[next - 1].number {
+            return false;
+        }
+    }
+    true
+}
+
+#[test]
+fn each_picker_follows_its_rule(rt: HostRuntime) -> Result<(), Fail> {
+    let mut depth: Box<dyn Picker> = Box::new(rt.alloc(), Depth)?;
+    let mut best: Box<dyn Picker> = Box::new(rt.alloc(), Best)?;
+    let mut oldest: Box<dyn Picker> = Box::new(rt.alloc(), Oldest)?;
+    for (shown, deepest, greatest, first) in [
+        ("0 0 -", 0, 0, 0),
+        ("1 1 21;2 1 21", 0, 0, 0),
+        ("2 1 21;3 2 20.5;4 2 20.75", 1, 0, 0),
+        ("2 1 20;3 2 20.5;4 2 20.75", 1, 2, 0),
+        ("5 3 7;8 4 -;9 4 9", 1, 1, 0),
+        ("5 3 -1;8 3 -0.25;9 2 -0.5", 0, 1, 0),
+        ("1 1 5;4 2 6;7 2 6;9 1 6", 1, 1, 0),
+    ] {
+        let waiting = nodes(&rt, shown)?;
+        assert!(rt; !waiting.is_empty() && rise(&waiting));
+        assert_eq!(rt; depth.choose(&waiting), deepest, "{shown}");
+        assert_eq!(rt; best.choose(&waiting), greatest, "{shown}");
+        assert_eq!(rt; oldest.choose(&waiting), first, "{shown}");
+        best.told(NodeEvent::Closed(1));
+    }
+    Ok(())
+}
