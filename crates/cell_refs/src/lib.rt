@@ -19,6 +19,3 @@ pub use names::{NameFault, SheetNames};
 pub use op::Op;
 pub use print::{print_address, print_cell};
 pub use span::Span;
-
-#[cfg(test)]
-mod tests;

@@ -14,6 +14,3 @@ pub use laws::addresses_are_spelled;
 pub use lines::line;
 pub use locating::{Refusal, locate};
 pub use sheet_model::Memory;
-
-#[cfg(test)]
-mod tests;

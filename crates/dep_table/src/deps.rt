@@ -65,17 +65,8 @@ impl Deps {
         Ok(tour.circular)
     }
 
-    /// The formula cells that aren't circular, each after those to which it refers, as in each workbook that has these
+    /// The circular cells, and the other formula cells, each after those to which it refers, as in each workbook that has these
     /// references.
-    pub fn order(&self, alloc: Global, leaves: &CellSet) -> Result<Vec<Cell>, Memory>
-        ensures { IfOk result (λ cells. (book : Book) → AreReferencesOf self.now book
-            → IsOrder book (set.contains leaves.now) cells.items) }
-    {
-        let tour = self.tour(alloc, leaves)?;
-        Ok(tour.order)
-    }
-
-    /// Both at once.
     pub fn tour(&self, alloc: Global, leaves: &CellSet) -> Result<Tour, Memory>
         ensures circular { IfOk result (λ t. (book : Book) → AreReferencesOf self.now book
             → (a : Cell) → set.contains t.circular a ≡ is_circular book (set.contains leaves.now) a) }

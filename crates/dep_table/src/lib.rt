@@ -13,6 +13,3 @@ mod tour;
 pub use cells::CellSet;
 pub use deps::{Deps, Tour};
 pub use sheet_model::Memory;
-
-#[cfg(test)]
-mod tests;

@@ -3,12 +3,13 @@ ghost use Rattle.std.specs.Prelude.{◌≡◌, IfOk, IfSome, false, length, opti
 ghost use Rattle.formula_ast.specs.Functions.{Takes};
 ghost use Rattle.evaluation.specs.Composed.{all_filled, call_outcome, call_part, filled_or, narrow_called, picking_outcome};
 ghost use Rattle.evaluation.specs.Picking.{is_picking};
-ghost use Rattle.recalculation.specs.Looking.{call_looks, outcomes};
+ghost use Rattle.recalculation.specs.Looking.{call_looks};
 ghost use Rattle.sheet_funcs.specs.Table.{is_choosing};
 
 use crate::cells::Cells;
 use crate::choices::{choose_outcome, if_outcome, iferror_outcome};
 use crate::copy::copy_of;
+use crate::looks::arguments::outcomes;
 use crate::looks::call_looks;
 use crate::operators::narrowed;
 use crate::part::Part;
@@ -121,21 +122,6 @@ fn narrow_called(
         Some(args) => narrowed(call(alloc, function, &args)),
         None => Ok(None),
     }
-}
-
-// The values of some parts, where all have one.
-fn outcomes(alloc: Global, parts: &[Part]) -> Result<Option<Vec<Arg>>, Memory>
-    ensures values { IfOk result (λ found. option_map (λ v. v.items) found ≡ outcomes parts.now) }
-    ensures count { IfOk result (λ found. IfSome found (λ v. length v.items ≡ length parts.now)) }
-{
-    let mut values = Vec::new(alloc);
-    for part in parts {
-        let Some(value) = part.outcome() else {
-            return Ok(None);
-        };
-        values.push(copy_of(alloc, value)?)?;
-    }
-    Ok(Some(values))
 }
 
 // The values of some parts, of a reference those that are known.

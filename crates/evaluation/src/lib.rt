@@ -17,8 +17,3 @@ pub use cells::Cells;
 pub use formula::evaluate;
 pub use part::Part;
 pub use reference::Reference;
-
-#[cfg(test)]
-mod looks_tests;
-#[cfg(test)]
-mod tests;

@@ -2,7 +2,7 @@
 ghost use Rattle.std.specs.Prelude.{◌≡◌, IfOk};
 ghost use Rattle.recalculation.specs.Looking.{call_looks, size_looks};
 
-mod arguments;
+pub(crate) mod arguments;
 mod choices;
 mod criteria;
 mod lookups;

@@ -1,4 +1,3 @@
 pub mod Parts
-pub mod Spans
 pub mod Names
 pub mod FirstNamed

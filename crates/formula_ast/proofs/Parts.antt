@@ -1,8 +1,8 @@
 -- The parts of a list: how many they are, and what they say when one more of them has been visited.
-use Rattle.std.proofs.Common.{◌≡◌, ◌≤◌, ◌<◌, ℕ, suc, zero, ◌+◌, max, List, [], ◌∷◌, ◌++◌, length, take, get_or, refl, sym, ap, ◌∙◌, append_assoc, append-nil, arith}
+use Rattle.std.proofs.Common.{◌≡◌, ◌≤◌, ◌<◌, ℕ, suc, zero, ◌+◌, List, [], ◌∷◌, ◌++◌, length, take, get_or, refl, sym, ap, ◌∙◌, append_assoc, append-nil, arith}
 use Rattle.std.proofs.lemmas.List.{take_more}
 use Rattle.cell_refs.specs.declared.cell.Area.{Area}
-use Rattle.formula_ast.specs.Measures.{references_of, all_references_of, height_of, greatest_height, listed}
+use Rattle.formula_ast.specs.Measures.{references_of, all_references_of, listed}
 use Rattle.formula_ast.specs.Size.{node_count, all_count}
 use Rattle.formula_ast.specs.Sound.{count}
 use Rattle.formula_ast.specs.Tree.{Tree, Listed, trees}
@@ -33,25 +33,6 @@ all_references-more xs i x h e =
     ap (λ ys. all_references_of (trees ys)) (take_more xs i x h)
     ∙ all_references-push (take i xs) (get_or xs i x)
     ∙ ap (λ y. all_references_of (trees (take i xs)) ++ references_of y) (sym e)
-
--- the greatest height of a list with one tree more at its end
-greatest_height-push : (xs : List Tree) (x : Tree) → greatest_height (trees (xs ++ x ∷ [])) ≡ max (greatest_height (trees xs)) (height_of x)
-greatest_height-push [] x = omega arith
-greatest_height-push (y ∷ ys) x = omega (arith, greatest_height-push ys x)
-
--- the greatest height of the trees up to an index, and of the one at it
-pub greatest_height-more : (xs : List Tree) (i : ℕ) (x : Tree) → i < length xs → x ≡ get_or xs i x
-    → greatest_height (trees (take (i + 1) xs)) ≡ max (greatest_height (trees (take i xs))) (height_of x)
-greatest_height-more xs i x h e =
-    ap (λ ys. greatest_height (trees ys)) (take_more xs i x h)
-    ∙ greatest_height-push (take i xs) (get_or xs i x)
-    ∙ ap (λ y. max (greatest_height (trees (take i xs))) (height_of y)) (sym e)
-
--- no tree of a list is higher than the highest
-pub height-le : (xs : List Tree) (i : ℕ) (x : Tree) → i < length xs → x ≡ get_or xs i x → height_of x ≤ greatest_height (trees xs)
-height-le [] i x h e = absurd (omega arith)
-height-le (y ∷ ys) zero x h e = omega (arith, ap height_of e)
-height-le (y ∷ ys) (suc i) x h e = omega (arith, height-le ys i x (omega arith) e)
 
 -- areas of listed sheets alone
 pub listed-map : (areas : List Area) → listed (map Listed areas) ≡ areas

@@ -1,9 +1,9 @@
 // Parts of formulas.
-ghost use Rattle.std.specs.Prelude.{◌≡◌, ◌≤◌, ◌<◌, ◌↔◌, ◌++◌, IfOk, IfSome, IfNone, IsTrue, length};
+ghost use Rattle.std.specs.Prelude.{◌≡◌, ◌≤◌, ◌++◌, IfOk, IfSome, IfNone, length};
 ghost use Rattle.formula_ast.specs.Functions.{Takes};
-ghost use Rattle.formula_ast.specs.Measures.{all_references_of, greatest_height, height_of, references_of};
+ghost use Rattle.formula_ast.specs.Measures.{all_references_of, references_of};
 ghost use Rattle.formula_ast.specs.Sound.{IsSound, AreSoundWithin};
-ghost use Rattle.formula_ast.specs.Tree.{Call, Infix, Minus, Percent, Plus, span_of, trees};
+ghost use Rattle.formula_ast.specs.Tree.{Call, trees};
 
 use crate::func::Func;
 use cell_refs::{Area, ErrorKind, Memory, Op, Span};
@@ -88,23 +88,6 @@ impl Expr {
         })
     }
 
-    /// An infix operator over two parts, from where the left one starts to where the right one ends.
-    pub fn infix(alloc: Global, op: Op, left: Expr, right: Expr) -> Result<Expr, Memory>
-        requires { (span_of left).end ≤ (span_of right).start }
-        ensures { IfOk result (λ e. e ≡ Infix (record { start = (span_of left).start; end = (span_of right).end }) op left right) }
-    {
-        let span = Span {
-            start: left.span.start,
-            end: right.span.end,
-        };
-        let left = Box::new(alloc, left)?;
-        let right = Box::new(alloc, right)?;
-        Ok(Expr {
-            span,
-            node: Node::Infix(op, left, right),
-        })
-    }
-
     /// An equal tree.
     #[cycle(copying)]
     pub fn copy(&self, alloc: Global) -> Result<Expr, Memory>
@@ -134,27 +117,6 @@ impl Expr {
             }
         };
         Ok(Expr { span, node })
-    }
-
-    /// Whether the tree is higher than so many levels. A tree without parts of its own has one level.
-    #[cycle(measuring)]
-    pub fn is_higher_than(&self, levels: u16) -> bool
-        ensures { IsTrue result ↔ (levels < height_of self.now) }
-    {
-        let Some(below) = levels.checked_sub(1) else {
-            return true;
-        };
-        match &self.node {
-            Node::Array(_, _, items) => any_higher_than(items, below),
-            Node::Unknown(_, args) => any_higher_than(args, below),
-            Node::Call(_, args) => any_higher_than(args, below),
-            Node::Plus(of) => of.is_higher_than(below),
-            Node::Minus(of) => of.is_higher_than(below),
-            Node::Percent(of) => of.is_higher_than(below),
-            Node::Infix(_, left, right) => left.is_higher_than(below)
-                || right.is_higher_than(below),
-            _ => false,
-        }
     }
 
     /// The areas to which the tree refers, from left to right.
@@ -194,18 +156,6 @@ impl Expr {
     {
         let _span = self.span;
     }
-}
-
-#[cycle(measuring)]
-fn any_higher_than(exprs: &[Expr], levels: u16) -> bool
-    ensures { IsTrue result ↔ (levels < greatest_height (trees exprs.now)) }
-{
-    for expr in exprs {
-        if expr.is_higher_than(levels) {
-            return true;
-        }
-    }
-    false
 }
 
 #[cycle(referring)]

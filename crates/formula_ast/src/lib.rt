@@ -6,6 +6,3 @@ mod func;
 
 pub use expr::{Expr, Node};
 pub use func::{Func, counts};
-
-#[cfg(test)]
-mod tests;

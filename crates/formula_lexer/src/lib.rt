@@ -7,6 +7,3 @@ mod token;
 
 pub use lexer::{one_list, tokens, tokens_are_slices};
 pub use token::{LexFault, Token, TokenKind};
-
-#[cfg(test)]
-mod tests;

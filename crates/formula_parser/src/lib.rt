@@ -20,10 +20,3 @@ pub use fault::ParseFault;
 pub use formula::parse;
 pub use laws::trees_are_spelled;
 pub use name::parse_reference;
-
-#[cfg(test)]
-mod name_tests;
-#[cfg(test)]
-mod tests;
-#[cfg(test)]
-mod tree_table;

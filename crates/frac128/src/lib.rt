@@ -19,8 +19,3 @@ pub use number::Frac;
 pub use numeral_fault::NumeralFault;
 pub use read::no_text_spells_two;
 pub use write::{places_are_least, printed_reads_back};
-
-#[cfg(test)]
-mod numeral_tests;
-#[cfg(test)]
-mod tests;

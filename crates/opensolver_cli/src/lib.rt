@@ -11,10 +11,3 @@ mod words;
 
 pub use status::Status;
 pub use top::{run, there_is_one_finding};
-
-#[cfg(test)]
-mod cut_tests;
-#[cfg(test)]
-mod stop_tests;
-#[cfg(test)]
-mod tests;

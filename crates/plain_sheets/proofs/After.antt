@@ -22,11 +22,13 @@ use Rattle.sheet_model.specs.declared.formula.Product.{Product}
 use Rattle.sheet_model.specs.declared.formula.Product.TheVariants.{One, Two, Three}
 use Rattle.sheet_model.specs.declared.formula.Term.{Term}
 use Rattle.plain_sheets.specs.Names.{Naming, names_of}
+use Rattle.workbook.specs.Contents.{kind_of}
+use Rattle.workbook.specs.Kinds.{says}
 use Rattle.workbook.specs.State.{State, is_formula_text}
 use Rattle.workbook.specs.Held.{put_all}
 use Rattle.workbook.specs.Replacing.{CanReplace}
 use Rattle.plain_sheets.specs.Statement.{NamesGive, Statement, area_named, of_at_most}
-use Rattle.plain_sheets.specs.Plain.{IsPlain, factor_is_plain, formula_is_plain, holds_number, holds_plain, product_is_plain, rows_of, terms_are_plain}
+use Rattle.plain_sheets.specs.Plain.{IsPlain, factor_is_plain, formula_is_plain, holds_number, holds_plain, is_formula, product_is_plain, rows_of, terms_are_plain}
 use Rattle.plain_sheets.specs.Choices.{BestSeen}
 use Rattle.plain_sheets.specs.Model.{IsModelOf, chosen, choice_of, digit_text, digits_of, same_cell, with_choice}
 use Rattle.plain_sheets.specs.Solving.{IsBinaryText, IsPlainSheet, IsSolved}
@@ -81,34 +83,44 @@ module _ (m k : Cells) (same : (c : Cell) → holds_number m c ≡ holds_number 
   formula_stays sheet None = refl
   formula_stays sheet (Some text) = maybe_terms_stay (formula_in sheet text)
 
-pub plain_stays : (m : Cells) (ds : List Cell) (bits : ℕ) (c : Cell) → list_all (holds_number m) ds ≡ true → holds_plain (with_choice m ds bits) c ≡ holds_plain m c
-plain_stays m ds bits c all =
-    elim (holds_number m c) as (λ b. holds_number m c ≡ b → holds_plain (with_choice m ds bits) c ≡ holds_plain m c) [
+-- a text that is no small number is plain
+abbrev text_is_plain : State → Cells → Cell → Option (List ℕ) → Bool
+text_is_plain book cells c text = is_formula (kind_of (option_map (says book.sheets book.names c) text)) && formula_is_plain cells c.sheet text
+
+pub plain_stays : (book : State) (ds : List Cell) (bits : ℕ) (c : Cell) → list_all (holds_number book.contents) ds ≡ true
+    → holds_plain (record book { contents = with_choice book.contents ds bits }) c ≡ holds_plain book c
+plain_stays book ds bits c all =
+    let m : Cells = book.contents in
+    let new : Cells = with_choice m ds bits in
+    elim (holds_number m c) as (λ b. holds_number m c ≡ b → holds_plain (record book { contents = new }) c ≡ holds_plain book c) [
       | true ↦ λ e.
-          ap (λ (b : Bool). b || formula_is_plain (with_choice m ds bits) c.sheet (get (with_choice m ds bits) c)) (number_stays m ds bits c all ∙ e)
-          ∙ sym (ap (λ (b : Bool). b || formula_is_plain m c.sheet (get m c)) e)
+          ap (λ (b : Bool). b || text_is_plain book new c (get new c)) (number_stays m ds bits c all ∙ e)
+          ∙ sym (ap (λ (b : Bool). b || text_is_plain book m c (get m c)) e)
       | false ↦ λ e.
-          ap (λ (b : Bool). b || formula_is_plain (with_choice m ds bits) c.sheet (get (with_choice m ds bits) c)) (number_stays m ds bits c all)
-          ∙ ap (λ (t : Option (List ℕ)). holds_number m c || formula_is_plain (with_choice m ds bits) c.sheet t) (same_text m ds bits c all e)
-          ∙ ap (λ (b : Bool). holds_number m c || b) (formula_stays (with_choice m ds bits) m (λ d. number_stays m ds bits d all) c.sheet (get m c))
+          ap (λ (b : Bool). b || text_is_plain book new c (get new c)) (number_stays m ds bits c all)
+          ∙ ap (λ (t : Option (List ℕ)). holds_number m c || text_is_plain book new c t) (same_text m ds bits c all e)
+          ∙ ap (λ (b : Bool). holds_number m c || (is_formula (kind_of (option_map (says book.sheets book.names c) (get m c))) && b))
+          (formula_stays new m (λ d. number_stays m ds bits d all) c.sheet (get m c))
     ] refl
 
 all_same : {X : Type 0} (f g : X → Bool) → ((x : X) → f x ≡ g x) → (xs : List X) → list_all f xs ≡ list_all g xs
 all_same f g h [] = refl
 all_same f g h (x ∷ xs) = rw (h x, all_same f g h xs) refl
 
-pub still_plain : (home : SheetId) (m : Cells) (names : Naming) (s : Statement) (bits : ℕ) → IsPlain home m names s → IsPlain home (with_choice m (cells_of s.decisions) bits) names s
-still_plain home m names s bits p =
+pub still_plain : (home : SheetId) (book : State) (names : Naming) (s : Statement) (bits : ℕ) → IsPlain home book names s
+    → IsPlain home (record book { contents = with_choice book.contents (cells_of s.decisions) bits }) names s
+still_plain home book names s bits p =
+    let m : Cells = book.contents in
     let all : list_all (holds_number m) (cells_of s.decisions) ≡ true = p.decision_texts in
-    let new : Cells = with_choice m (cells_of s.decisions) bits in
+    let new : State = record book { contents = with_choice m (cells_of s.decisions) bits } in
     record {
       names_give = p.names_give;
       binary_on_decisions = p.binary_on_decisions;
       decisions_binary = p.decisions_binary;
-      decision_texts = all_same (holds_number new) (holds_number m) (λ c. number_stays m (cells_of s.decisions) bits c all) (cells_of s.decisions) ∙ p.decision_texts;
-      objective_text = plain_stays m (cells_of s.decisions) bits s.objective all ∙ p.objective_text;
-      side_texts = all_same (λ (row : Cell × Cell). holds_plain new row.0 && holds_plain new row.1) (λ (row : Cell × Cell). holds_plain m row.0 && holds_plain m row.1)
-          (λ row. rw (plain_stays m (cells_of s.decisions) bits row.0 all, plain_stays m (cells_of s.decisions) bits row.1 all) refl) (rows_of s.constraints) ∙ p.side_texts;
+      decision_texts = all_same (holds_number new.contents) (holds_number m) (λ c. number_stays m (cells_of s.decisions) bits c all) (cells_of s.decisions) ∙ p.decision_texts;
+      objective_text = plain_stays book (cells_of s.decisions) bits s.objective all ∙ p.objective_text;
+      side_texts = all_same (λ (row : Cell × Cell). holds_plain new row.0 && holds_plain new row.1) (λ (row : Cell × Cell). holds_plain book row.0 && holds_plain book row.1)
+          (λ row. rw (plain_stays book (cells_of s.decisions) bits row.0 all, plain_stays book (cells_of s.decisions) bits row.1 all) refl) (rows_of s.constraints) ∙ p.side_texts;
     }
 
 -- ---- which texts change
@@ -165,7 +177,7 @@ solved old sheet s m best p is h =
       best = objective_is old.contents s m best.bits is ∙ ap (λ (z : ℤ). Some (whole_ℚ z)) (sym h.value);
       recalculated = λ c. recalculated old.contents (cells_of s.decisions) best.bits c;
       objective = recalculated old.contents (cells_of s.decisions) best.bits s.objective ∙ is.objective best.bits ∙ ap (λ (z : ℤ). Some (whole_ℚ z)) (sym h.value);
-      plain = still_plain sheet old.contents (names_of old sheet) s best.bits p;
+      plain = still_plain sheet old (names_of old sheet) s best.bits p;
     }
 
 -- ---- what a solve needs of the model

@@ -1,5 +1,5 @@
 -- From the names of a plain sheet to its statement.
-use Rattle.std.proofs.Common.{◌≡◌, ℕ, ◌≤◌, Bool, true, false, ◌&&◌, List, length, Option, Some, None, refl, sym, ap, subst, ◌∙◌}
+use Rattle.std.proofs.Common.{◌≡◌, ℕ, ◌≤◌, Bool, true, false, ◌&&◌, List, length, Option, Some, refl, sym, ap, subst, ◌∙◌}
 use Rattle.std.specs.Prelude.{IsTrue}
 use Rattle.std.specs.List.{list_all, list_any}
 use Rattle.cell_refs.specs.declared.cell.SheetId.{SheetId}
@@ -7,6 +7,7 @@ use Rattle.cell_refs.specs.declared.cell.Cell.{Cell}
 use Rattle.cell_refs.specs.declared.cell.Area.{Area}
 use Rattle.cell_refs.specs.Areas.{cells_of}
 use Rattle.sheet_model.specs.Worth.{Cells}
+use Rattle.workbook.specs.State.{State}
 use Rattle.plain_sheets.specs.Names.{Naming}
 use Rattle.plain_sheets.specs.Statement.{Statement, NamesGive, constraints_named}
 use Rattle.plain_sheets.specs.Settings.{GiveSettings}
@@ -37,11 +38,6 @@ same_statement home names set cs s g e n =
     let all : s.constraints ≡ cs = some_is s.constraints cs (sym is.0) in
     λ i. record { decisions = is.1 i; objective = is.2 i; constraints = all i }
 
--- a constraint that can't be read
-pub no_constraints : (home : SheetId) (cells : Cells) (names : Naming) (set : Settings) → GiveSettings home names set → None ≡ constraints_named home names 0 set.constraints
-    → (s : Statement) → ¬ (IsPlain home cells names s)
-no_constraints home cells names set g e s p = let is : None ≡ Some s.constraints = (statement_is home names set None s g e p.names_give).0 in cc
-
 -- a rule on the decisions that fails
 abbrev pub decision_rules : Cells → Area → List Cell → List Constraint → Bool
 decision_rules cells area ds cs = list_all (holds_number cells) ds && (list_all (binary_within area) cs && list_all (λ cell. list_any (makes_binary cell) cs) ds)
@@ -49,33 +45,19 @@ decision_rules cells area ds cs = list_all (holds_number cells) ds && (list_all 
 true_is : (b : Bool) → IsTrue b → b ≡ true
 true_is b h = h
 
-pub bad_decisions : (home : SheetId) (cells : Cells) (names : Naming) (set : Settings) (cs : List Constraint) → GiveSettings home names set → Some cs ≡ constraints_named home names 0 set.constraints
-    → false ≡ decision_rules cells set.decisions (cells_of set.decisions) cs → (s : Statement) → ¬ (IsPlain home cells names s)
-bad_decisions home cells names set cs g e bad s p =
-    let q : IsPlain home cells names (stated set cs) = subst (IsPlain home cells names) (same_statement home names set cs s g e p.names_give) p in
-    let all : decision_rules cells set.decisions (cells_of set.decisions) cs ≡ true = rw (true_is _ q.decision_texts, true_is _ q.binary_on_decisions, true_is _ q.decisions_binary) refl in
+pub bad_decisions : (home : SheetId) (book : State) (names : Naming) (set : Settings) (cs : List Constraint) → GiveSettings home names set → Some cs ≡ constraints_named home names 0 set.constraints
+    → false ≡ decision_rules book.contents set.decisions (cells_of set.decisions) cs → (s : Statement) → ¬ (IsPlain home book names s)
+bad_decisions home book names set cs g e bad s p =
+    let q : IsPlain home book names (stated set cs) = subst (IsPlain home book names) (same_statement home names set cs s g e p.names_give) p in
+    let all : decision_rules book.contents set.decisions (cells_of set.decisions) cs ≡ true = rw (true_is _ q.decision_texts, true_is _ q.binary_on_decisions, true_is _ q.decisions_binary) refl in
     let clash : false ≡ true = bad ∙ all in
     cc
 
-pub bad_objective : (home : SheetId) (cells : Cells) (names : Naming) (set : Settings) (cs : List Constraint) → GiveSettings home names set → Some cs ≡ constraints_named home names 0 set.constraints
-    → false ≡ holds_plain cells set.objective → (s : Statement) → ¬ (IsPlain home cells names s)
-bad_objective home cells names set cs g e bad s p =
-    let q : IsPlain home cells names (stated set cs) = subst (IsPlain home cells names) (same_statement home names set cs s g e p.names_give) p in
-    let clash : false ≡ true = bad ∙ true_is _ q.objective_text in
-    cc
-
-pub bad_rows : (home : SheetId) (cells : Cells) (names : Naming) (set : Settings) (cs : List Constraint) → GiveSettings home names set → Some cs ≡ constraints_named home names 0 set.constraints
-    → false ≡ rows_are_plain cells (rows_of cs) → (s : Statement) → ¬ (IsPlain home cells names s)
-bad_rows home cells names set cs g e bad s p =
-    let q : IsPlain home cells names (stated set cs) = subst (IsPlain home cells names) (same_statement home names set cs s g e p.names_give) p in
-    let clash : false ≡ true = bad ∙ true_is _ q.side_texts in
-    cc
-
 -- all rules hold
-pub plain_is : (home : SheetId) (cells : Cells) (names : Naming) (set : Settings) (cs : List Constraint) → GiveSettings home names set → Some cs ≡ constraints_named home names 0 set.constraints
-    → true ≡ decision_rules cells set.decisions (cells_of set.decisions) cs → true ≡ holds_plain cells set.objective → true ≡ rows_are_plain cells (rows_of cs) → IsPlain home cells names (stated set cs)
-plain_is home cells names set cs g e ds objective rows =
-    let first = both_true (list_all (holds_number cells) (cells_of set.decisions)) _ (sym ds) in
+pub plain_is : (home : SheetId) (book : State) (names : Naming) (set : Settings) (cs : List Constraint) → GiveSettings home names set → Some cs ≡ constraints_named home names 0 set.constraints
+    → true ≡ decision_rules book.contents set.decisions (cells_of set.decisions) cs → true ≡ holds_plain book set.objective → true ≡ rows_are_plain book (rows_of cs) → IsPlain home book names (stated set cs)
+plain_is home book names set cs g e ds objective rows =
+    let first = both_true (list_all (holds_number book.contents) (cells_of set.decisions)) _ (sym ds) in
     let second = both_true (list_all (binary_within set.decisions) cs) _ first.1 in
     record {
       names_give = record {

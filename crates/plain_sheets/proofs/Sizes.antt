@@ -20,9 +20,6 @@ neg_abs (pos zero) = refl
 neg_abs (pos (suc n)) = refl
 neg_abs (negsuc n) = refl
 
-pub negated : (z : ℤ) → unsigned_abs (pos 0 -ℤ z) ≡ unsigned_abs z
-negated z = rw (negative_is z) (neg_abs z)
-
 pub negative_at_most : (size : ℕ) (z : ℤ) → IsAtMost size z → IsAtMost size (neg_ℤ z)
 negative_at_most size z h = rw (neg_abs z) h
 

@@ -25,9 +25,6 @@ sign_whole Minus z = sym (whole-neg z)
 pub times_whole : (x y : Option ℚ) (a b : ℤ) → x ≡ Some (whole_ℚ a) → y ≡ Some (whole_ℚ b) → joined ◌*ℚ◌ x y ≡ Some (whole_ℚ (a *ℤ b))
 times_whole x y a b p q = rw (p, q) (ap Some (sym (whole-mul a b)))
 
-pub plus_whole : (x y : Option ℚ) (a b : ℤ) → x ≡ Some (whole_ℚ a) → y ≡ Some (whole_ℚ b) → joined ◌+ℚ◌ x y ≡ Some (whole_ℚ (a +ℤ b))
-plus_whole x y a b p q = rw (p, q) (ap Some (sym (whole-add a b)))
-
 times_one : (a : ℤ) → a *ℤ pos 1 ≡ a
 times_one a = omega (arith, ints)
 

@@ -1,6 +1,6 @@
 -- What the model of a plain sheet has to do with the sheet.
-use Rattle.std.specs.Prelude.{◌≡◌, IsSomeAnd, Bool, ℕ, ◌+◌, ◌<◌, ◌/◌, ◌%◌, ◌==◌, ◌&&◌, if◌then◌else◌, zero, suc, true, false, List, [], ◌∷◌, ◌++◌, length, Some, None, pos}
-use Rattle.std.specs.FinMap.{get, insert}
+use Rattle.std.specs.Prelude.{◌≡◌, Bool, ℕ, ◌+◌, ◌/◌, ◌%◌, ◌==◌, ◌&&◌, if◌then◌else◌, zero, suc, true, false, List, [], ◌∷◌, ◌++◌, length, Some, None, pos}
+use Rattle.std.specs.FinMap.{insert}
 use Rattle.fractions.specs.Rational.{ℚ}
 use Rattle.fractions.specs.Whole.{whole_ℚ}
 use Rattle.cell_refs.specs.declared.cell.Cell.{Cell}
@@ -9,6 +9,7 @@ use Rattle.sheet_model.specs.Worth.{Cells, Overriding, cell_worth, factor_worth,
 use Rattle.sheet_model.specs.declared.formula.Factor.{Factor}
 use Rattle.sheet_model.specs.declared.formula.Term.{Term}
 use Rattle.plain_sheets.specs.Statement.{Statement}
+use Rattle.workbook.specs.State.{State}
 use Rattle.plain_sheets.specs.Plain.{rows_are_plain, rows_of}
 use Rattle.plain_sheets.specs.Choices.{monomial_value, part_value, terms_value}
 use Rattle.plain_sheets.specs.declared.model.Part.{Part}
@@ -70,19 +71,15 @@ StandForRows cells decisions (sides ∷ more) [] = ⊥
 StandForRows cells decisions (sides ∷ more) (row ∷ rows) = StandsForRow cells decisions sides row × StandForRows cells decisions more rows
 
 -- where all the rows are plain, sides that stand for them were put behind the old ones; else some row isn't plain
-abbrev pub PushesRows : Cells → List Cell → List Sides → List Sides → List (Cell × Cell) → Bool → Type 0
-PushesRows cells decisions old new rows true = (rows_are_plain cells rows ≡ true) × ((more : List Sides) × (new ≡ old ++ more) × StandForRows cells decisions more rows)
-PushesRows cells decisions old new rows false = rows_are_plain cells rows ≡ false
+abbrev pub PushesRows : State → List Cell → List Sides → List Sides → List (Cell × Cell) → Bool → Type 0
+PushesRows book decisions old new rows true = (rows_are_plain book rows ≡ true) × ((more : List Sides) × (new ≡ old ++ more) × StandForRows book.contents decisions more rows)
+PushesRows book decisions old new rows false = rows_are_plain book rows ≡ false
 
 -- the model has the statement's decisions, and its terms are worth what the sheet's cells are
 pub record IsModelOf (cells : Cells) (s : Statement) (m : Model) : Type 0 where
   pub decisions : m.decisions.items ≡ cells_of s.decisions
   pub objective : StandsForCell cells (cells_of s.decisions) m.objective.items s.objective
   pub rows : StandForRows cells (cells_of s.decisions) m.rows.items (rows_of s.constraints)
-
--- the cell has a text that is not empty
-abbrev pub HasText : Cells → Cell → Type 0
-HasText cells cell = IsSomeAnd (get cells cell) (λ text. 0 < length text)
 
 -- a digit as a text
 abbrev pub digit_text : ℕ → List ℕ

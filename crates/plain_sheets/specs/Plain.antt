@@ -9,12 +9,18 @@ use Rattle.cell_refs.specs.declared.cell.Area.{Area}
 use Rattle.cell_refs.specs.Areas.{area_len, cell_at, cells_of, within}
 use Rattle.sheet_model.specs.Texts.{small_number_in}
 use Rattle.sheet_model.specs.Formulas.{formula_in}
+use Rattle.recalculation.specs.Entries.{entry}
 use Rattle.sheet_model.specs.Worth.{Cells}
 use Rattle.sheet_model.specs.declared.formula.Factor.{Factor}
 use Rattle.sheet_model.specs.declared.formula.Factor.TheVariants.{Digits, At}
 use Rattle.sheet_model.specs.declared.formula.Product.{Product}
 use Rattle.sheet_model.specs.declared.formula.Product.TheVariants.{One, Two, Three}
 use Rattle.sheet_model.specs.declared.formula.Term.{Term}
+use Rattle.workbook.specs.Contents.{kind_of}
+use Rattle.workbook.specs.Kinds.{book_of}
+use Rattle.workbook.specs.State.{State}
+use Rattle.workbook.specs.declared.kind.Kind.{Kind}
+use Rattle.workbook.specs.declared.kind.Kind.TheVariants as kind
 use Rattle.plain_sheets.specs.Names.{Naming}
 use Rattle.plain_sheets.specs.Statement.{Statement, NamesGive}
 use Rattle.plain_sheets.specs.declared.statement.Constraint.{Constraint}
@@ -42,9 +48,18 @@ abbrev pub formula_is_plain : Cells → SheetId → Option (List ℕ) → Bool
 formula_is_plain cells home None = false
 formula_is_plain cells home (Some text) = terms_are_plain cells (formula_in home text)
 
+abbrev pub is_formula : Kind → Bool
+is_formula kind.Formula = true
+is_formula _ = false
+
+-- the cell holds a formula by the rules of workbooks, and none that can't be read
+abbrev pub holds_formula : State → Cell → Bool
+holds_formula book cell = is_formula (kind_of (entry (book_of book) cell))
+
 -- the cell holds a small number or a plain formula
-abbrev pub holds_plain : Cells → Cell → Bool
-holds_plain cells cell = holds_number cells cell || formula_is_plain cells cell.sheet (get cells cell)
+abbrev pub holds_plain : State → Cell → Bool
+holds_plain book cell =
+    holds_number book.contents cell || (holds_formula book cell && formula_is_plain book.contents cell.sheet (get book.contents cell))
 
 -- the rows of a constraint: each cell of its left side beside the same one of its right side, or beside the only one
 abbrev pub rows_of_one : Constraint → List (Cell × Cell)
@@ -57,8 +72,8 @@ rows_of [] = []
 rows_of (c ∷ cs) = rows_of_one c ++ rows_of cs
 
 -- both sides of each row are plain
-abbrev pub rows_are_plain : Cells → List (Cell × Cell) → Bool
-rows_are_plain cells rows = list_all (λ row. holds_plain cells row.0 && holds_plain cells row.1) rows
+abbrev pub rows_are_plain : State → List (Cell × Cell) → Bool
+rows_are_plain book rows = list_all (λ row. holds_plain book row.0 && holds_plain book row.1) rows
 
 -- a binary constraint on the cell
 abbrev pub makes_binary : Cell → Constraint → Bool
@@ -71,10 +86,10 @@ binary_within decisions (AtMost left right) = true
 binary_within decisions (Binary area) = list_all (within decisions) (cells_of area)
 
 -- a sheet is plain, and its names give this statement, where each of these rules holds
-pub record IsPlain (home : SheetId) (cells : Cells) (names : Naming) (s : Statement) : Type 0 where
+pub record IsPlain (home : SheetId) (book : State) (names : Naming) (s : Statement) : Type 0 where
   pub names_give : NamesGive home names s
   pub binary_on_decisions : IsTrue (list_all (binary_within s.decisions) s.constraints)
   pub decisions_binary : IsTrue (list_all (λ cell. list_any (makes_binary cell) s.constraints) (cells_of s.decisions))
-  pub decision_texts : IsTrue (list_all (holds_number cells) (cells_of s.decisions))
-  pub objective_text : IsTrue (holds_plain cells s.objective)
-  pub side_texts : IsTrue (rows_are_plain cells (rows_of s.constraints))
+  pub decision_texts : IsTrue (list_all (holds_number book.contents) (cells_of s.decisions))
+  pub objective_text : IsTrue (holds_plain book s.objective)
+  pub side_texts : IsTrue (rows_are_plain book (rows_of s.constraints))

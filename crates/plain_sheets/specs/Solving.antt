@@ -39,7 +39,7 @@ plain_problem cells s = record {
 
 -- the sheet of the workbook is plain, and its names give this statement
 abbrev pub IsPlainSheet : State → SheetId → Statement → Type 0
-IsPlainSheet book sheet s = IsPlain sheet book.contents (names_of book sheet) s
+IsPlainSheet book sheet s = IsPlain sheet book (names_of book sheet) s
 
 -- the text of a decision cell that is 0 or 1
 abbrev pub IsBinaryText : Option (List ℕ) → Type 0

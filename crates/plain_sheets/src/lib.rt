@@ -11,6 +11,3 @@ mod statement;
 
 pub use sheet_model::Memory;
 pub use solving::{Solved, one_statement, solve};
-
-#[cfg(test)]
-mod tests;

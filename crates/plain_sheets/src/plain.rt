@@ -23,8 +23,8 @@ pub(crate) fn plain_model(
     home: SheetId,
 ) -> Result<Option<Model>, AllocError>
     ensures { IfOk result (λ found. MatchOption found
-        ((s : Statement) → ¬ (IsPlain home book.now.contents (names_of book.now home) s))
-        (λ model. (s : Statement) × IsPlain home book.now.contents (names_of book.now home) s × IsModelOf book.now.contents s model)) }
+        ((s : Statement) → ¬ (IsPlain home book.now (names_of book.now home) s))
+        (λ model. (s : Statement) × IsPlain home book.now (names_of book.now home) s × IsModelOf book.now.contents s model)) }
 {
     let Some(set) = read_settings(book, home) else {
         return Ok(None);

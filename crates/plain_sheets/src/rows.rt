@@ -24,7 +24,7 @@ pub(crate) fn rows(
     requires few { length decisions.now ≤ 8 }
     requires small { list_all (holds_number book.now.contents) decisions.now ≡ true }
     requires order { All IsConstraintInOrder constraints.now }
-    ensures plain { IfOk result (λ found. is_some found ≡ rows_are_plain book.now.contents (rows_of constraints.now)) }
+    ensures plain { IfOk result (λ found. is_some found ≡ rows_are_plain book.now (rows_of constraints.now)) }
     ensures stand { IfOk result (λ found. IfSome found (λ v. StandForRows book.now.contents decisions.now v.items (rows_of constraints.now))) }
 {
     let mut all = Vec::new(alloc);
@@ -47,7 +47,7 @@ fn push_constraint(
     requires few { length decisions.now ≤ 8 }
     requires small { list_all (holds_number book.now.contents) decisions.now ≡ true }
     requires order { IsConstraintInOrder constraint }
-    ensures { IfOk result (PushesRows book.now.contents decisions.now all.old.items all.new.items (rows_of_one constraint)) }
+    ensures { IfOk result (PushesRows book.now decisions.now all.old.items all.new.items (rows_of_one constraint)) }
 {
     match constraint {
         Constraint::AtMost(left, right) => push_rows(alloc, book, decisions, (left, right), all),
@@ -68,7 +68,7 @@ fn push_rows(
     requires left { IsInOrder areas.0 }
     requires right { IsInOrder areas.1 }
     requires sizes { (area_len areas.1 ≡ 1) ⊎ (area_len areas.1 ≡ area_len areas.0) }
-    ensures { IfOk result (PushesRows book.now.contents decisions.now all.old.items all.new.items (rows_of_one (Constraint.AtMost areas.0 areas.1))) }
+    ensures { IfOk result (PushesRows book.now decisions.now all.old.items all.new.items (rows_of_one (Constraint.AtMost areas.0 areas.1))) }
 {
     let (left, right) = areas;
     for place in 0..left.len() {
@@ -102,7 +102,7 @@ fn row(
 ) -> Result<Option<Sides>, AllocError>
     requires few { length decisions.now ≤ 8 }
     requires small { list_all (holds_number book.now.contents) decisions.now ≡ true }
-    ensures plain { IfOk result (λ found. is_some found ≡ (holds_plain book.now.contents cells.0 && holds_plain book.now.contents cells.1)) }
+    ensures plain { IfOk result (λ found. is_some found ≡ (holds_plain book.now cells.0 && holds_plain book.now cells.1)) }
     ensures stand { IfOk result (λ found. IfSome found (λ sides. StandsForRow book.now.contents decisions.now sides cells)) }
 {
     let Some(left) = side(alloc, book, decisions, cells.0)? else {

@@ -6,14 +6,14 @@ ghost use Rattle.std.specs.FinMap as finmap;
 ghost use Rattle.fractions.specs.Whole.{whole_ℚ};
 ghost use Rattle.sheet_model.specs.Texts.{small_number_in};
 ghost use Rattle.plain_sheets.specs.Choices.{bit, part_value, terms_value};
-ghost use Rattle.plain_sheets.specs.Plain.{factor_is_plain, holds_number, holds_plain, product_is_plain};
+ghost use Rattle.plain_sheets.specs.Plain.{factor_is_plain, holds_formula, holds_number, holds_plain, product_is_plain};
 ghost use Rattle.plain_sheets.specs.Model.{StandForFormula, StandsForCell, StandsForFactor, StandsForNumber, StandsForTerm, chosen, same_cell};
 
 use crate::model::{Monomial, Part};
 use cell_refs::Cell;
 use sheet_model::{Factor, Product, Sign, Term, plain_formula, small_number};
 use std::alloc::{AllocError, Global};
-use workbook::Workbook;
+use workbook::{Kind, Workbook};
 
 /// What a cell is worth, as terms: its small number, the decision that it is, or its plain formula.
 pub(crate) fn side(
@@ -24,11 +24,14 @@ pub(crate) fn side(
 ) -> Result<Option<Vec<Monomial>>, AllocError>
     requires few { length decisions.now ≤ 8 }
     requires small { list_all (holds_number book.now.contents) decisions.now ≡ true }
-    ensures plain { IfOk result (λ found. is_some found ≡ holds_plain book.now.contents cell) }
+    ensures plain { IfOk result (λ found. is_some found ≡ holds_plain book.now cell) }
     ensures stands { IfOk result (λ found. IfSome found (λ v. StandsForCell book.now.contents decisions.now v.items cell)) }
 {
     if let Some(part) = part_at(book, decisions, cell) {
         return Ok(Some(single(alloc, part)?));
+    }
+    if !holds_formula(book, cell) {
+        return Ok(None);
     }
     let text = book.content(cell).as_bytes();
     let Some(terms) = plain_formula(alloc, text, cell.sheet)? else {
@@ -38,6 +41,16 @@ pub(crate) fn side(
         return Ok(None);
     };
     Ok(Some(found))
+}
+
+// Whether the cell holds a formula that can be read.
+fn holds_formula(book: &Workbook, cell: Cell) -> bool
+    ensures { result ≡ holds_formula book.now cell }
+{
+    match book.kind(cell) {
+        Kind::Formula => true,
+        _ => false,
+    }
 }
 
 // A part alone, as terms.

@@ -14,6 +14,3 @@ pub use recalculate::value;
 pub use rounds::known_in_rounds;
 pub use sheet_model::Memory;
 pub use shown::Shown;
-
-#[cfg(test)]
-mod tests;

@@ -5,6 +5,3 @@ mod session;
 
 pub use commands::{Answer, Command, Memory, line};
 pub use session::Session;
-
-#[cfg(test)]
-mod tests;

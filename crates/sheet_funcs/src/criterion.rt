@@ -1,11 +1,6 @@
 // Criteria, each read once for many elements.
-ghost use Rattle.std.specs.Prelude.{◌≡◌, ◌≢◌, map, option_map};
-ghost use Rattle.std.specs.Char.{to_ascii_lowercase};
-ghost use Rattle.std.specs.Cmp.Lexicographic.{slice_cmp};
-ghost use Rattle.std.specs.Ordering.{nat_cmp};
+ghost use Rattle.std.specs.Prelude.{◌≡◌, ◌≢◌, option_map};
 ghost use Rattle.cell_refs.specs.declared.error_kind.ErrorKind.{ErrorKind};
-ghost use Rattle.sheet_model.specs.Operators.{asks_for};
-ghost use Rattle.sheet_model.specs.Tests.{number_cmp};
 ghost use Rattle.cell_refs.specs.declared.op.Op.TheVariants as op;
 ghost use Rattle.sheet_model.specs.declared.value.Value.{Value};
 ghost use Rattle.sheet_model.specs.declared.value.Value.TheVariants.{Error, Logical, Number, Text};
@@ -14,8 +9,7 @@ ghost use Rattle.sheet_funcs.specs.ReadCriteria.{IsReadOf, behind_greater, behin
 
 use cell_refs::Op;
 use frac128::Frac;
-use sheet_model::Value;
-use std::cmp::Ordering;
+use sheet_model::{Value, asks_for, compare_numbers, compare_texts};
 
 /// When an element meets a criterion: never, or where it stands in a relation to nothing, to a number or to a text, or where it
 /// is this logical.
@@ -165,36 +159,5 @@ fn beside_logical(holds: bool, item: &Value) -> bool
     match item {
         Value::Logical(found) => *found == holds,
         Value::Number(_) | Value::Text(_) | Value::Empty | Value::Error(_) => false,
-    }
-}
-
-// The order of two numbers.
-fn compare_numbers(a: Frac, b: Frac) -> Ordering
-    ensures { result ≡ number_cmp a b }
-{
-    a.compare(b)
-}
-
-// The order of two texts, letters of ASCII as small letters.
-fn compare_texts(a: &[u8], b: &[u8]) -> Ordering
-    ensures { result ≡ slice_cmp nat_cmp (map to_ascii_lowercase a.now) (map to_ascii_lowercase b.now) }
-{
-    a.iter()
-        .map(|byte| byte.to_ascii_lowercase())
-        .cmp(b.iter().map(|byte| byte.to_ascii_lowercase()))
-}
-
-// Whether a comparison holds of values in this order.
-fn asks_for(relation: Op, order: Ordering) -> bool
-    ensures { result ≡ asks_for relation order }
-{
-    match relation {
-        Op::Eq => order.is_eq(),
-        Op::Ne => order.is_ne(),
-        Op::Lt => order.is_lt(),
-        Op::Le => order.is_le(),
-        Op::Gt => order.is_gt(),
-        Op::Ge => order.is_ge(),
-        Op::Add | Op::Sub | Op::Mul | Op::Div | Op::Pow | Op::Cat => false,
     }
 }

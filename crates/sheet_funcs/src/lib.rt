@@ -32,24 +32,3 @@ pub use products::{mmult, sumproduct, transpose};
 pub use rounding::{abs_, int, mod_, power, round};
 pub use sums::{average, count, max, min, sum};
 pub use table::{call, is_choosing};
-
-#[cfg(test)]
-mod criteria_tests;
-#[cfg(test)]
-mod index_tests;
-#[cfg(test)]
-mod information_tests;
-#[cfg(test)]
-mod logic_tests;
-#[cfg(test)]
-mod lookup_tests;
-#[cfg(test)]
-mod product_tests;
-#[cfg(test)]
-mod rounding_tests;
-#[cfg(test)]
-mod sum_tests;
-#[cfg(test)]
-mod table_tests;
-#[cfg(test)]
-mod test_args;

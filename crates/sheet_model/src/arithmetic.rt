@@ -5,20 +5,19 @@ ghost use Rattle.fractions.specs.Rational.{neg_ℚ, numerator, ℚ};
 ghost use Rattle.calculations.specs.Calculation.{Calculation, done, product, sum};
 ghost use Rattle.sheet_model.specs.Answers.{Answers};
 ghost use Rattle.sheet_model.specs.Conversions.{number_in, text_in};
-ghost use Rattle.sheet_model.specs.Operators.{asks_for, calculated, compared, divided, infix_value, joined_texts, minus_value, on_numbers, percent_value, raised};
+ghost use Rattle.sheet_model.specs.Operators.{calculated, compared, divided, infix_value, joined_texts, minus_value, on_numbers, percent_value, raised};
 ghost use Rattle.sheet_model.specs.Tests.{is_exponent, is_negative, is_zero};
 ghost use Rattle.sheet_model.specs.declared.stop.FuncStop.TheVariants as stops;
 ghost use Rattle.sheet_model.specs.declared.value.Value.{Value};
 ghost use Rattle.sheet_model.specs.declared.value.Value.TheVariants.{Number};
 
 use crate::convert::{to_number, to_text};
-use crate::order::compare;
+use crate::order::{asks_for, compare};
 use crate::stop::FuncStop;
 use crate::value::{Text, Value};
 use cell_refs::{ErrorKind, Op};
 use frac128::{Frac, Wide};
 use std::alloc::Global;
-use std::cmp::Ordering;
 
 /// An infix operator on two values.
 pub(crate) fn infix_value(alloc: Global, op: Op, a: &Value, b: &Value) -> Result<Value, FuncStop>
@@ -170,19 +169,4 @@ fn compared(op: Op, a: &Value, b: &Value) -> Value
         return Value::Error(*kind);
     }
     Value::Logical(asks_for(op, compare(a, b)))
-}
-
-// Whether a comparison holds of values in this order.
-fn asks_for(op: Op, order: Ordering) -> bool
-    ensures { result ≡ asks_for op order }
-{
-    match op {
-        Op::Eq => order.is_eq(),
-        Op::Ne => order.is_ne(),
-        Op::Lt => order.is_lt(),
-        Op::Le => order.is_le(),
-        Op::Gt => order.is_gt(),
-        Op::Ge => order.is_ge(),
-        Op::Add | Op::Sub | Op::Mul | Op::Div | Op::Pow | Op::Cat => false,
-    }
 }

@@ -21,11 +21,6 @@ pub use grid::{Arg, Grid};
 pub use memory::Memory;
 pub use number::small_number;
 pub use operators::{infix, minus, percent};
-pub use order::{compare, order_laws};
+pub use order::{asks_for, compare, compare_numbers, compare_texts, order_laws};
 pub use stop::FuncStop;
 pub use value::{Text, Value};
-
-#[cfg(test)]
-mod tests;
-#[cfg(test)]
-mod value_tests;

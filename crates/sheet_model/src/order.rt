@@ -5,10 +5,12 @@ ghost use Rattle.std.specs.Cmp.Lexicographic.{slice_cmp};
 ghost use Rattle.std.specs.Ordering.{nat_cmp};
 ghost use Rattle.cell_refs.specs.declared.error_kind.ErrorKind.{ErrorKind};
 ghost use Rattle.sheet_model.specs.Comparison.{OrderLaws, value_cmp};
+ghost use Rattle.sheet_model.specs.Operators.{asks_for};
 ghost use Rattle.sheet_model.specs.Tests.{number_cmp};
 ghost use Rattle.sheet_model.specs.declared.value.Value.TheVariants.{Empty, Error, Logical, Number, Text};
 
 use crate::value::Value;
+use cell_refs::Op;
 use frac128::Frac;
 use std::cmp::Ordering;
 
@@ -71,19 +73,35 @@ fn empty_beside(other: &Value) -> Ordering
     }
 }
 
-fn compare_numbers(a: Frac, b: Frac) -> Ordering
+/// The order of two numbers.
+pub fn compare_numbers(a: Frac, b: Frac) -> Ordering
     ensures { result ≡ number_cmp a b }
 {
     a.compare(b)
 }
 
-// The order of two texts, letters of ASCII as small letters.
-fn compare_texts(a: &[u8], b: &[u8]) -> Ordering
+/// The order of two texts, letters of ASCII as small letters.
+pub fn compare_texts(a: &[u8], b: &[u8]) -> Ordering
     ensures { result ≡ slice_cmp nat_cmp (map to_ascii_lowercase a.now) (map to_ascii_lowercase b.now) }
 {
     a.iter()
         .map(|byte| byte.to_ascii_lowercase())
         .cmp(b.iter().map(|byte| byte.to_ascii_lowercase()))
+}
+
+/// Whether a comparison holds of values in this order.
+pub fn asks_for(op: Op, order: Ordering) -> bool
+    ensures { result ≡ asks_for op order }
+{
+    match op {
+        Op::Eq => order.is_eq(),
+        Op::Ne => order.is_ne(),
+        Op::Lt => order.is_lt(),
+        Op::Le => order.is_le(),
+        Op::Gt => order.is_gt(),
+        Op::Ge => order.is_ge(),
+        Op::Add | Op::Sub | Op::Mul | Op::Div | Op::Pow | Op::Cat => false,
+    }
 }
 
 /// The order is total, and transitive over values that aren't empty.

@@ -20,8 +20,3 @@ pub use file::File;
 pub use kind::Kind;
 pub use open::files_open_in_one_way;
 pub use workbook::Workbook;
-
-#[cfg(test)]
-mod size_tests;
-#[cfg(test)]
-mod tests;

@@ -1,5 +1,5 @@
 // What arguments look at, and their values.
-ghost use Rattle.std.specs.Prelude.{◌≡◌, ◌++◌, IfOk, OnOk, option_map};
+ghost use Rattle.std.specs.Prelude.{◌≡◌, ◌++◌, IfOk, IfSome, OnOk, length, option_map};
 ghost use Rattle.recalculation.specs.Looking.{all_looks, outcomes};
 
 use crate::copy::copy_of;
@@ -46,13 +46,14 @@ pub(crate) fn push_all(cells: &[Cell], to: &mut Vec<Cell>) -> Result<(), Memory>
     Ok(())
 }
 
-/// The values of some arguments, where all have one.
-pub(crate) fn outcomes(alloc: Global, args: &[Part]) -> Result<Option<Vec<Arg>>, Memory>
-    ensures { IfOk result (λ values. option_map (λ v. v.items) values ≡ outcomes args.now) }
+/// The values of some parts, where all have one.
+pub(crate) fn outcomes(alloc: Global, parts: &[Part]) -> Result<Option<Vec<Arg>>, Memory>
+    ensures values { IfOk result (λ found. option_map (λ v. v.items) found ≡ outcomes parts.now) }
+    ensures count { IfOk result (λ found. IfSome found (λ v. length v.items ≡ length parts.now)) }
 {
     let mut values = Vec::new(alloc);
-    for arg in args {
-        let Some(value) = &arg.outcome else {
+    for part in parts {
+        let Some(value) = part.outcome() else {
             return Ok(None);
         };
         values.push(copy_of(alloc, value)?)?;

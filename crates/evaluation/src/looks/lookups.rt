@@ -1,7 +1,7 @@
 // What VLOOKUP and HLOOKUP look at.
 ghost use Rattle.std.specs.Prelude.{◌≡◌, ◌<◌, ◌++◌, ◌∷◌, IfOk, IfSome, OnOk, if◌then◌else◌, length, option_map};
 ghost use Rattle.std.specs.Result.{result_map_both};
-ghost use Rattle.evaluation.specs.FoundRows.{IsKeysOf, found_row, kind_where, known_values};
+ghost use Rattle.evaluation.specs.FoundRows.{IsKeysOf, found_row, kind_where};
 ghost use Rattle.recalculation.specs.Looking.{all_looks, by_values, column_cells, exchanged, lookup_looks, outcomes, table_looks, then_cells};
 ghost use Rattle.sheet_funcs.specs.Arguments.{grid_of, no_error, value_of};
 ghost use Rattle.sheet_funcs.specs.Lookups.{is_sorted, kind_of};
@@ -13,6 +13,7 @@ use crate::looks::arguments::{all_looks, copied, outcomes, push_all, push_looks}
 use crate::looks::picks::cell_at;
 use crate::part::Part;
 use crate::reference::Reference;
+use crate::values::values_of;
 use cell_refs::{Cell, ErrorKind};
 use frac128::Frac;
 use sheet_funcs::{Pick, logical_of, lookup_at, place_of};
@@ -65,7 +66,7 @@ fn lookup_looks<C: Cells>(
     push_looks(rest, &mut looks)?;
     let keys = first_column(alloc, grid)?;
     push_all(&keys, &mut looks)?;
-    let Some(values) = known_values(alloc, cells, &keys)? else {
+    let Some(values) = values_of(alloc, cells, &keys)? else {
         return Ok(looks);
     };
     let keys = as_column(grid.rows, values);
@@ -116,24 +117,6 @@ fn exchanged_cells(alloc: Global, grid: &Reference) -> Result<Vec<Cell>, Memory>
         push_column(grid, column, &mut cells)?;
     }
     Ok(cells)
-}
-
-// The values of some cells, where all are known.
-fn known_values<C: Cells>(
-    alloc: Global,
-    cells: &C,
-    keys: &[Cell],
-) -> Result<Option<Vec<Value>>, Memory>
-    ensures { IfOk result (λ values. option_map (λ v. v.items) values ≡ known_values (C.known cells.now) keys.now) }
-{
-    let mut values = Vec::new(alloc);
-    for key in keys {
-        let Some(value) = cells.value(alloc, *key)? else {
-            return Ok(None);
-        };
-        values.push(value)?;
-    }
-    Ok(Some(values))
 }
 
 // Values as a grid of one column.

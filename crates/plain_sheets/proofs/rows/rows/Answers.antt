@@ -17,12 +17,12 @@ some_constraint = AtMost some_area some_area
 
 pub returns-then-not-branch-clause-plain : goal.returns-then-not-branch-clause-plain
 returns-then-not-branch-clause-plain c =
-    constraint_not_plain c.args.book.now.contents c.args.constraints.now c.loop-one.one-index some_constraint c.loop-one-test.true (rw c.if-not-branch.true at c.in_ok-push_constraint.ensures)
+    constraint_not_plain c.args.book.now c.args.constraints.now c.loop-one.one-index some_constraint c.loop-one-test.true (rw c.if-not-branch.true at c.in_ok-push_constraint.ensures)
 
 pub loop-one-preserved : goal.loop-one-preserved
 loop-one-preserved c =
-    let pushed : PushesRows c.args.book.now.contents c.args.decisions.now c.loop-one.all.items c.push_constraint.new.all.items (rows_of_one (get_or c.args.constraints.now c.loop-one.one-index some_constraint)) true =
+    let pushed : PushesRows c.args.book.now c.args.decisions.now c.loop-one.all.items c.push_constraint.new.all.items (rows_of_one (get_or c.args.constraints.now c.loop-one.one-index some_constraint)) true =
     rw c.if-not-branch.false at c.in_ok-push_constraint.ensures in
-    let more = constraint_more c.args.book.now.contents c.args.decisions.now c.loop-one.all.items c.push_constraint.new.all.items (take c.loop-one.one-index c.args.constraints.now) (get_or c.args.constraints.now c.loop-one.one-index some_constraint)
+    let more = constraint_more c.args.book.now c.args.decisions.now c.loop-one.all.items c.push_constraint.new.all.items (take c.loop-one.one-index c.args.constraints.now) (get_or c.args.constraints.now c.loop-one.one-index some_constraint)
     c.loop-one.invariant.plain c.loop-one.invariant.stand pushed in
     rw (take_more c.args.constraints.now c.loop-one.one-index some_constraint c.loop-one-test.true) record { plain = more.plain; stand = more.stand }

@@ -1,8 +1,11 @@
-use Rattle.std.proofs.Common.{◌≡◌, drop}
+use Rattle.std.proofs.Common.{◌≡◌, drop, length}
+use Rattle.calculations.proofs.CalculationLaws.{behind_answers}
 use Rattle.recalculation.specs.Looking.{outcomes}
-use Rattle.evaluation.proofs.LookLists.{in_front}
 use Rattle.evaluation.proofs.looks.arguments.outcomes.Given as goal
 
--- the values so far in front of those of the rest
-abbrev pub invariant-loop-arg : goal.invariant-loop-arg
-invariant-loop-arg l = outcomes l.args ≡ in_front l.values.items (outcomes (drop l.arg-index l.args))
+-- the values so far, and then those of the rest
+abbrev pub invariant-loop-part : goal.invariant-loop-part
+invariant-loop-part l = record {
+  values : outcomes l.parts ≡ behind_answers l.values.items (outcomes (drop l.part-index l.parts));
+  count : length l.values.items ≡ l.part-index;
+}

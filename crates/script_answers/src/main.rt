@@ -1,0 +1,16 @@
+// The program: a run over the command line, the working directory, standard input and standard output.
+#![tactic(auto)]
+
+use real_run::run_for_real;
+use std::process::ExitCode;
+
+fn main(rt: HostRuntime) -> ExitCode {
+    run_for_real(rt)
+}
+
+#[cfg(test)]
+mod limit_tests;
+#[cfg(test)]
+mod run_tests;
+#[cfg(test)]
+mod workbook_tests;

@@ -1,0 +1,212 @@
+// What no script shows of workbooks and answers. What is expected follows from the rules by hand.
+ghost use Rattle.std.specs.Prelude.{◌≡◌, ◌<◌, IfOk, length};
+ghost use Rattle.workbook.specs.Replacing.{CanReplace};
+ghost use Rattle.workbook.specs.State.{is_formula_text};
+
+use cell_refs::{Cell, SheetId, SheetNames, Span};
+use commands::{Answer, Command, line};
+use formula_ast::Node;
+use frac128::Frac;
+use sheet_model::Text;
+use std::alloc::Global;
+use std::test::Fail;
+use workbook::{EditFault, File, Kind, Workbook};
+
+fn at(sheet: u8, row: u16, col: u16) -> Cell {
+    Cell {
+        sheet: SheetId(sheet),
+        row,
+        col,
+    }
+}
+
+// A workbook of two sheets, with the texts 1 and x in the first row, a formula in the third, and 7 on the other sheet.
+fn opened(alloc: Global) -> Result<Workbook, Fail> {
+    let names = b",rate,0.5\nplan,tax,=$A$1:$B$2\nplan,own,what\n,own,7\n";
+    let plan = b"1,,x\n,\n,=A1\n".to_vec(alloc)?;
+    let data = b",\n7\n".to_vec(alloc)?;
+    let mut files = Vec::new(alloc);
+    files.push(File::new(String::from_str(alloc, "plan")?, plan))?;
+    files.push(File::new(String::from_str(alloc, "data")?, data))?;
+    match Workbook::open(alloc, &files, names) {
+        Ok(workbook) => Ok(workbook),
+        Err(_) => Err(Fail::new("it is not opened")),
+    }
+}
+
+// Fails where there is no such sheet.
+fn listed(workbook: &Workbook, cell: Cell) -> Result<(), Fail>
+    ensures { IfOk result (λ _. cell.sheet.0 < length workbook.now.sheets) }
+{
+    if usize::from(cell.sheet.0) >= workbook.sheets().len() {
+        return Err(Fail::new("there is no such sheet"));
+    }
+    Ok(())
+}
+
+// Puts a text into a cell, and answers the fault.
+fn set(workbook: &mut Workbook, cell: Cell, text: &str) -> Result<Option<EditFault>, Fail> {
+    listed(workbook, cell)?;
+    match workbook.set(cell, text) {
+        Ok(()) => Ok(None),
+        Err(fault) => Ok(Some(fault)),
+    }
+}
+
+// The number on the left side of a cell's formula, and its place in the text.
+fn left_number(workbook: &Workbook, cell: Cell) -> Result<(Frac, Span), Fail> {
+    let Some(tree) = workbook.tree(cell) else {
+        return Err(Fail::new("there is no tree"));
+    };
+    let Node::Infix(_, left, _) = &tree.node else {
+        return Err(Fail::new("it is no product"));
+    };
+    let Node::Number(number) = left.node else {
+        return Err(Fail::new("it is no number"));
+    };
+    Ok((number, left.span))
+}
+
+#[test]
+fn names_and_what_stands_for_them(rt: HostRuntime) -> Result<(), Fail> {
+    let mut workbook = opened(rt.alloc())?;
+    for (sheet, name, want) in [
+        (None, "rate", Some("0.5")),
+        (None, "RATE", Some("0.5")),
+        (Some(SheetId(0)), "rate", None),
+        (Some(SheetId(0)), "own", Some("what")),
+        (None, "own", Some("7")),
+        (None, "tax", None),
+    ] {
+        assert!(rt; workbook.text_of(sheet, name) == want, "{name:?}");
+    }
+    let cell = at(1, 1, 0);
+    assert!(rt; set(&mut workbook, cell, "=rate*4")?.is_none());
+    let (number, span) = left_number(&workbook, cell)?;
+    assert!(rt; Some(number) == Frac::new(1, 2));
+    assert!(rt; span.start == 1 && span.end == 5);
+    Ok(())
+}
+
+#[test]
+fn cells_in_their_order(rt: HostRuntime) -> Result<(), Fail> {
+    let mut workbook = opened(rt.alloc())?;
+    for (after, want) in [
+        (None, Some(at(0, 0, 0))),
+        (Some(at(0, 0, 0)), Some(at(0, 0, 2))),
+        (Some(at(0, 0, 1)), Some(at(0, 0, 2))),
+        (Some(at(0, 0, 2)), Some(at(0, 2, 1))),
+        (Some(at(0, 2, 1)), Some(at(1, 1, 0))),
+        (Some(at(1, 1, 0)), None),
+    ] {
+        assert!(rt; workbook.next_cell(after) == want);
+    }
+    for (cell, text, want, kind) in [
+        (at(1, 1, 0), "=1+1", None, Kind::Formula),
+        (at(1, 1, 0), "two", None, Kind::Plain),
+        (at(1, 1, 0), "", None, Kind::Empty),
+        (at(0, 4095, 255), "true", None, Kind::Logical(true)),
+        (
+            at(0, 4096, 0),
+            "1",
+            Some(EditFault::OutOfSheet),
+            Kind::Empty,
+        ),
+        (at(0, 0, 256), "1", Some(EditFault::OutOfSheet), Kind::Empty),
+        (at(0, 0, 0), "", None, Kind::Empty),
+    ] {
+        assert!(rt; set(&mut workbook, cell, text)? == want, "{text:?}");
+        assert!(rt; workbook.kind(cell) == kind, "{text:?}");
+        assert!(rt;
+            want.is_some() || workbook.content(cell) == text,
+            "{text:?}"
+        );
+    }
+    assert!(rt; workbook.next_cell(None) == Some(at(0, 0, 2)));
+    Ok(())
+}
+
+// Whether the text begins a formula.
+fn is_formula(text: &str) -> bool
+    ensures { result ≡ is_formula_text text.now }
+{
+    match text.as_bytes() {
+        [b'=', ..] => true,
+        [b'o', b'f', b':', b'=', ..] => true,
+        _ => false,
+    }
+}
+
+// A text for a cell, where it can take the place of the cell's.
+fn replacing(
+    alloc: Global,
+    workbook: &Workbook,
+    cell: Cell,
+    text: &str,
+) -> Result<(Cell, Text), Fail>
+    ensures { IfOk result (λ e. CanReplace workbook.now.contents e) }
+{
+    if workbook.content(cell).is_empty() {
+        return Err(Fail::new("the cell has no text"));
+    }
+    if text.is_empty() || text.len() > 1000 || is_formula(text) {
+        return Err(Fail::new("the text can take no place"));
+    }
+    Ok((cell, Text::new(String::from_str(alloc, text)?)))
+}
+
+// Puts texts in place of others.
+fn replace(alloc: Global, workbook: &mut Workbook, texts: &[(Cell, &str)]) -> Result<(), Fail> {
+    let mut list = Vec::new(alloc);
+    for (cell, text) in texts {
+        let entry = replacing(alloc, workbook, *cell, text)?;
+        list.push(entry)?;
+    }
+    Ok(workbook.replace_all(list)?)
+}
+
+#[test]
+fn texts_that_are_replaced(rt: HostRuntime) -> Result<(), Fail> {
+    let Some(five) = Frac::new(5, 1) else {
+        return Err(Fail::new("five"));
+    };
+    let mut workbook = opened(rt.alloc())?;
+    replace(
+        rt.alloc(),
+        &mut workbook,
+        &[
+            (at(0, 0, 0), "5"),
+            (at(0, 2, 1), "true"),
+            (at(0, 0, 0), "6"),
+        ],
+    )?;
+    for (cell, text, want) in [
+        (at(0, 0, 0), "5", Kind::Number(five)),
+        (at(0, 2, 1), "true", Kind::Logical(true)),
+        (at(0, 0, 2), "x", Kind::Plain),
+        (at(0, 0, 1), "", Kind::Empty),
+    ] {
+        assert!(rt; workbook.content(cell) == text);
+        assert!(rt; workbook.kind(cell) == want);
+    }
+    assert!(rt; workbook.texts() == 4);
+    Ok(())
+}
+
+#[test]
+fn lines_that_no_script_shows(rt: HostRuntime) -> Result<(), Fail> {
+    let sheets = SheetNames::new(rt.alloc());
+    for (value, want) in [
+        (None, "optimal\n"),
+        (Frac::new(-5, 2), "optimal -2.5\n"),
+        (Frac::new(1, 3), "optimal 1/3\n"),
+    ] {
+        let answer = Answer::Optimal(value);
+        let found = line(rt.alloc(), &answer, &sheets)?;
+        assert!(rt; found.as_str() == want, "{want}");
+        assert!(rt; !answer.is_refusal(), "{want}");
+    }
+    let command = Command::of(rt.alloc(), &[])?;
+    assert!(rt; matches!(command, Command::Unknown));
+    Ok(())
+}

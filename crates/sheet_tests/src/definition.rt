@@ -1,0 +1,60 @@
+// Values of cells as they are defined. What is expected follows from the rules by hand.
+
+use crate::books::opened;
+use cell_refs::{Cell, SheetId};
+use dep_table::Deps;
+use frac128::Frac;
+use recalc::known_in_rounds;
+use sheet_model::Value;
+use std::alloc::Global;
+use std::test::Fail;
+use workbook::Workbook;
+
+// The narrow value that the definition gives to the first cell, if it has one.
+fn defined(alloc: Global, workbook: &Workbook) -> Result<Option<Value>, Fail> {
+    let cell = Cell {
+        sheet: SheetId(0),
+        row: 0,
+        col: 0,
+    };
+    let Ok(deps) = Deps::open(alloc, workbook) else {
+        return Err(Fail::new("memory ran out"));
+    };
+    Ok(known_in_rounds(alloc, workbook, &deps, cell)?)
+}
+
+// Whether a value is the one that is wanted, none where there is none.
+fn is_shown(value: Option<Value>, want: &str) -> Result<bool, Fail> {
+    match value {
+        Some(Value::Number(number)) => Ok(number == Frac::read(want)?),
+        Some(Value::Logical(holds)) => Ok(holds && want == "TRUE"),
+        Some(Value::Error(kind)) => Ok(kind.text() == want),
+        Some(Value::Text(_) | Value::Empty) => Ok(false),
+        None => Ok(want == "none"),
+    }
+}
+
+#[test]
+fn values_by_the_definition(rt: HostRuntime) -> Result<(), Fail> {
+    for (sheet, want) in [
+        ("=-2^2\n", "4"),
+        ("=2^3^2\n", "64"),
+        ("=5%\n", "0.05"),
+        ("=1/3+1/6\n", "0.5"),
+        ("\"=\"\"a\"\"=\"\"A\"\"\"\n", "TRUE"),
+        ("=SUM({1;2|3;4})\n", "10"),
+        ("=MMULT({1;2|3;4};{5|6})\n", "17"),
+        ("=MATCH(4;{1;3;5};1)\n", "2"),
+        ("=MATCH(4;{1;3;5};0)\n", "#N/A"),
+        ("=1/0\n", "#DIV/0!"),
+        ("=170141183460469231731687303715884105727+1\n", "none"),
+        ("=B1,=A1\n", "#CIRCULAR"),
+        ("=IF(TRUE;1;A1)\n", "#CIRCULAR"),
+        ("=B1,=C1,1\n", "1"),
+        ("=B1+C1,=D1*2,5,=C1+1\n", "17"),
+    ] {
+        let workbook = opened(rt.alloc(), sheet.as_bytes(), b"", b"")?;
+        assert!(rt; is_shown(defined(rt.alloc(), &workbook)?, want)?, "{sheet}");
+    }
+    Ok(())
+}

@@ -1,0 +1,13 @@
+//! Tests of values, formulas and recalculation that a program can't show. They stand here so that no crate below is proved twice.
+#![tactic(auto)]
+
+#[cfg(test)]
+mod books;
+#[cfg(test)]
+mod definition;
+#[cfg(test)]
+mod looks;
+#[cfg(test)]
+mod plain_texts;
+#[cfg(test)]
+mod tours;

@@ -1,0 +1,224 @@
+// What formulas look at, and whether they have a value, over cells of which one is unknown. The cell in a row and a column, each
+// from 1, has ten times the row and the column as its value: A1 is 11 and C2 is 23. What is expected follows from the rules by hand.
+ghost use Rattle.std.specs.Prelude.{◌≡◌, ◌+◌, ◌*◌, ◌==◌, ◌&&◌, ◌<◌, IfOk, None, Some, if◌then◌else◌, length, pos};
+ghost use Rattle.cell_refs.specs.declared.cell.Cell.{Cell};
+ghost use Rattle.fractions.specs.Whole.{whole_ℚ};
+ghost use Rattle.sheet_model.specs.declared.value.Value.TheVariants.{Number};
+
+use cell_refs::{Cell, SheetId, SheetNames};
+use evaluation::{Cells, Part, evaluate};
+use formula_parser::parse;
+use frac128::Frac;
+use sheet_funcs::{Pick, index_at};
+use sheet_model::{Arg, Memory, Value};
+use std::alloc::Global;
+use std::test::Fail;
+
+// All cells but B2.
+struct ButB2;
+
+impl Cells for ButB2 {
+    ghost known = { λ _ (a : Cell). if (a.row == 1) && (a.col == 1) then None else Some (Number (whole_ℚ (pos (10 * (a.row + 1) + (a.col + 1))))) };
+
+    fn value(&self, _alloc: Global, cell: Cell) -> Result<Option<Value>, Memory> {
+        if cell.row == 1 && cell.col == 1 {
+            return Ok(None);
+        }
+        let number = 10 * (cell.row as i64 + 1) + (cell.col as i64 + 1);
+        Ok(Some(Value::Number(Frac::from_whole(number))))
+    }
+}
+
+const A1: Cell = Cell {
+    sheet: SheetId(0),
+    row: 0,
+    col: 0,
+};
+
+const B1: Cell = Cell {
+    sheet: SheetId(0),
+    row: 0,
+    col: 1,
+};
+
+const C1: Cell = Cell {
+    sheet: SheetId(0),
+    row: 0,
+    col: 2,
+};
+
+const A2: Cell = Cell {
+    sheet: SheetId(0),
+    row: 1,
+    col: 0,
+};
+
+const B2: Cell = Cell {
+    sheet: SheetId(0),
+    row: 1,
+    col: 1,
+};
+
+const C2: Cell = Cell {
+    sheet: SheetId(0),
+    row: 1,
+    col: 2,
+};
+
+const A3: Cell = Cell {
+    sheet: SheetId(0),
+    row: 2,
+    col: 0,
+};
+
+const B3: Cell = Cell {
+    sheet: SheetId(0),
+    row: 2,
+    col: 1,
+};
+
+const C3: Cell = Cell {
+    sheet: SheetId(0),
+    row: 2,
+    col: 2,
+};
+
+const A4: Cell = Cell {
+    sheet: SheetId(0),
+    row: 3,
+    col: 0,
+};
+
+// The part that a formula is.
+fn part(alloc: Global, text: &str) -> Result<Part, Fail> {
+    let mut sheets = SheetNames::new(alloc);
+    sheets.add("plan")?;
+    if text.len() > 100 || sheets.is_empty() {
+        return Err(Fail::new("it is too long"));
+    }
+    let expr = parse(alloc, text, SheetId(0), &sheets)?;
+    Ok(evaluate(alloc, &ButB2, &expr)?)
+}
+
+#[test]
+fn cells_at_which_formulas_look(rt: HostRuntime) -> Result<(), Fail> {
+    for (text, is_known, looks) in [
+        ("=A1+B1", true, [A1, B1].as_slice()),
+        ("=A1+B2", false, [A1, B2].as_slice()),
+        ("=B2", false, [B2].as_slice()),
+        ("=C3%", true, [C3].as_slice()),
+        ("=-A1", true, [A1].as_slice()),
+        ("=A1&\"x\"", true, [A1].as_slice()),
+        ("=A1:A3", true, [A1, A2, A3].as_slice()),
+        ("=-A1:A3", true, [A1, A2, A3].as_slice()),
+        ("=10^30*10^30", false, [].as_slice()),
+        ("=10^30*10^30+A1", false, [A1].as_slice()),
+        ("=what", true, [].as_slice()),
+        ("=NOSUCH(A1)", true, [].as_slice()),
+        ("=#N/A", true, [].as_slice()),
+        ("={5;2|3;4}", true, [].as_slice()),
+        ("=IF(A1=11;C1;B2)", true, [A1, C1].as_slice()),
+        ("=IF(A1=12;B2;C1)", true, [A1, C1].as_slice()),
+        ("=IF(A1;B2;C1)", false, [A1, B2].as_slice()),
+        ("=IF(B2;A1;C1)", false, [B2].as_slice()),
+        ("=IF(A1/0;A2;B2)", true, [A1].as_slice()),
+        ("=IF(A1=12;B2)", true, [A1].as_slice()),
+        ("=IF(A1=12;B2;)", true, [A1].as_slice()),
+        ("=IFERROR(A1;B2)", true, [A1].as_slice()),
+        ("=IFERROR(A1/0;C1)", true, [A1, C1].as_slice()),
+        ("=IFERROR(B2;1)", false, [B2].as_slice()),
+        ("=CHOOSE(2;B2;C1;B2)", true, [C1].as_slice()),
+        ("=CHOOSE(1;B2;C1)", false, [B2].as_slice()),
+        ("=CHOOSE(A1-10;C1;B2)", true, [A1, C1].as_slice()),
+        ("=CHOOSE(3;1;2)", true, [].as_slice()),
+        ("=INDEX(A1:C3;3;2)", true, [B3].as_slice()),
+        ("=INDEX(A1:C3;2;2)", false, [B2].as_slice()),
+        ("=SUM(INDEX(A1:C3;0;1))", true, [A1, A2, A3].as_slice()),
+        ("=INDEX(A1:C3;4;1)", true, [].as_slice()),
+        ("=INDEX(A1:C3;A1-10;3)", true, [A1, C1].as_slice()),
+        (
+            "=VLOOKUP(31;A1:C3;2;FALSE())",
+            true,
+            [A1, A2, A3, B3].as_slice(),
+        ),
+        (
+            "=VLOOKUP(21;A1:C3;2;FALSE())",
+            false,
+            [A1, A2, A3, B2].as_slice(),
+        ),
+        (
+            "=VLOOKUP(22;A1:C3;2;FALSE())",
+            true,
+            [A1, A2, A3].as_slice(),
+        ),
+        (
+            "=HLOOKUP(13;A1:C3;3;FALSE())",
+            true,
+            [A1, B1, C1, C3].as_slice(),
+        ),
+        (
+            "=HLOOKUP(12;A1:C3;2;FALSE())",
+            false,
+            [A1, B1, C1, B2].as_slice(),
+        ),
+        (
+            "=SUMIF(A1:A3;\">21\";B1:B3)",
+            true,
+            [A1, A2, A3, B3].as_slice(),
+        ),
+        (
+            "=SUMIF(A1:A3;\"<30\";B1:B3)",
+            false,
+            [A1, A2, A3, B1, B2].as_slice(),
+        ),
+        ("=SUMIF(C1:C3;\">20\")", true, [C1, C2, C3].as_slice()),
+        ("=SUM(A1:B1~A3)", true, [A1, B1, A3].as_slice()),
+        ("=SUM(A1:B2)", false, [A1, B1, A2, B2].as_slice()),
+        ("=ROWS(A1:C3)", true, [].as_slice()),
+        ("=COLUMNS(A1:C2)", true, [].as_slice()),
+        ("=ROWS(+A1:C3)", true, [].as_slice()),
+        ("=ROWS(-A1:A3)", true, [A1, A2, A3].as_slice()),
+        ("=ROWS(A1:C1~A3:C3)", true, [].as_slice()),
+        ("=COLUMNS(A1:C1~A3:C3)", true, [].as_slice()),
+        ("=IF(A1-11;B1;C1)", true, [A1, C1].as_slice()),
+        (
+            "=INDEX(A1:C3;A1-8;B1-12)",
+            true,
+            [A1, B1, A3, B3, C3].as_slice(),
+        ),
+        (
+            "=VLOOKUP(A3;A1:C3;C1-10)",
+            true,
+            [A3, C1, A1, A2, A3, C3].as_slice(),
+        ),
+        (
+            "=HLOOKUP(C1;A1:C3;A1-8;FALSE())",
+            true,
+            [C1, A1, A1, B1, C1, C3].as_slice(),
+        ),
+        (
+            "=SUMIF({5;7|7;5};A1-4;A3:B4)",
+            true,
+            [A1, B3, A4].as_slice(),
+        ),
+        ("=SUM(A1;B1)", true, [A1, B1].as_slice()),
+    ] {
+        let part = part(rt.alloc(), text)?;
+        assert!(rt; part.looks() == looks, "{text}");
+        assert!(rt;
+            part.into_value(rt.alloc())?.is_some() == is_known,
+            "{text}"
+        );
+    }
+    Ok(())
+}
+
+#[test]
+fn the_last_place_of_the_largest_grid(rt: HostRuntime) -> Result<(), Fail> {
+    let last = u32::MAX - 1;
+    let row = Arg::One(Value::Number(Frac::from_whole(i64::from(u32::MAX))));
+    let column = Arg::One(Value::Number(Frac::read("4294967295.5")?));
+    let found = index_at(u32::MAX, u32::MAX, &[row, column]);
+    assert!(rt; found == Pick::Part(last, last, last, last));
+    Ok(())
+}
