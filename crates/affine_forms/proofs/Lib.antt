@@ -1,0 +1,14 @@
+pub mod Exact
+pub mod Rising
+pub mod Worths
+pub mod Directions
+pub mod Multiples
+pub mod Stepping
+pub mod TermSteps
+pub mod Places
+pub mod SideBySide
+pub mod Wholes
+pub mod Ratios
+pub mod Relating
+pub mod FormLaws
+pub mod NarrowForms

@@ -1,0 +1,10 @@
+pub mod Forms
+pub mod Steps
+pub mod Answers
+pub mod Assigned
+pub mod Relations
+pub mod Kept
+pub mod Single
+pub mod Lists
+pub mod Points
+pub mod Laws
