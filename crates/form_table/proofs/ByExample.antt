@@ -1,0 +1,31 @@
+-- The examples hold.
+use Rattle.std.proofs.Common.{refl}
+use Rattle.fractions.specs.Rational.{eq_ℚ, computed}
+use Rattle.fractions.specs.Floor.{floor_ℚ}
+use Rattle.fractions.specs.Power.{power_ℚ}
+use Rattle.frac128.specs.Narrow.{is_narrow, is_narrow_sum}
+use Rattle.form_table.specs.Examples.{Hold, operators, choices, functions, picks, records, choose}
+
+pub operators_hold : Hold operators
+unfolding computed eq_ℚ is_narrow is_narrow_sum floor_ℚ power_ℚ
+operators_hold = (refl, (refl, (refl, (refl, (refl, (refl, (refl, (refl, (refl, (refl, (refl, (refl, (refl, (refl, (refl, (refl, (refl, (refl, (refl, (refl, (refl, (refl, (refl, (refl, (refl, (refl, (refl, (refl, (refl, (refl, (refl, (refl, (refl, (refl, (refl, (refl, (refl, (refl, (refl, (refl, (refl, (refl, (refl, (refl, (refl, (refl, (refl, (refl, (refl, (refl, (refl, (refl, (refl, (refl, tt))))))))))))))))))))))))))))))))))))))))))))))))))))))
+
+pub choices_hold : Hold choices
+unfolding computed eq_ℚ is_narrow is_narrow_sum floor_ℚ power_ℚ
+choices_hold = (refl, (refl, (refl, (refl, (refl, (refl, (refl, (refl, (refl, (refl, (refl, (refl, (refl, (refl, tt))))))))))))))
+
+pub functions_hold : Hold functions
+unfolding computed eq_ℚ is_narrow is_narrow_sum floor_ℚ power_ℚ
+functions_hold = (refl, (refl, (refl, (refl, (refl, (refl, (refl, (refl, (refl, (refl, (refl, (refl, (refl, (refl, (refl, (refl, (refl, (refl, (refl, (refl, (refl, (refl, (refl, (refl, (refl, (refl, (refl, (refl, (refl, (refl, (refl, (refl, (refl, (refl, (refl, (refl, (refl, (refl, (refl, (refl, (refl, (refl, (refl, (refl, (refl, (refl, (refl, (refl, (refl, (refl, (refl, (refl, (refl, (refl, (refl, (refl, (refl, (refl, (refl, (refl, (refl, (refl, (refl, (refl, (refl, (refl, (refl, (refl, (refl, tt)))))))))))))))))))))))))))))))))))))))))))))))))))))))))))))))))))))
+
+pub picks_hold : Hold picks
+unfolding computed eq_ℚ is_narrow is_narrow_sum floor_ℚ power_ℚ
+picks_hold = (refl, (refl, (refl, (refl, (refl, (refl, (refl, (refl, tt))))))))
+
+pub records_hold : Hold records
+unfolding computed eq_ℚ is_narrow is_narrow_sum floor_ℚ power_ℚ
+records_hold = (refl, (refl, (refl, (refl, (refl, (refl, (refl, (refl, (refl, (refl, (refl, (refl, (refl, tt)))))))))))))
+
+pub choose_hold : Hold choose
+unfolding computed eq_ℚ is_narrow is_narrow_sum floor_ℚ power_ℚ
+choose_hold = (refl, (refl, (refl, (refl, (refl, (refl, tt))))))

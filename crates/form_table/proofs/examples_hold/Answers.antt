@@ -1,0 +1,12 @@
+use Rattle.form_table.proofs.ByExample.{choices_hold, choose_hold, functions_hold, operators_hold, picks_hold, records_hold}
+use Rattle.form_table.proofs.examples_hold.Goals as goal
+
+pub returns : goal.returns
+returns c = record {
+  operators = operators_hold;
+  choices = choices_hold;
+  functions = functions_hold;
+  picks = picks_hold;
+  records = records_hold;
+  choose = choose_hold;
+}

@@ -1,0 +1,12 @@
+pub mod Wanted
+pub mod Operators
+pub mod Choosing
+pub mod Items
+pub mod Rounding
+pub mod Logic
+pub mod Products
+pub mod Picks
+pub mod Lookups
+pub mod Criteria
+pub mod Table
+pub mod Examples

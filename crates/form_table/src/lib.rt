@@ -1,0 +1,15 @@
+//! The form table: what operators and functions make of values while some decisions are open. This crate has the definitions,
+//! and rows by example.
+#![tactic(auto)]
+
+ghost use Rattle.form_table.specs.Examples.{Hold, choices, choose, functions, operators, picks, records};
+
+/// What the rows make of some values.
+pub fn examples_hold()
+    ensures operators { Hold operators }
+    ensures choices { Hold choices }
+    ensures functions { Hold functions }
+    ensures picks { Hold picks }
+    ensures records { Hold records }
+    ensures choose { Hold choose }
+{}

@@ -1,0 +1,6 @@
+pub mod Grids
+pub mod Meaning
+pub mod Entries
+pub mod Known
+pub mod Trials
+pub mod Refusals
