@@ -1,0 +1,6 @@
+pub mod Answering
+pub mod BestOfAll
+pub mod Junctions
+pub mod Pairwise
+pub mod Truth
+pub mod Trying

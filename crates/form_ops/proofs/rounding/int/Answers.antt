@@ -1,0 +1,11 @@
+use Rattle.std.proofs.Common.{rules}
+use Rattle.formula_ast.specs.declared.func.Func.TheVariants as func
+use Rattle.form_truth.proofs.Rows.{int_is_right}
+use Rattle.form_ops.proofs.Truth.{call_true}
+use Rattle.form_ops.proofs.rounding.int.Goals as goal
+
+pub returns-clause-answer : goal.returns-clause-answer
+returns-clause-answer c = search rules
+
+pub returns-clause-right : goal.returns-clause-right
+returns-clause-right c = call_true func.Int int_is_right c.args.args.now c.as_one.result c.requires.open_argument (returns-clause-answer c)

@@ -1,0 +1,43 @@
+// What is made of one number.
+ghost use Rattle.form_ops.specs.Operands.{wanted_in};
+ghost use Rattle.form_ops.specs.Pairings.{change_row};
+ghost use Rattle.form_table.specs.Wanted.{on_form};
+ghost use Rattle.form_values.specs.Trials.{Answers};
+
+use crate::number_tests::inverse;
+use crate::operand::Operand;
+use crate::results::{as_entry, fault};
+use affine_forms::Form;
+use form_values::{Abs, OpRefusal};
+use frac128::Frac;
+use std::alloc::Global;
+
+/// What is done to a number: its sign is turned, it is divided by 100, or something is done that is not affine.
+#[derive(Clone, Copy)]
+pub(crate) enum Change {
+    Minus,
+    Percent,
+    Bend,
+}
+
+/// What is made of what stands where a number is wanted.
+pub(crate) fn on_form(alloc: Global, change: Change, operand: &Operand) -> Result<Abs, OpRefusal>
+    ensures { Answers (on_form (change_row change) (wanted_in operand.now)) result }
+{
+    match operand {
+        Operand::Number(number) => changed(alloc, change, number.form()),
+        Operand::Test => Err(OpRefusal::Undecided(0)),
+        Operand::Fault(kind) => Ok(fault(*kind)),
+    }
+}
+
+// What is made of a form.
+fn changed(alloc: Global, change: Change, form: &Form) -> Result<Abs, OpRefusal>
+    ensures { Answers (change_row change form.now) result }
+{
+    match change {
+        Change::Minus => Ok(Abs::entry(form.neg(alloc)?)),
+        Change::Percent => as_entry(form.scale(alloc, inverse(Frac::from_whole(100)))),
+        Change::Bend => Err(OpRefusal::Break),
+    }
+}
