@@ -1,0 +1,6 @@
+pub mod Ratios
+pub mod Lookups
+pub mod Answering
+pub mod Nexts
+pub mod CellNumbers
+pub mod Both

@@ -1,0 +1,5 @@
+pub mod Elements
+pub mod Made
+pub mod Zeros
+pub mod Below
+pub mod Pivoted

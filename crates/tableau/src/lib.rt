@@ -1,0 +1,16 @@
+//! The dictionary of a linear program: its rows over its columns, and exact pivots between them.
+#![tactic(auto)]
+
+mod dict;
+mod first;
+mod numbers;
+mod row;
+mod rows;
+mod table;
+
+pub use dict::Dict;
+pub use first::start;
+pub use row::Row;
+
+#[cfg(test)]
+mod tests;
