@@ -1,5 +1,5 @@
 -- What follows for every problem.
-use Rattle.std.specs.Prelude.{◌≡◌, ◌↔◌, ◌≢◌, Some}
+use Rattle.std.specs.Prelude.{◌≡◌, ◌↔◌, ◌≢◌, Some, None}
 use Rattle.fractions.specs.Rational.{ℚ}
 use Rattle.optimality.specs.Problem.{Assignment, Problem, reach}
 use Rattle.optimality.specs.Optimal.{Permitted, Optimal, Infeasible, Unbounded, objective_at}
@@ -30,3 +30,19 @@ pub record AgreeingAnswers : Type 0 where
   pub optimal : (p q : Problem) (a : Assignment) → Agree p q → Optimal p a → Optimal q a
   pub infeasible : (p q : Problem) → Agree p q → Infeasible p → Infeasible q
   pub unbounded : (p q : Problem) → Agree p q → Unbounded p → Unbounded q
+
+-- two problems that permit the same assignments and are optimal at the same ones, infeasible together and unbounded together
+pub record SameAnswers (p q : Problem) : Type 0 where
+  pub permitted : (a : Assignment) → Permitted p a ↔ Permitted q a
+  pub optimal : (a : Assignment) → Optimal p a ↔ Optimal q a
+  pub infeasible : Infeasible p ↔ Infeasible q
+  pub unbounded : Unbounded p ↔ Unbounded q
+
+-- the objective is that number, whatever is assigned
+abbrev pub IsConstant : Problem → ℚ → Type 0
+IsConstant p x = (a : Assignment) → objective_at p a ≡ Some x
+
+-- problems that agree have the same answers, and so have one without objective and one whose objective is a constant
+pub record SameAnswersHold : Type 0 where
+  pub agreeing : (p q : Problem) → Agree p q → SameAnswers p q
+  pub without_objective : (p q : Problem) (x : ℚ) → p.objective ≡ None → IsConstant q x → ((a : Assignment) → Permitted p a ↔ Permitted q a) → SameAnswers p q

@@ -1,0 +1,9 @@
+pub mod Dense
+pub mod Signs
+pub mod Raises
+pub mod Rules
+pub mod RowsLeft
+pub mod Equal
+pub mod Assembled
+pub mod Agreed
+pub mod FitRows

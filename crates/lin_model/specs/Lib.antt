@@ -1,0 +1,4 @@
+pub mod Kinds
+pub mod ModelFields
+pub mod Built
+pub mod Inner

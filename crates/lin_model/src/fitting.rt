@@ -1,0 +1,108 @@
+// Whether conditions, an objective and sides are a statement.
+ghost use Rattle.std.specs.Prelude.{◌≡◌, ◌↔◌, ◌<◌, All, IsTrue, Some, length};
+ghost use Rattle.std.specs.Option.{option_map};
+ghost use Rattle.affine_forms.specs.Assigned.{ReachTo};
+ghost use Rattle.affine_forms.specs.Forms.{AffineForm, decision_form};
+ghost use Rattle.linear_models.specs.Agreement.{Fits, IsOwn};
+ghost use Rattle.linear_models.specs.Conditions.{constraint_of, objective_where};
+ghost use Rattle.lin_model.specs.Inner.{RowFits, RowsFit};
+ghost use Rattle.lin_model.specs.Kinds.{goal_of};
+
+use crate::conditions::{Condition, Conditions};
+use crate::kinds::Goal;
+use affine_forms::Form;
+
+// Whether all numbers are below n.
+fn are_below(list: &[u16], n: u16) -> bool
+    ensures { IsTrue result ↔ All (λ j. j < n) list.now }
+{
+    list.iter().all(|j| *j < n)
+}
+
+// Whether the left side is one of the first n decisions, where the row says that it is a decision.
+fn is_own(row: &Condition, left: &Form, n: u16) -> bool
+    ensures { IsTrue result ↔ ((right : AffineForm) → IsOwn n (constraint_of row.now (left.now, right))) }
+{
+    match row.own() {
+        None => true,
+        Some(decision) => is_decision(left, decision, n),
+    }
+}
+
+// Whether the form is that of the decision, which is one of the first n.
+fn is_decision(form: &Form, decision: u16, n: u16) -> bool
+    ensures { IsTrue result ↔ ((decision < n) × (form.now ≡ decision_form decision)) }
+{
+    if decision >= n {
+        return false;
+    }
+    let own = Form::decision(decision);
+    form.same(&own)
+}
+
+// Whether a row and its sides fit n decisions.
+fn row_fits(row: &Condition, sides: &(Form, Form), n: u16) -> bool
+    ensures { IsTrue result ↔ RowFits n (constraint_of row.now sides.now) }
+{
+    let left = &sides.0;
+    let right = &sides.1;
+    if !is_own(row, left, n) {
+        return false;
+    }
+    if !left.reaches_to(n as usize) {
+        return false;
+    }
+    right.reaches_to(n as usize)
+}
+
+// Whether all rows and their sides do.
+fn rows_fit(rows: &[Condition], sides: &[(Form, Form)], n: u16) -> bool
+    requires { length sides.now ≡ length rows.now }
+    ensures { IsTrue result ↔ RowsFit n rows.now sides.now }
+{
+    for (place, row) in rows.iter().enumerate() {
+        if !row_fits(row, &sides[place], n) {
+            return false;
+        }
+    }
+    true
+}
+
+// Whether the objective does, where there is one.
+fn objective_fits(goal: Option<Goal>, objective: &Form, n: u16) -> bool
+    ensures { IsTrue result ↔ ((f : AffineForm) → objective_where (option_map goal_of goal) objective.now ≡ Some f → ReachTo f.terms n) }
+{
+    match goal {
+        None => true,
+        Some(_) => objective.reaches_to(n as usize),
+    }
+}
+
+impl Conditions {
+    /// Whether they make a statement with this objective and these sides: at most 512 decisions and 256 rows with two
+    /// sides each, numbers of decisions, and forms in them; and where a row's left side is a decision, its form is that one.
+    pub fn fits(&self, objective: &Form, sides: &[(Form, Form)]) -> bool
+        ensures { IsTrue result ↔ Fits self.now objective.now sides.now }
+    {
+        let n = self.decisions();
+        if n > 512 {
+            return false;
+        }
+        if self.rows().len() > 256 {
+            return false;
+        }
+        if sides.len() != self.rows().len() {
+            return false;
+        }
+        if !objective_fits(self.goal(), objective, n) {
+            return false;
+        }
+        if !rows_fit(self.rows(), sides, n) {
+            return false;
+        }
+        if !are_below(self.whole(), n) {
+            return false;
+        }
+        are_below(self.binary(), n)
+    }
+}

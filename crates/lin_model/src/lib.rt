@@ -1,0 +1,25 @@
+//! Linear models of statements, their boxes and the standard programs of these.
+#![tactic(auto)]
+
+mod bounds;
+mod building;
+mod conditions;
+mod fitting;
+mod kinds;
+mod model;
+mod rows;
+mod same;
+mod standard;
+mod stop;
+mod tightest;
+
+pub use bounds::BoundBox;
+pub use building::linear;
+pub use conditions::{Condition, Conditions};
+pub use kinds::{Goal, Relation};
+pub use memory::Memory;
+pub use model::{FormRow, LinModel};
+pub use stop::BuildStop;
+
+#[cfg(test)]
+mod tests;

@@ -1,0 +1,121 @@
+// Linear models.
+ghost use Rattle.std.specs.Prelude.{◌≡◌};
+ghost use Rattle.linear_models.specs.Model.{IsValid};
+ghost use Rattle.lin_model.specs.Kinds.{goal_of, relation_of};
+
+use crate::bounds::BoundBox;
+use crate::kinds::{Goal, Relation};
+use affine_forms::Form;
+use std::marker::Model;
+
+/// A form in a relation to 0.
+#[derive(Drop)]
+pub struct FormRow {
+    form: Form,
+    relation: Relation,
+}
+
+impl Model for FormRow {
+    ghost use Rattle.affine_forms.specs.Forms.{AffineForm};
+    ghost use Rattle.optimality.specs.Problem.{Relation as Kind};
+    ghost use Rattle.lin_model.specs.Kinds.{relation_of};
+
+    ghost Value = { AffineForm × Kind };
+
+    ghost view = { λ r. (r.form, relation_of r.relation) };
+}
+
+impl FormRow {
+    pub fn new(form: Form, relation: Relation) -> FormRow
+        ensures { result ≡ (form, relation_of relation) }
+    {
+        FormRow { form, relation }
+    }
+
+    pub fn form(&self) -> &Form
+        ensures { result.now ≡ self.now.0 }
+    {
+        &self.form
+    }
+
+    pub fn relation(&self) -> Relation
+        ensures { relation_of result ≡ self.now.1 }
+    {
+        self.relation
+    }
+}
+
+/// An objective, rows, whole marks and bounds: one mark and one bound on either side for each decision.
+#[derive(Drop)]
+pub struct LinModel {
+    goal: Goal,
+    objective: Form,
+    rows: Vec<FormRow>,
+    whole: Vec<bool>,
+    bounds: BoundBox,
+}
+
+impl Model for LinModel {
+    ghost use Rattle.linear_models.specs.Model.{Model as Linear, IsValid};
+    ghost use Rattle.lin_model.specs.ModelFields.{model_of};
+
+    ghost Value = { Linear };
+
+    ghost view = { model_of };
+
+    ghost invariant = { λ m. IsValid (model_of m) };
+}
+
+impl LinModel {
+    pub fn new(
+        goal: Goal,
+        objective: Form,
+        rows: Vec<FormRow>,
+        whole: Vec<bool>,
+        bounds: BoundBox,
+    ) -> LinModel
+        requires valid { IsValid (record { goal = goal_of goal; objective = objective; rows = rows.items; whole = whole.items; bounds = bounds }) }
+        ensures { result ≡ record { goal = goal_of goal; objective = objective; rows = rows.items; whole = whole.items; bounds = bounds } }
+    {
+        LinModel {
+            goal,
+            objective,
+            rows,
+            whole,
+            bounds,
+        }
+    }
+
+    pub fn goal(&self) -> Goal
+        ensures { goal_of result ≡ self.now.goal }
+    {
+        self.goal
+    }
+
+    /// The constant 0 where a value is to be reached or there is no objective.
+    pub fn objective(&self) -> &Form
+        ensures { result.now ≡ self.now.objective }
+    {
+        &self.objective
+    }
+
+    pub fn rows(&self) -> &[FormRow]
+        ensures { result.now ≡ self.now.rows }
+    {
+        &self.rows
+    }
+
+    /// Which decisions are to be whole.
+    pub fn whole(&self) -> &[bool]
+        ensures whole { result.now ≡ self.now.whole }
+        ensures valid { IsValid self.now }
+    {
+        &self.whole
+    }
+
+    pub fn bounds(&self) -> &BoundBox
+        ensures { result.now ≡ self.now.bounds }
+    {
+        &self.bounds
+    }
+}

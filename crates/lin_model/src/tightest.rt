@@ -1,0 +1,264 @@
+// The bounds that a statement gives its decisions.
+ghost use Rattle.std.specs.Prelude.{◌≡◌, ◌||◌, IfOk, length, flat_map, map};
+ghost use Rattle.std.specs.List.{range_with_len};
+ghost use Rattle.fractions.specs.Floor.{floor_ℚ};
+ghost use Rattle.fractions.specs.Rational.{zero_ℚ};
+ghost use Rattle.fractions.specs.Whole.{whole_ℚ};
+ghost use Rattle.linear_models.specs.Conditions.{constraint_of, constraints};
+ghost use Rattle.linear_models.specs.Statement.{bounded_by, greatest_of, highest, highs_in, is_in, is_marked, is_number, least_of, linear, lower_bounds, lowered, lowest, lows_in, raised, upper_bounds, where_so};
+ghost use Rattle.lin_model.specs.Inner.{without_objective};
+
+use crate::bounds::{BoundBox, greater, lesser};
+use crate::conditions::{Condition, Conditions};
+use crate::kinds::Relation;
+use affine_forms::Form;
+use frac128::Frac;
+use memory::Memory;
+use std::alloc::Global;
+
+// Whether the number is in the list.
+fn is_in(decision: u16, list: &[u16]) -> bool
+    ensures { result ≡ is_in decision list.now }
+{
+    list.iter().any(|other| *other == decision)
+}
+
+// The decision that a row bounds: its left side is that decision, and its right side a number.
+pub(crate) fn bounded(row: &Condition, right: &Form) -> Option<u16>
+    ensures { result ≡ bounded_by row.now.own right.now.terms }
+{
+    match row.own() {
+        None => None,
+        Some(decision) => {
+            if right.terms().is_empty() {
+                Some(decision)
+            } else {
+                None
+            }
+        }
+    }
+}
+
+// Whether the row bounds the decision.
+fn is_bound_of(row: &Condition, right: &Form, decision: u16) -> bool
+    ensures { result ≡ is_number decision (bounded_by row.now.own right.now.terms) }
+{
+    match bounded(row, right) {
+        None => false,
+        Some(other) => other == decision,
+    }
+}
+
+// The least value so far, raised to that of a row.
+fn raised_by(
+    start: Option<Frac>,
+    row: &Condition,
+    sides: &(Form, Form),
+    decision: u16,
+) -> Option<Frac>
+    ensures { result ≡ raised start (lows_in decision (constraint_of row.now sides.now)) }
+{
+    let right = &sides.1;
+    if !is_bound_of(row, right, decision) {
+        return start;
+    }
+    match row.relation() {
+        Relation::AtMost => start,
+        Relation::Equal => Some(greater(start, right.base())),
+        Relation::AtLeast => Some(greater(start, right.base())),
+    }
+}
+
+// The least value that the rows give a decision.
+#[tactic(auto, using(crate::proofs::Rules::raising))]
+fn raised_by_rows(rows: &[Condition], sides: &[(Form, Form)], decision: u16) -> Option<Frac>
+    requires { length sides.now ≡ length rows.now }
+    ensures { result ≡ highest (flat_map (lows_in decision) (constraints rows.now sides.now)) }
+{
+    let mut least = None;
+    for (place, row) in rows.iter().enumerate() {
+        least = raised_by(least, row, &sides[place], decision);
+    }
+    least
+}
+
+// The greatest value so far, lowered to that of a row.
+fn lowered_by(
+    start: Option<Frac>,
+    row: &Condition,
+    sides: &(Form, Form),
+    decision: u16,
+) -> Option<Frac>
+    ensures { result ≡ lowered start (highs_in decision (constraint_of row.now sides.now)) }
+{
+    let right = &sides.1;
+    if !is_bound_of(row, right, decision) {
+        return start;
+    }
+    match row.relation() {
+        Relation::AtMost => Some(lesser(start, right.base())),
+        Relation::Equal => Some(lesser(start, right.base())),
+        Relation::AtLeast => start,
+    }
+}
+
+// The greatest value that the rows give a decision.
+#[tactic(auto, using(crate::proofs::Rules::raising))]
+fn lowered_by_rows(rows: &[Condition], sides: &[(Form, Form)], decision: u16) -> Option<Frac>
+    requires { length sides.now ≡ length rows.now }
+    ensures { result ≡ lowest (flat_map (highs_in decision) (constraints rows.now sides.now)) }
+{
+    let mut greatest = None;
+    for (place, row) in rows.iter().enumerate() {
+        greatest = lowered_by(greatest, row, &sides[place], decision);
+    }
+    greatest
+}
+
+// A bound raised to 0 where that is so.
+fn raised_where(so: bool, least: Option<Frac>) -> Option<Frac>
+    ensures { result ≡ raised least (where_so so zero_ℚ) }
+{
+    if so {
+        Some(greater(least, Frac::zero()))
+    } else {
+        least
+    }
+}
+
+// The tightest lower bound of a decision.
+#[tactic(auto, using(crate::proofs::Rules::raising))]
+fn lower_bound(of: &Conditions, sides: &[(Form, Form)], decision: u16) -> Option<Frac>
+    requires { length sides.now ≡ length of.now.rows }
+    ensures { result ≡ highest (lower_bounds (without_objective of.now sides.now) decision) }
+{
+    let rows = raised_by_rows(of.rows(), sides, decision);
+    let binary = raised_where(is_in(decision, of.binary()), rows);
+    raised_where(of.not_negative() && !is_in(decision, of.explicit()), binary)
+}
+
+// The tightest upper bound of a decision.
+#[tactic(auto, using(crate::proofs::Rules::raising))]
+fn upper_bound(of: &Conditions, sides: &[(Form, Form)], decision: u16) -> Option<Frac>
+    requires { length sides.now ≡ length of.now.rows }
+    ensures { result ≡ lowest (upper_bounds (without_objective of.now sides.now) decision) }
+{
+    let rows = lowered_by_rows(of.rows(), sides, decision);
+    if is_in(decision, of.binary()) {
+        return Some(lesser(rows, Frac::one()));
+    }
+    rows
+}
+
+// The number rounded down.
+fn rounded_down(x: Frac) -> Frac
+    ensures { result ≡ whole_ℚ (floor_ℚ x) }
+{
+    let _num = x.num();
+    match Frac::new(x.floor(), 1) {
+        Some(number) => number,
+        None => unreachable!(),
+    }
+}
+
+// Whether a decision is to be whole.
+fn is_marked(of: &Conditions, decision: u16) -> bool
+    ensures { result ≡ is_in decision of.now.whole || is_in decision of.now.binary }
+{
+    is_in(decision, of.whole()) || is_in(decision, of.binary())
+}
+
+// A decision's least value, rounded up where it is to be whole.
+fn least_of(of: &Conditions, sides: &[(Form, Form)], decision: u16) -> Option<Frac>
+    requires { length sides.now ≡ length of.now.rows }
+    ensures { result ≡ least_of (without_objective of.now sides.now) decision }
+{
+    match lower_bound(of, sides, decision) {
+        None => None,
+        Some(bound) => {
+            if is_marked(of, decision) {
+                Some(rounded_down(bound.neg()).neg())
+            } else {
+                Some(bound)
+            }
+        }
+    }
+}
+
+// A decision's greatest value, rounded down where it is to be whole.
+fn greatest_of(of: &Conditions, sides: &[(Form, Form)], decision: u16) -> Option<Frac>
+    requires { length sides.now ≡ length of.now.rows }
+    ensures { result ≡ greatest_of (without_objective of.now sides.now) decision }
+{
+    match upper_bound(of, sides, decision) {
+        None => None,
+        Some(bound) => {
+            if is_marked(of, decision) {
+                Some(rounded_down(bound))
+            } else {
+                Some(bound)
+            }
+        }
+    }
+}
+
+/// Which decisions are to be whole.
+pub(crate) fn marks(
+    alloc: Global,
+    of: &Conditions,
+    sides: &[(Form, Form)],
+) -> Result<Vec<bool>, Memory>
+    ensures { IfOk result (λ v. v.items ≡ (linear (without_objective of.now sides.now)).whole) }
+{
+    let mut all = Vec::new(alloc);
+    for decision in 0..of.decisions() {
+        all.push(is_marked(of, decision))?;
+    }
+    Ok(all)
+}
+
+// The least values of all decisions.
+fn all_least(
+    alloc: Global,
+    of: &Conditions,
+    sides: &[(Form, Form)],
+) -> Result<Vec<Option<Frac>>, Memory>
+    requires { length sides.now ≡ length of.now.rows }
+    ensures { IfOk result (λ v. v.items ≡ (linear (without_objective of.now sides.now)).bounds.least) }
+{
+    let mut all = Vec::new(alloc);
+    for decision in 0..of.decisions() {
+        all.push(least_of(of, sides, decision))?;
+    }
+    Ok(all)
+}
+
+// The greatest values of all decisions.
+fn all_greatest(
+    alloc: Global,
+    of: &Conditions,
+    sides: &[(Form, Form)],
+) -> Result<Vec<Option<Frac>>, Memory>
+    requires { length sides.now ≡ length of.now.rows }
+    ensures { IfOk result (λ v. v.items ≡ (linear (without_objective of.now sides.now)).bounds.greatest) }
+{
+    let mut all = Vec::new(alloc);
+    for decision in 0..of.decisions() {
+        all.push(greatest_of(of, sides, decision))?;
+    }
+    Ok(all)
+}
+
+/// The tightest bounds of all decisions.
+pub(crate) fn bounds(
+    alloc: Global,
+    of: &Conditions,
+    sides: &[(Form, Form)],
+) -> Result<BoundBox, Memory>
+    requires { length sides.now ≡ length of.now.rows }
+    ensures { IfOk result (λ b. b ≡ (linear (without_objective of.now sides.now)).bounds) }
+{
+    let least = all_least(alloc, of, sides)?;
+    let greatest = all_greatest(alloc, of, sides)?;
+    Ok(BoundBox::new(least, greatest))
+}

@@ -1,0 +1,15 @@
+pub mod Forms
+pub mod Differences
+pub mod Rows
+pub mod Reach
+pub mod Columns
+pub mod Regular
+pub mod Points
+pub mod Permits
+pub mod Wholes
+pub mod Tightest
+pub mod Members
+pub mod Sides
+pub mod Agreement
+pub mod SameAnswers
+pub mod Valid
