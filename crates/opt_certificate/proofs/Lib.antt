@@ -1,0 +1,17 @@
+pub mod Parts
+pub mod Multiples
+pub mod WaysOut
+pub mod Trees
+pub mod Certificates
+pub mod Totals
+pub mod Judging
+pub mod Lookups
+pub mod AtLeaves
+pub mod Wholes
+pub mod Steps
+pub mod Walks
+pub mod Reading
+pub mod Checked
+pub mod Ends
+pub mod Rights
+pub mod OneTree

@@ -1,0 +1,10 @@
+use Rattle.std.proofs.Common.{◌≡◌, drop}
+use Rattle.calculations.specs.Calculation.{narrow}
+use Rattle.fractions.specs.Vectors.{at}
+use Rattle.opt_certificate.specs.Sums.{column_sum, paired, added_up}
+use Rattle.opt_certificate.proofs.sums.column_sum.Given as goal
+
+-- the rest of the rows added to the total so far
+abbrev pub invariant-loop-place : goal.invariant-loop-place
+invariant-loop-place l =
+    narrow (column_sum l.column l.multipliers l.rows) ≡ narrow (added_up l.total (paired (λ r. at r.coefficients l.column) (drop l.place l.multipliers) (drop l.place l.rows)))

@@ -1,0 +1,10 @@
+pub mod Certificate
+pub mod Nodes
+pub mod Sums
+pub mod Judged
+pub mod Checks
+pub mod Trees
+pub mod Claims
+pub mod Rows
+pub mod Walk
+pub mod Parts
