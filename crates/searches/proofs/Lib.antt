@@ -1,0 +1,13 @@
+pub mod Members
+pub mod Numbers
+pub mod Once
+pub mod Boxes
+pub mod Ways
+pub mod Holds
+pub mod Ends
+pub mod Trails
+pub mod Determined
+pub mod Splitting
+pub mod TrueTrees
+pub mod Answering
+pub mod Going

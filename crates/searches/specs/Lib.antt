@@ -1,0 +1,6 @@
+pub mod Trees
+pub mod Trails
+pub mod Answers
+pub mod Laws
+pub mod TrueTrees
+pub mod GoesOn
