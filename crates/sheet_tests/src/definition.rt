@@ -23,13 +23,20 @@ fn defined(alloc: Global, workbook: &Workbook) -> Result<Option<Value>, Fail> {
     Ok(known_in_rounds(alloc, workbook, &deps, cell)?)
 }
 
-// Whether a value is the one that is wanted, none where there is none.
+// Whether a value is the one that is wanted.
+fn is_value(value: &Value, want: &str) -> Result<bool, Fail> {
+    match value {
+        Value::Number(number) => Ok(*number == Frac::read(want)?),
+        Value::Logical(holds) => Ok(*holds && want == "TRUE"),
+        Value::Error(kind) => Ok(kind.text() == want),
+        Value::Text(_) | Value::Empty => Ok(false),
+    }
+}
+
+// The same, where none is wanted as well.
 fn is_shown(value: Option<Value>, want: &str) -> Result<bool, Fail> {
     match value {
-        Some(Value::Number(number)) => Ok(number == Frac::read(want)?),
-        Some(Value::Logical(holds)) => Ok(holds && want == "TRUE"),
-        Some(Value::Error(kind)) => Ok(kind.text() == want),
-        Some(Value::Text(_) | Value::Empty) => Ok(false),
+        Some(value) => is_value(&value, want),
         None => Ok(want == "none"),
     }
 }
