@@ -5,6 +5,8 @@ pub mod Products
 pub mod Sums
 pub mod Orders
 pub mod Readings
+pub mod Divisors
+pub mod ShortProducts
 pub mod Powers
 pub mod Values
 pub mod Results

@@ -1,5 +1,6 @@
 -- Which fractions fit two numbers of 128 bits, and which sums are found on the way through such numbers alone.
-use Rattle.std.specs.Prelude.{◌↔◌, Bool, IsTrue, ltb, ◌&&◌, ◌/◌, ◌^◌, ◌<◌, ℤ, pos, ◌+ℤ◌, ◌*ℤ◌, unsigned_abs}
+use Rattle.std.specs.Prelude.{◌↔◌, ℕ, Bool, IsTrue, ltb, ◌&&◌, ◌/◌, ◌^◌, ◌<◌, ℤ, pos, ◌+ℤ◌, ◌*ℤ◌, unsigned_abs}
+use Rattle.std.specs.Int.{IsGcd}
 use Rattle.fractions.specs.Gcd.{gcd}
 use Rattle.fractions.specs.Rational.{ℚ, numerator, denominator, ◌+ℚ◌}
 
@@ -18,6 +19,10 @@ pub record IsNarrowSum (x y : ℚ) : Type 0 where
   pub right : IsNarrowWhole (numerator y *ℤ pos (denominator x / gcd (denominator x) (denominator y)))
   pub total : IsNarrowWhole (numerator x *ℤ pos (denominator y / gcd (denominator x) (denominator y)) +ℤ numerator y *ℤ pos (denominator x / gcd (denominator x) (denominator y)))
   pub lowest : IsNarrow (x +ℚ y)
+
+-- the divisor in that rule is the greatest that both denominators have
+abbrev pub DivisorIsGreatest : Type 0
+DivisorIsGreatest = (a b : ℕ) → IsGcd a b (gcd a b)
 
 -- ---- the same as tests, for definitions that compute
 abbrev pub is_narrow_whole : ℤ → Bool

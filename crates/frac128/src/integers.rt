@@ -1,6 +1,6 @@
 // Arithmetic on the numbers of a pair, each result narrow or refused.
 
-ghost use Rattle.std.specs.Prelude.{◌≡◌, pos, ◌+◌, ◌*◌, ◌<◌, ◌^◌, ◌≤◌, ◌+ℤ◌, ◌*ℤ◌, MatchResult};
+ghost use Rattle.std.specs.Prelude.{◌≡◌, pos, ◌+◌, ◌*◌, ◌/◌, ◌<◌, ◌^◌, ◌≤◌, ◌+ℤ◌, ◌*ℤ◌, unsigned_abs, IsTrue, MatchResult};
 ghost use Rattle.std.specs.Int.{IsGcd, int_pow};
 ghost use Rattle.std.specs.Ordering.{nat_cmp};
 ghost use Rattle.frac128.specs.Narrow.{IsNarrowWhole};
@@ -11,12 +11,18 @@ use std::cmp::Ordering;
 
 const HALF: u128 = 1 << 64;
 
-/// The greatest common divisor, by divisions of 64 bits where both numbers fit them.
+const SHORT: i128 = 1 << 63;
+
+/// The greatest common divisor: nothing is divided where one of the numbers is 1, and divisions are of 64 bits where both fit them.
 pub fn gcd(a: u128, b: u128) -> u128
     ensures gcd { IsGcd a b result }
     ensures positive { 0 < b → 0 < result }
 {
-    if a < HALF && b < HALF {
+    if a == 1 {
+        1
+    } else if b == 1 {
+        1
+    } else if a < HALF && b < HALF {
         gcd_short(a as u64, b as u64) as u128
     } else {
         gcd_long(a, b)
@@ -39,6 +45,7 @@ fn gcd_short(a: u64, b: u64) -> u64
 }
 
 /// The greatest common divisor of two numbers of 128 bits.
+#[cold]
 fn gcd_long(a: u128, b: u128) -> u128
     ensures gcd { IsGcd a b result }
     ensures positive { 0 < b → 0 < result }
@@ -53,6 +60,37 @@ fn gcd_long(a: u128, b: u128) -> u128
     x
 }
 
+/// `a / b`: nothing is divided where `b` is 1, and the division is of 64 bits where both numbers fit them.
+pub fn quotient(a: u128, b: u128) -> u128
+    requires { 0 < b }
+    ensures { result ≡ a / b }
+{
+    if b == 1 {
+        a
+    } else if a < HALF && b < HALF {
+        (a as u64 / b as u64) as u128
+    } else {
+        a / b
+    }
+}
+
+/// Whether the number fits 64 bits with its sign.
+fn is_short(a: i128) -> bool
+    ensures { IsTrue result → unsigned_abs a ≤ 2 ^ 63 }
+{
+    -SHORT <= a && a < SHORT
+}
+
+/// The product of two numbers of 64 bits, which needs no test whether it fits.
+fn short_product(a: i128, b: i128) -> i128
+    requires left { unsigned_abs a ≤ 2 ^ 63 }
+    requires right { unsigned_abs b ≤ 2 ^ 63 }
+    ensures value { result ≡ a *ℤ b }
+    ensures narrow { IsNarrowWhole result }
+{
+    a * b
+}
+
 /// The number of a sign and a size.
 pub fn with_sign(negative: bool, magnitude: u128) -> i128
     requires { magnitude < 2 ^ 127 }
@@ -62,10 +100,20 @@ pub fn with_sign(negative: bool, magnitude: u128) -> i128
     if negative { -value } else { value }
 }
 
+/// The number, below `2 ^ 127`.
+fn narrow(a: u128) -> Result<u128, Wide>
+    ensures { MatchResult result (λ r. (r ≡ a) × (r < 2 ^ 127)) (λ _. 2 ^ 127 ≤ a) }
+{
+    if a < 1 << 127 { Ok(a) } else { Err(Wide) }
+}
+
 /// `a * b`, below `2 ^ 127`.
 pub fn narrow_product(a: u128, b: u128) -> Result<u128, Wide>
     ensures { MatchResult result (λ r. (r ≡ a * b) × (r < 2 ^ 127)) (λ _. 2 ^ 127 ≤ a * b) }
 {
+    if a < HALF && b < HALF {
+        return narrow(a * b);
+    }
     match a.checked_mul(b) {
         Some(r) if r < 1 << 127 => Ok(r),
         _ => Err(Wide),
@@ -96,6 +144,18 @@ pub fn narrow_signed_power(a: i128, e: u32) -> Result<i128, Wide>
 pub fn narrow_signed_product(a: i128, b: i128) -> Result<i128, Wide>
     ensures { MatchResult result (λ r. (r ≡ a *ℤ b) × IsNarrowWhole r) (λ _. IsNarrowWhole (a *ℤ b) → ⊥) }
 {
+    if is_short(a) && is_short(b) {
+        Ok(short_product(a, b))
+    } else {
+        long_product(a, b)
+    }
+}
+
+/// `a * b`, where it is narrow, with a test whether it fits 128 bits.
+#[cold]
+fn long_product(a: i128, b: i128) -> Result<i128, Wide>
+    ensures { MatchResult result (λ r. (r ≡ a *ℤ b) × IsNarrowWhole r) (λ _. IsNarrowWhole (a *ℤ b) → ⊥) }
+{
     match a.checked_mul(b) {
         Some(r) if r != i128::MIN => Ok(r),
         _ => Err(Wide),
@@ -107,10 +167,7 @@ pub fn narrow_scaled(a: i128, n: u128) -> Result<i128, Wide>
     requires { n < 2 ^ 127 }
     ensures { MatchResult result (λ r. (r ≡ a *ℤ pos n) × IsNarrowWhole r) (λ _. IsNarrowWhole (a *ℤ pos n) → ⊥) }
 {
-    match a.checked_mul(n as i128) {
-        Some(r) if r != i128::MIN => Ok(r),
-        _ => Err(Wide),
-    }
+    narrow_signed_product(a, n as i128)
 }
 
 /// `a + b`, where it is narrow.

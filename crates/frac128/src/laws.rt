@@ -1,8 +1,13 @@
 // What is true of narrow numbers, for callers that reason about them.
 
-ghost use Rattle.frac128.specs.Narrow.{NarrowTests};
+ghost use Rattle.frac128.specs.Narrow.{DivisorIsGreatest, NarrowTests};
 
 /// Whether a number or a sum is narrow is told by a test.
 pub fn narrow_is_tested()
     ensures { NarrowTests }
+{}
+
+/// The divisor that the rule of a sum speaks of is the greatest common one.
+pub fn divisor_is_greatest()
+    ensures { DivisorIsGreatest }
 {}

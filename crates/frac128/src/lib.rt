@@ -13,7 +13,7 @@ mod significand;
 mod write;
 
 pub use fault::Wide;
-pub use laws::narrow_is_tested;
+pub use laws::{divisor_is_greatest, narrow_is_tested};
 pub use memory::Memory;
 pub use number::Frac;
 pub use numeral_fault::NumeralFault;

@@ -35,6 +35,15 @@ impl Model for Frac {
     ghost inverse_ok = { parts_back };
 }
 
+impl Default for Frac {
+    ghost is_default = { λ f. f ≡ zero_ℚ };
+
+    /// The number 0.
+    fn default() -> Frac {
+        Frac::zero()
+    }
+}
+
 impl Frac {
     /// The number 0.
     pub fn zero() -> Frac

@@ -10,7 +10,7 @@ ghost use Rattle.frac128.specs.Signed.{signed};
 use crate::fault::Wide;
 use crate::integers::{
     compare_products, gcd, narrow_power, narrow_product, narrow_scaled, narrow_signed_power,
-    narrow_signed_product, narrow_sum, with_sign,
+    narrow_signed_product, narrow_sum, quotient, with_sign,
 };
 use std::cmp::Ordering;
 use std::marker::Model;
@@ -68,8 +68,8 @@ impl Parts {
     {
         const LIMIT: u128 = 1 << 127;
         let common = gcd(n, d);
-        let n = n / common;
-        let d = d / common;
+        let n = quotient(n, common);
+        let d = quotient(d, common);
         if n < LIMIT && d < LIMIT {
             Some(Parts {
                 num: with_sign(negative, n),
@@ -151,6 +151,7 @@ impl Parts {
     }
 
     /// The product, with each numerator and the other's denominator divided by what they share.
+    #[inline(never)]
     fn mul_across(self, other: Parts) -> Result<Parts, Wide>
         ensures value { IfOk result (λ f. IsNarrowPair f × IsSame f (product self other)) }
         ensures wide { IsErr result ↔ (HasNarrow (product self other) → ⊥) }
@@ -160,8 +161,12 @@ impl Parts {
         let right = other.num.unsigned_abs();
         let over_left = gcd(left, other.den);
         let over_right = gcd(right, self.den);
-        let num = narrow_product(left / over_left, right / over_right)?;
-        let den = narrow_product(self.den / over_right, other.den / over_left)?;
+        let num_left = quotient(left, over_left);
+        let num_right = quotient(right, over_right);
+        let den_left = quotient(self.den, over_right);
+        let den_right = quotient(other.den, over_left);
+        let num = narrow_product(num_left, num_right)?;
+        let den = narrow_product(den_left, den_right)?;
         Ok(Parts {
             num: with_sign(negative, num),
             den,
@@ -193,22 +198,25 @@ impl Parts {
     }
 
     /// The sum, over the least common multiple of the denominators.
+    #[inline(never)]
     fn add_over_common(self, other: Parts) -> Result<Parts, Wide>
         ensures value { IfOk result (λ f. IsNarrowPair f × IsSame f (sum self other)) }
         ensures narrow { IfOk result (λ _. HasNarrowSum self other) }
         ensures wide { IsErr result ↔ (HasNarrowSum self other → ⊥) }
     {
         let common = gcd(self.den, other.den);
-        let left_rest = self.den / common;
-        let right_rest = other.den / common;
+        let left_rest = quotient(self.den, common);
+        let right_rest = quotient(other.den, common);
         let left = narrow_scaled(self.num, right_rest)?;
         let right = narrow_scaled(other.num, left_rest)?;
         let total = narrow_sum(left, right)?;
         let size = total.unsigned_abs();
         let shared = gcd(size, common);
-        let den = narrow_product(left_rest, other.den / shared)?;
+        let den_rest = quotient(other.den, shared);
+        let den = narrow_product(left_rest, den_rest)?;
+        let num = quotient(size, shared);
         Ok(Parts {
-            num: with_sign(total < 0, size / shared),
+            num: with_sign(total < 0, num),
             den,
         })
     }

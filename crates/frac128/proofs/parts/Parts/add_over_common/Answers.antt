@@ -1,4 +1,4 @@
-use Rattle.std.proofs.Common.{◌≡◌, ℕ, ℤ, pos, ◌*◌, ◌/◌, ◌<◌, ◌^◌, ◌+ℤ◌, ◌*ℤ◌, to_z, of_z, ap, sym, ◌∙◌, subst, arith}
+use Rattle.std.proofs.Common.{◌≡◌, ℕ, ℤ, pos, ◌*◌, ◌/◌, ◌<◌, ◌≤◌, ◌^◌, ◌+ℤ◌, ◌*ℤ◌, to_z, of_z, ap, sym, ◌∙◌, subst, arith}
 use Rattle.std.specs.Prelude.{unsigned_abs, int_lt}
 use Rattle.std.specs.Int.{IsGcd, w128}
 use Rattle.std.proofs.lemmas.Bool.{false≢true}
@@ -44,11 +44,21 @@ made x y g s h d l r t v p q pg el er et es ph ed ev =
           (subst IsNarrowWhole (et.0 ∙ (λ i. back l el.1 i +ℤ back r er.1 i)) et.1) f.0 f.1,
     )
 
+-- a product with a quotient
+of_quotient : (l z : ℤ) (n m : ℕ) → n ≡ m → (l ≡ z *ℤ pos n) × IsNarrowWhole l → (l ≡ z *ℤ pos m) × IsNarrowWhole l
+of_quotient l z n m e h = (h.0 ∙ ap (λ k. z *ℤ pos k) e, h.1)
+
+of_quotients : (n a b x y : ℕ) → a ≡ x → b ≡ y → (n ≡ a * b) × (n < 2 ^ 127) → (n ≡ x * y) × (n < 2 ^ 127)
+of_quotients n a b x y p q h = (h.0 ∙ (λ i. p i * q i), h.1)
+
+too_great : (a b x y : ℕ) → a ≡ x → b ≡ y → 2 ^ 127 ≤ a * b → 2 ^ 127 ≤ x * y
+too_great a b x y p q h = subst (λ n. 2 ^ 127 ≤ n) (λ i. p i * q i) h
+
 pub returns-in_err-left-clause-wide : goal.returns-in_err-left-clause-wide
 returns-in_err-left-clause-wide c =
     rw (← c.self.view_is, ← c.other.view_is) (
       λ _ n. let small = narrow_sum_at _ _ _ c.gcd-common.ensures.gcd n in
-          c.in_err-left.ensures (rw (back c.self.inside.num c.self.invariant.num) small.left),
+          c.in_err-left.ensures (rw (back c.self.inside.num c.self.invariant.num, c.quotient-right_rest.ensures) small.left),
       λ _. c.from_residual.ensures.0,
     )
 
@@ -56,13 +66,13 @@ pub returns-in_err-right-clause-wide : goal.returns-in_err-right-clause-wide
 returns-in_err-right-clause-wide c =
     rw (← c.self.view_is, ← c.other.view_is) (
       λ _ n. let small = narrow_sum_at _ _ _ c.gcd-common.ensures.gcd n in
-          c.in_err-right.ensures (rw (back c.other.inside.num c.other.invariant.num) small.right),
+          c.in_err-right.ensures (rw (back c.other.inside.num c.other.invariant.num, c.quotient-left_rest.ensures) small.right),
       λ _. c.from_residual-in_err-right.ensures.0,
     )
 
 pub returns-in_err-total-clause-wide : goal.returns-in_err-total-clause-wide
 returns-in_err-total-clause-wide c =
-    let e = added c.self.inside.num c.other.inside.num _ _ _ _ _ c.self.invariant.num c.other.invariant.num c.in_ok-left.ensures c.in_ok-right.ensures (λ _. to_z w128 (of_z w128 c.in_ok-left.left) +ℤ to_z w128 (of_z w128 c.in_ok-right.right)) in
+    let e = added c.self.inside.num c.other.inside.num _ _ _ _ _ c.self.invariant.num c.other.invariant.num (of_quotient _ _ _ _ c.quotient-right_rest.ensures c.in_ok-left.ensures) (of_quotient _ _ _ _ c.quotient-left_rest.ensures c.in_ok-right.ensures) (λ _. to_z w128 (of_z w128 c.in_ok-left.left) +ℤ to_z w128 (of_z w128 c.in_ok-right.right)) in
     rw (← c.self.view_is, ← c.other.view_is) (
       λ _ n. let small = narrow_sum_at _ _ _ c.gcd-common.ensures.gcd n in
           c.in_err-total.ensures (subst IsNarrowWhole (sym e) small.total),
@@ -71,25 +81,25 @@ returns-in_err-total-clause-wide c =
 
 pub returns-in_err-den-clause-wide : goal.returns-in_err-den-clause-wide
 returns-in_err-den-clause-wide c =
-    let s = summed _ _ _ _ _ _ _ _ c.self.invariant c.other.invariant c.gcd-common.ensures.gcd c.in_ok-left.ensures c.in_ok-right.ensures c.in_ok-total.ensures c.unsigned_abs-size.ensures.value c.gcd-shared.ensures.gcd in
+    let s = summed _ _ _ _ _ _ _ _ c.self.invariant c.other.invariant c.gcd-common.ensures.gcd (of_quotient _ _ _ _ c.quotient-right_rest.ensures c.in_ok-left.ensures) (of_quotient _ _ _ _ c.quotient-left_rest.ensures c.in_ok-right.ensures) c.in_ok-total.ensures c.unsigned_abs-size.ensures.value c.gcd-shared.ensures.gcd in
     rw (← c.self.view_is, ← c.other.view_is)
-    (λ _ n. let small = summed_den_fits _ _ _ _ _ _ s n in omega (arith, c.in_err-den.ensures), λ _. c.from_residual-in_err-den.ensures.0)
+    (λ _ n. let small = summed_den_fits _ _ _ _ _ _ s n in let great = too_great _ _ _ _ c.quotient-left_rest.ensures c.quotient-den_rest.ensures c.in_err-den.ensures in omega arith, λ _. c.from_residual-in_err-den.ensures.0)
 
 pub invariant_of-result : goal.invariant_of-result
 invariant_of-result c =
-    (made _ _ _ _ _ _ _ _ _ _ c.self.invariant c.other.invariant c.gcd-common.ensures.gcd c.in_ok-left.ensures c.in_ok-right.ensures c.in_ok-total.ensures c.unsigned_abs-size.ensures.value c.gcd-shared.ensures.gcd c.in_ok-den.ensures c.with_sign.ensures).0
+    (made _ _ _ _ _ _ _ _ _ _ c.self.invariant c.other.invariant c.gcd-common.ensures.gcd (of_quotient _ _ _ _ c.quotient-right_rest.ensures c.in_ok-left.ensures) (of_quotient _ _ _ _ c.quotient-left_rest.ensures c.in_ok-right.ensures) c.in_ok-total.ensures c.unsigned_abs-size.ensures.value c.gcd-shared.ensures.gcd (of_quotients _ _ _ _ _ c.quotient-left_rest.ensures c.quotient-den_rest.ensures c.in_ok-den.ensures) (c.with_sign.ensures ∙ ap (signed _) c.quotient-num.ensures)).0
 
 pub returns-clause-value : goal.returns-clause-value
 returns-clause-value c =
-    let r = made _ _ _ _ _ _ _ _ _ _ c.self.invariant c.other.invariant c.gcd-common.ensures.gcd c.in_ok-left.ensures c.in_ok-right.ensures c.in_ok-total.ensures c.unsigned_abs-size.ensures.value c.gcd-shared.ensures.gcd c.in_ok-den.ensures c.with_sign.ensures in
+    let r = made _ _ _ _ _ _ _ _ _ _ c.self.invariant c.other.invariant c.gcd-common.ensures.gcd (of_quotient _ _ _ _ c.quotient-right_rest.ensures c.in_ok-left.ensures) (of_quotient _ _ _ _ c.quotient-left_rest.ensures c.in_ok-right.ensures) c.in_ok-total.ensures c.unsigned_abs-size.ensures.value c.gcd-shared.ensures.gcd (of_quotients _ _ _ _ _ c.quotient-left_rest.ensures c.quotient-den_rest.ensures c.in_ok-den.ensures) (c.with_sign.ensures ∙ ap (signed _) c.quotient-num.ensures) in
     rw (← c.self.view_is, ← c.other.view_is) (r.0, r.1)
 
 pub returns-clause-narrow : goal.returns-clause-narrow
 returns-clause-narrow c =
-    let r = made _ _ _ _ _ _ _ _ _ _ c.self.invariant c.other.invariant c.gcd-common.ensures.gcd c.in_ok-left.ensures c.in_ok-right.ensures c.in_ok-total.ensures c.unsigned_abs-size.ensures.value c.gcd-shared.ensures.gcd c.in_ok-den.ensures c.with_sign.ensures in
+    let r = made _ _ _ _ _ _ _ _ _ _ c.self.invariant c.other.invariant c.gcd-common.ensures.gcd (of_quotient _ _ _ _ c.quotient-right_rest.ensures c.in_ok-left.ensures) (of_quotient _ _ _ _ c.quotient-left_rest.ensures c.in_ok-right.ensures) c.in_ok-total.ensures c.unsigned_abs-size.ensures.value c.gcd-shared.ensures.gcd (of_quotients _ _ _ _ _ c.quotient-left_rest.ensures c.quotient-den_rest.ensures c.in_ok-den.ensures) (c.with_sign.ensures ∙ ap (signed _) c.quotient-num.ensures) in
     rw (← c.self.view_is, ← c.other.view_is) r.2
 
 pub returns-clause-wide : goal.returns-clause-wide
 returns-clause-wide c =
-    let r = made _ _ _ _ _ _ _ _ _ _ c.self.invariant c.other.invariant c.gcd-common.ensures.gcd c.in_ok-left.ensures c.in_ok-right.ensures c.in_ok-total.ensures c.unsigned_abs-size.ensures.value c.gcd-shared.ensures.gcd c.in_ok-den.ensures c.with_sign.ensures in
+    let r = made _ _ _ _ _ _ _ _ _ _ c.self.invariant c.other.invariant c.gcd-common.ensures.gcd (of_quotient _ _ _ _ c.quotient-right_rest.ensures c.in_ok-left.ensures) (of_quotient _ _ _ _ c.quotient-left_rest.ensures c.in_ok-right.ensures) c.in_ok-total.ensures c.unsigned_abs-size.ensures.value c.gcd-shared.ensures.gcd (of_quotients _ _ _ _ _ c.quotient-left_rest.ensures c.quotient-den_rest.ensures c.in_ok-den.ensures) (c.with_sign.ensures ∙ ap (signed _) c.quotient-num.ensures) in
     rw (← c.self.view_is, ← c.other.view_is) (λ e. absurd (false≢true e), λ n. absurd (n r.2))

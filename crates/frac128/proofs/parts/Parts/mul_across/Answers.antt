@@ -1,4 +1,4 @@
-use Rattle.std.proofs.Common.{◌≡◌, ℕ, pos, ◌*◌, ◌/◌, ◌<◌, ◌^◌, ℤ, to_z, of_z, arith, ap, ◌∙◌}
+use Rattle.std.proofs.Common.{◌≡◌, ℕ, pos, ◌*◌, ◌/◌, ◌<◌, ◌≤◌, ◌^◌, subst, ℤ, to_z, of_z, arith, ap, ◌∙◌}
 use mathlib.Core.Bool.{not, beq}
 use Rattle.std.proofs.lemmas.Bool.{false≢true}
 use Rattle.std.specs.Prelude.{unsigned_abs, int_lt}
@@ -24,17 +24,24 @@ crossed x y m k g h p q em ek gl gr = record {
   over_right = gr;
 }
 
+-- a product of numbers, each of them a quotient
+of_quotients : (n a b x y : ℕ) → a ≡ x → b ≡ y → (n ≡ a * b) × (n < 2 ^ 127) → (n ≡ x * y) × (n < 2 ^ 127)
+of_quotients n a b x y p q h = (h.0 ∙ (λ i. p i * q i), h.1)
+
+too_great : (a b x y : ℕ) → a ≡ x → b ≡ y → 2 ^ 127 ≤ a * b → 2 ^ 127 ≤ x * y
+too_great a b x y p q h = subst (λ n. 2 ^ 127 ≤ n) (λ i. p i * q i) h
+
 pub returns-in_err-num-clause-wide : goal.returns-in_err-num-clause-wide
 returns-in_err-num-clause-wide c =
     let s = crossed _ _ _ _ _ _ c.self.invariant c.other.invariant c.unsigned_abs-left.ensures.value c.unsigned_abs-right.ensures.value c.gcd-over_left.ensures.gcd c.gcd-over_right.ensures.gcd in
     rw (← c.self.view_is, ← c.other.view_is)
-    (λ _ n. let small = crossed_fits _ _ _ _ _ _ s n in omega (arith, c.in_err-num.ensures), λ _. c.from_residual.ensures.0)
+    (λ _ n. let small = crossed_fits _ _ _ _ _ _ s n in let great = too_great _ _ _ _ c.quotient-num_left.ensures c.quotient-num_right.ensures c.in_err-num.ensures in omega arith, λ _. c.from_residual.ensures.0)
 
 pub returns-in_err-den-clause-wide : goal.returns-in_err-den-clause-wide
 returns-in_err-den-clause-wide c =
     let s = crossed _ _ _ _ _ _ c.self.invariant c.other.invariant c.unsigned_abs-left.ensures.value c.unsigned_abs-right.ensures.value c.gcd-over_left.ensures.gcd c.gcd-over_right.ensures.gcd in
     rw (← c.self.view_is, ← c.other.view_is)
-    (λ _ n. let small = crossed_fits _ _ _ _ _ _ s n in omega (arith, c.in_err-den.ensures), λ _. c.from_residual-in_err-den.ensures.0)
+    (λ _ n. let small = crossed_fits _ _ _ _ _ _ s n in let great = too_great _ _ _ _ c.quotient-den_left.ensures c.quotient-den_right.ensures c.in_err-den.ensures in omega arith, λ _. c.from_residual-in_err-den.ensures.0)
 
 made : (x y : Pair) (m k g h n d : ℕ) (v : ℤ) → IsNarrowPair x → IsNarrowPair y → m ≡ unsigned_abs (to_z w128 (of_z w128 x.num)) → k ≡ unsigned_abs (to_z w128 (of_z w128 y.num)) → IsGcd m y.den g → IsGcd k x.den h
     → (n ≡ m / g * (k / h)) × (n < 2 ^ 127) → (d ≡ x.den / h * (y.den / g)) × (d < 2 ^ 127) → v ≡ signed (not (beq (int_lt (to_z w128 (of_z w128 x.num)) (pos 0)) (int_lt (to_z w128 (of_z w128 y.num)) (pos 0)))) n
@@ -46,16 +53,16 @@ made x y m k g h n d v p q em ek gl gr en ed ev =
 pub invariant_of-result : goal.invariant_of-result
 invariant_of-result c =
     (made _ _ _ _ _ _ _ _ _ c.self.invariant c.other.invariant c.unsigned_abs-left.ensures.value c.unsigned_abs-right.ensures.value c.gcd-over_left.ensures.gcd c.gcd-over_right.ensures.gcd
-    c.in_ok-num.ensures c.in_ok-den.ensures c.with_sign.ensures).0
+    (of_quotients _ _ _ _ _ c.quotient-num_left.ensures c.quotient-num_right.ensures c.in_ok-num.ensures) (of_quotients _ _ _ _ _ c.quotient-den_left.ensures c.quotient-den_right.ensures c.in_ok-den.ensures) c.with_sign.ensures).0
 
 pub returns-clause-value : goal.returns-clause-value
 returns-clause-value c =
     rw (← c.self.view_is, ← c.other.view_is)
     (made _ _ _ _ _ _ _ _ _ c.self.invariant c.other.invariant c.unsigned_abs-left.ensures.value c.unsigned_abs-right.ensures.value c.gcd-over_left.ensures.gcd c.gcd-over_right.ensures.gcd
-    c.in_ok-num.ensures c.in_ok-den.ensures c.with_sign.ensures)
+    (of_quotients _ _ _ _ _ c.quotient-num_left.ensures c.quotient-num_right.ensures c.in_ok-num.ensures) (of_quotients _ _ _ _ _ c.quotient-den_left.ensures c.quotient-den_right.ensures c.in_ok-den.ensures) c.with_sign.ensures)
 
 pub returns-clause-wide : goal.returns-clause-wide
 returns-clause-wide c =
     let r = made _ _ _ _ _ _ _ _ _ c.self.invariant c.other.invariant c.unsigned_abs-left.ensures.value c.unsigned_abs-right.ensures.value c.gcd-over_left.ensures.gcd c.gcd-over_right.ensures.gcd
-    c.in_ok-num.ensures c.in_ok-den.ensures c.with_sign.ensures in
+    (of_quotients _ _ _ _ _ c.quotient-num_left.ensures c.quotient-num_right.ensures c.in_ok-num.ensures) (of_quotients _ _ _ _ _ c.quotient-den_left.ensures c.quotient-den_right.ensures c.in_ok-den.ensures) c.with_sign.ensures in
     rw (← c.self.view_is, ← c.other.view_is) (λ e. absurd (false≢true e), λ n. absurd (n (_, r.0, r.1)))
