@@ -4,3 +4,7 @@ pub mod Addresses
 pub mod NamesLemmas
 pub mod AddressReading
 pub mod Places
+pub mod Others
+pub mod Quoted
+pub mod SheetReading
+pub mod Columns

@@ -1,6 +1,6 @@
 -- The address of a cell on its sheet (OpenDocument 1.2, part 2, section 5.8): letters name the column and digits
 -- the row, each behind a dollar sign or not.
-use Rattle.std.specs.Prelude.{◌≡◌, ◌<◌, ◌+◌, ◌-◌, ◌*◌, ◌/◌, ◌%◌, ◌==◌, ◌∷◌, ◌++◌, ◌&&◌, ℕ, List, [], drop, take, if◌then◌else◌, nat_le, nat_lt, fold, Option, Some, None}
+use Rattle.std.specs.Prelude.{◌≡◌, ◌<◌, ◌+◌, ◌-◌, ◌*◌, ◌/◌, ◌%◌, ◌==◌, ◌∷◌, ◌++◌, ◌&&◌, ℕ, zero, suc, List, [], drop, take, if◌then◌else◌, nat_le, nat_lt, fold, Option, Some, None}
 use Rattle.std.specs.Char.{is_ascii_alphabetic, to_ascii_uppercase}
 use Rattle.std.specs.List.{prefix_len}
 use Rattle.std.specs.Fmt.{decimal}
@@ -49,9 +49,15 @@ address_in text =
     if all_ascii_digits (behind_letters text) && (nat_le 1 column && nat_le column COLUMNS) && (nat_le 1 row && nat_le row ROWS)
     then Some (row - 1, column - 1) else None
 
--- the letters of a column, from 0
+-- the last letters of a column, from 0, so many at most
+abbrev pub letters_within : ℕ → ℕ → List ℕ
+letters_within zero column = []
+letters_within (suc most) column =
+    if nat_lt column 26 then (65 + column) ∷ [] else letters_within most (column / 26 - 1) ++ (65 + column % 26) ∷ []
+
+-- the letters of a column, from 0: A to Z, then AA to ZZ, and so on
 abbrev pub column_text : ℕ → List ℕ
-column_text column = if nat_lt column 26 then (65 + column) ∷ [] else (64 + column / 26) ∷ (65 + column % 26) ∷ []
+column_text column = letters_within (suc column) column
 
 -- an address as it is printed
 abbrev pub address_text : ℕ → ℕ → List ℕ

@@ -32,8 +32,18 @@ fn row_and_column(text: &[u8]) -> Option<(u16, u16)>
     Some((row - 1, column - 1))
 }
 
-// The text behind a dollar sign, if one leads it.
-fn skip_dollar(text: &[u8]) -> &[u8]
+/// The text behind a dollar sign, if one leads it.
+pub fn without_dollar(text: &str) -> &str
+    ensures { result.now ≡ without_dollar text.now }
+{
+    match text.strip_prefix('$') {
+        Some(rest) => rest,
+        None => text,
+    }
+}
+
+/// The bytes behind a dollar sign, if one leads them.
+pub fn skip_dollar(text: &[u8]) -> &[u8]
     ensures { result.now ≡ without_dollar text.now }
 {
     match text {

@@ -1,7 +1,7 @@
 -- The parts of a list: how many they are, and what they say when one more of them has been visited.
 use Rattle.std.proofs.Common.{◌≡◌, ◌≤◌, ◌<◌, ℕ, suc, zero, ◌+◌, List, [], ◌∷◌, ◌++◌, length, take, get_or, refl, sym, ap, ◌∙◌, append_assoc, append-nil, arith}
 use Rattle.std.proofs.lemmas.List.{take_more}
-use Rattle.cell_refs.specs.declared.cell.Area.{Area}
+use Rattle.cell_refs.specs.Areas.{Area}
 use Rattle.formula_ast.specs.Measures.{references_of, all_references_of, listed}
 use Rattle.formula_ast.specs.Size.{node_count, all_count}
 use Rattle.formula_ast.specs.Sound.{count}

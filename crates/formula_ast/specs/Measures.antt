@@ -1,6 +1,6 @@
 -- How high a tree is, and to which areas it refers.
 use Rattle.std.specs.Prelude.{ℕ, suc, max, List, [], ◌∷◌, ◌++◌}
-use Rattle.cell_refs.specs.declared.cell.Area.{Area}
+use Rattle.cell_refs.specs.Areas.{Area}
 use Rattle.formula_ast.specs.Tree.{Tree, Trees, none, more, Referred, Listed, Unlisted}
 use Rattle.formula_ast.specs.Tree as tree
 

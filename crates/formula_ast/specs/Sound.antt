@@ -1,9 +1,9 @@
 -- What holds of every formula's tree: the span of a part lies within that of the part around it, a call has as many arguments
--- as its function takes, an array is rectangular, and a reference has at least one area.
+-- as its function takes, an array is rectangular, a reference has at least one area, its sheets are there, and its numbers are
+-- narrow.
 use Rattle.std.specs.Prelude.{◌≡◌, ◌<◌, ◌≤◌, ℕ, suc, ◌*◌, length, All}
 use Rattle.cell_refs.specs.declared.span.Span.{Span}
-use Rattle.cell_refs.specs.declared.cell.Area.{Area}
-use Rattle.cell_refs.specs.declared.limits.TheConstants.{COLUMNS, ROWS}
+use Rattle.cell_refs.specs.Areas.{IsOnSheet}
 use Rattle.formula_ast.specs.Functions.{Takes}
 use Rattle.formula_ast.specs.Tree.{Tree, Trees, none, more, Referred, Listed, Unlisted, span_of}
 use Rattle.formula_ast.specs.Tree as tree
@@ -17,21 +17,14 @@ pub record IsWithin (inner outer : Span) : Type 0 where
   pub start : outer.start ≤ inner.start
   pub end : inner.end ≤ outer.end
 
--- the corners of an area are in order and lie on a sheet
-pub record IsOnSheet (a : Area) : Type 0 where
-  pub rows : a.top ≤ a.bottom
-  pub columns : a.left ≤ a.right
-  pub last_row : a.bottom < ROWS
-  pub last_column : a.right < COLUMNS
-
+-- the sheet of an area is there, and the area lies on it
 abbrev pub IsOnItsSheet : Referred → Type 0
 IsOnItsSheet (Listed a) = IsOnSheet a
-IsOnItsSheet (Unlisted sheet) = Unit {0}
+IsOnItsSheet (Unlisted sheet) = ⊥
 
 -- what may stand in an array: a number, a text or a logical
 abbrev pub IsItem : Tree → Type 0
 IsItem (tree.Number at x) = Unit {0}
-IsItem (tree.WideNumber at x) = Unit {0}
 IsItem (tree.Text at t) = Unit {0}
 IsItem (tree.Logical at b) = Unit {0}
 IsItem _ = ⊥
@@ -56,7 +49,7 @@ abbrev mutual
   -- a sound tree
   pub IsSound : Tree → Type 0
   IsSound (tree.Number at x) = IsForward at
-  IsSound (tree.WideNumber at x) = IsForward at
+  IsSound (tree.WideNumber at x) = ⊥
   IsSound (tree.Text at t) = IsForward at
   IsSound (tree.Logical at b) = IsForward at
   IsSound (tree.Fault at k) = IsForward at

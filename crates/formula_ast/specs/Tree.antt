@@ -4,7 +4,7 @@ use Rattle.fractions.specs.Rational.{ℚ}
 use Rattle.cell_refs.specs.declared.span.Span.{Span}
 use Rattle.cell_refs.specs.declared.op.Op.{Op}
 use Rattle.cell_refs.specs.declared.error_kind.ErrorKind.{ErrorKind}
-use Rattle.cell_refs.specs.declared.cell.Area.{Area}
+use Rattle.cell_refs.specs.Areas.{Area}
 use Rattle.formula_ast.specs.declared.func.Func.{Func}
 
 -- the cells that a reference names: an area of a sheet, or cells of a sheet that there isn't
