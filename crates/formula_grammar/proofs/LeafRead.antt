@@ -8,8 +8,11 @@ use Rattle.formula_grammar.specs.declared.symbol.Sign.{Sign}
 use Rattle.formula_grammar.specs.declared.symbol.Sign.TheVariants as sign
 use Rattle.formula_grammar.specs.declared.symbol.Symbol.{Symbol}
 use Rattle.formula_grammar.specs.Symbols.{Setting, bytes_of, from_to, place_of}
-use Rattle.formula_grammar.specs.Words.{Given, Own, Named, Corner, corner_on, sheet_by, sheet_of, unless_logical, split_corner, word_corner, number_tree, negative_tree, logical_in}
-use Rattle.formula_grammar.specs.References.{SpellsCorner, word, on_sheet, SpellsInner, own, after_sheet, split_word, SpellsReference, cell, area, inner_cell, inner_area, SpellsUnion, one, joined, area_between}
+use Rattle.formula_grammar.specs.Words.{Given, Own, Named, Corner, corner_on, sheet_by, sheet_of, number_tree, negative_tree, logical_in}
+use Rattle.formula_grammar.specs.WordReading.{unless_logical, split_corner, word_corner}
+use Rattle.frac128.proofs.Spelling.{reading-complete}
+use Rattle.formula_grammar.proofs.WordCorners.{split_read, word_none, word_read}
+use Rattle.formula_grammar.specs.References.{SpellsCorner, word, on_sheet, SpellsInner, own, after_sheet, joined_word, SpellsReference, cell, area, inner_cell, inner_area, SpellsUnion, one, joined, area_between}
 use Rattle.formula_grammar.specs.Arrays.{SpellsItem, number, positive, negative, text, logical, SpellsRow, first, next, SpellsRows, first_row, next_row}
 use Rattle.formula_grammar.specs.Leaves.{SpellsLeaf}
 use Rattle.formula_grammar.specs.Leaves as leaf
@@ -90,7 +93,7 @@ module _ (S : Setting) where
   corner_read (word s is h) rest closed =
       ap (λ g. corner_by S s g rest) is
       ∙ ap (λ b. cond b (behind_sheet_at S is_sheet_mark s rest) (option_and_then (λ c. Some (c, rest)) (word_corner S (bytes_of S s)))) closed
-      ∙ ap (option_and_then (λ c. Some (c, rest))) h
+      ∙ ap (option_and_then (λ c. Some (c, rest))) (word_read S (bytes_of S s) h)
   corner_read (on_sheet {name = name} {c = c} s t u sheet mark is h) rest closed =
       by_sheet s t (u ∷ rest) s.sign (mark_passes t.sign mark) ∙ sheet_there is_sheet_mark s t u name c rest sheet (mark_passes t.sign mark) is h
 
@@ -104,10 +107,10 @@ module _ (S : Setting) where
   inner_read (own {c = c} t u point is h) rest closed = ap (λ g. inner_by S t g (u ∷ rest)) point ∙ address_there Own u c rest is h
   inner_read (after_sheet {name = name} {c = c} s t u sheet point is h) rest closed =
       by_inner s t (u ∷ rest) name s.sign sheet (ap is_point point) ∙ sheet_there is_point s t u name c rest sheet (ap is_point point) is h
-  inner_read (split_word s is h) rest closed =
+  inner_read (joined_word s is h) rest closed =
       ap (λ g. inner_by S s g rest) is
       ∙ ap (λ b. cond b (behind_sheet_at S is_point s rest) (option_and_then (λ c. Some (c, rest)) (split_corner (bytes_of S s)))) closed
-      ∙ ap (option_and_then (λ c. Some (c, rest))) h
+      ∙ ap (option_and_then (λ c. Some (c, rest))) (split_read (bytes_of S s) h)
 
   -- ---- references
 
@@ -200,13 +203,13 @@ module _ (S : Setting) where
 
   item_read : {a : List Symbol} {x : Tree} → SpellsItem S a x → (rest : List Symbol) → item_at S (a ++ rest) ≡ Some (x, rest)
   unfolding item_at
-  item_read (number s is h) rest = ap (λ g. item_by S g s rest) is ∙ ap (option_and_then (λ n. Some (number_tree s.span n, rest))) h
+  item_read (number s is h) rest = ap (λ g. item_by S g s rest) is ∙ ap (option_and_then (λ n. Some (number_tree s.span n, rest))) (reading-complete (bytes_of S s) _ h)
   item_read (positive s t is is_num h) rest =
       ap (λ g. item_by S g s (t ∷ rest)) is ∙ signed_there s t rest is_num ∙ ap (λ g. signed_by S g (from_to s.span t.span) t rest) is
-      ∙ ap (option_and_then (λ n. Some (number_tree (from_to s.span t.span) n, rest))) h
+      ∙ ap (option_and_then (λ n. Some (number_tree (from_to s.span t.span) n, rest))) (reading-complete (bytes_of S t) _ h)
   item_read (negative s t is is_num h) rest =
       ap (λ g. item_by S g s (t ∷ rest)) is ∙ signed_there s t rest is_num ∙ ap (λ g. signed_by S g (from_to s.span t.span) t rest) is
-      ∙ ap (option_and_then (λ n. Some (negative_tree (from_to s.span t.span) n, rest))) h
+      ∙ ap (option_and_then (λ n. Some (negative_tree (from_to s.span t.span) n, rest))) (reading-complete (bytes_of S t) _ h)
   item_read (text s is) rest = ap (λ g. item_by S g s rest) is
   item_read (logical s is h) rest = ap (λ g. item_by S g s rest) is ∙ ap (option_and_then (λ b. Some (Logical s.span b, rest))) h
 
@@ -294,7 +297,7 @@ module _ (S : Setting) where
     where
       by : (b : Bool) → cond b (references_at S (s ∷ rest)) (lone_word S s rest (logical_in (bytes_of S s)) (word_corner S (bytes_of S s))) ≡ references_at S (s ∷ rest)
       by true = refl
-      by false = ap (λ l. lone_word S s rest l (word_corner S (bytes_of S s))) (no_logical (logical_in (bytes_of S s)) _ c h) ∙ ap (lone_word S s rest None) h
+      by false = ap (λ l. lone_word S s rest l (word_corner S (bytes_of S s))) (no_logical (logical_in (bytes_of S s)) _ c (word_read S (bytes_of S s) h)) ∙ ap (lone_word S s rest None) (word_read S (bytes_of S s) h)
   corner_front (on_sheet {name = name} s t u sheet mark is h) rest = by s.sign sheet
     where
       by : (g : Sign) → sheet_by S g s ≡ Some name → leaf_by S g s (t ∷ u ∷ rest) ≡ references_at S (s ∷ t ∷ u ∷ rest)
@@ -328,11 +331,11 @@ module _ (S : Setting) where
   -- what is spelled is read, where what follows does not go on with it
   leaf_read_in : {a : List Symbol} {x : Tree} → SpellsLeaf S a x → (rest : List Symbol) → 0 < ahead rest → leaf_at S (a ++ rest) ≡ Some (x, rest)
   unfolding leaf_at
-  leaf_read_in (leaf.number s is h) rest k = ap (λ g. leaf_by S g s rest) is ∙ ap (option_and_then (λ n. Some (number_tree s.span n, rest))) h
+  leaf_read_in (leaf.number s is h) rest k = ap (λ g. leaf_by S g s rest) is ∙ ap (option_and_then (λ n. Some (number_tree s.span n, rest))) (reading-complete (bytes_of S s) _ h)
   leaf_read_in (leaf.text s is) rest k = ap (λ g. leaf_by S g s rest) is
   leaf_read_in (leaf.error s is h) rest k = ap (λ g. leaf_by S g s rest) is ∙ ap (option_and_then (λ k. Some (Fault s.span k, rest))) h
   leaf_read_in (leaf.logical s is h) rest k = word_there s rest is k ∙ ap (λ l. lone_word S s rest l (word_corner S (bytes_of S s))) h
-  leaf_read_in (leaf.name s is h j) rest k = word_there s rest is k ∙ ap (λ l. lone_word S s rest l (word_corner S (bytes_of S s))) h ∙ ap (lone_word S s rest None) j
+  leaf_read_in (leaf.name s is h j) rest k = word_there s rest is k ∙ ap (λ l. lone_word S s rest l (word_corner S (bytes_of S s))) h ∙ ap (lone_word S s rest None) (word_none S (bytes_of S s) j)
   leaf_read_in (leaf.array {a = a} s t left right p) rest k = ap (λ g. leaf_by S g s ((a ++ t ∷ []) ++ rest)) left ∙ array_read s t right p rest
   leaf_read_in (leaf.reference p) rest k = union_front p rest ∙ references_there p rest k
 

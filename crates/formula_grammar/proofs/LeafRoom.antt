@@ -6,7 +6,7 @@ use Rattle.formula_grammar.specs.declared.symbol.Sign.TheVariants as sign
 use Rattle.formula_grammar.specs.declared.symbol.Symbol.{Symbol}
 use Rattle.formula_grammar.specs.Symbols.{Setting}
 use Rattle.formula_grammar.specs.Words.{Corner, sheet_by}
-use Rattle.formula_grammar.specs.References.{SpellsCorner, word, on_sheet, SpellsInner, own, after_sheet, split_word, SpellsReference, cell, area, inner_cell, inner_area, SpellsUnion, one, joined}
+use Rattle.formula_grammar.specs.References.{SpellsCorner, word, on_sheet, SpellsInner, own, after_sheet, joined_word, SpellsReference, cell, area, inner_cell, inner_area, SpellsUnion, one, joined}
 use Rattle.formula_grammar.specs.Arrays.{SpellsItem, number, positive, negative, text, logical, SpellsRow, first, next, SpellsRows, first_row, next_row}
 use Rattle.formula_grammar.specs.Leaves.{SpellsLeaf}
 use Rattle.formula_grammar.specs.Leaves as leaf
@@ -89,7 +89,7 @@ inner_closed : {S : Setting} {a : List Symbol} {c : Corner} → SpellsInner S a 
 inner_closed (own t u point is_word c) = both (kept t (point_keeps t.sign point)) (kept u (word_keeps u.sign is_word))
 inner_closed {S = S} (after_sheet {name = name} s t u sheet point is_word c) =
     both (kept s (sheet_keeps S s name s.sign sheet)) (both (kept t (point_keeps t.sign point)) (kept u (word_keeps u.sign is_word)))
-inner_closed (split_word s is_word c) = kept s (word_keeps s.sign is_word)
+inner_closed (joined_word s is_word c) = kept s (word_keeps s.sign is_word)
 
 reference_closed : {S : Setting} {a : List Symbol} {r : Referred} → SpellsReference S a r → Closed a
 reference_closed (cell p is) = corner_closed p

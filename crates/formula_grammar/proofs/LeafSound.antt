@@ -6,13 +6,16 @@ use Rattle.std.proofs.Math.Seq.{take-append_seam}
 use Rattle.std.proofs.lemmas.Bool.{eqb-true}
 use Rattle.cell_refs.specs.Address.{address_in}
 use Rattle.frac128.specs.NumeralReading.{reading}
+use Rattle.frac128.proofs.Spelling.{reading-sound}
+use Rattle.formula_grammar.proofs.WordCorners.{no_word, split_spelled, word_spelled}
 use Rattle.formula_ast.specs.Tree.{Tree, Text, Logical, Fault, Array, Reference, Name, Referred, trees}
 use Rattle.formula_grammar.specs.declared.symbol.Sign.{Sign}
 use Rattle.formula_grammar.specs.declared.symbol.Sign.TheVariants as sign
 use Rattle.formula_grammar.specs.declared.symbol.Symbol.{Symbol}
 use Rattle.formula_grammar.specs.Symbols.{Setting, bytes_of, from_to, place_of}
-use Rattle.formula_grammar.specs.Words.{Given, Own, Named, Corner, corner_on, sheet_of, split_corner, word_corner, number_tree, negative_tree, quoted_text, error_in, logical_in}
-use Rattle.formula_grammar.specs.References.{SpellsCorner, word, on_sheet, SpellsInner, own, after_sheet, split_word, SpellsReference, cell, area, inner_cell, inner_area, SpellsUnion, one, joined, area_between}
+use Rattle.formula_grammar.specs.Words.{Given, Own, Named, Corner, corner_on, sheet_of, number_tree, negative_tree, quoted_text, error_in, logical_in}
+use Rattle.formula_grammar.specs.WordReading.{split_corner, word_corner}
+use Rattle.formula_grammar.specs.References.{SpellsCorner, word, on_sheet, SpellsInner, own, after_sheet, joined_word, SpellsReference, cell, area, inner_cell, inner_area, SpellsUnion, one, joined, area_between}
 use Rattle.formula_grammar.specs.Arrays.{SpellsItem, number, positive, negative, text, logical, SpellsRow, first, next, SpellsRows, first_row, next_row}
 use Rattle.formula_grammar.specs.Leaves.{SpellsLeaf}
 use Rattle.formula_grammar.specs.Leaves as leaf
@@ -143,7 +146,7 @@ module _ (S : Setting) where
     where
       lone : s.sign ≡ sign.Word → (b : Bool) → cond b (behind_sheet_at S is_sheet_mark s ss) (option_and_then (λ c. Some (c, ss)) (word_corner S (bytes_of S s))) ≡ Some found → Reads (SpellsCorner S) (s ∷ ss) found
       lone is true h = plain_sheet s ss found h
-      lone is false h = let c = bind_some (word_corner S (bytes_of S s)) (λ c. Some (c, ss)) found h in alone (SpellsCorner S) s ss c.0 found (word s is c.1) c.2
+      lone is false h = let c = bind_some (word_corner S (bytes_of S s)) (λ c. Some (c, ss)) found h in alone (SpellsCorner S) s ss c.0 found (word s is (word_spelled S (bytes_of S s) c.0 c.1)) c.2
 
       by : (g : Sign) → s.sign ≡ g → corner_by S s g ss ≡ Some found → Reads (SpellsCorner S) (s ∷ ss) found
       by sign.Word is h = lone is (starts_with is_sheet_mark ss) h
@@ -161,7 +164,10 @@ module _ (S : Setting) where
     where
       lone : s.sign ≡ sign.Word → (b : Bool) → cond b (behind_sheet_at S is_point s ss) (option_and_then (λ c. Some (c, ss)) (split_corner (bytes_of S s))) ≡ Some found → Reads (SpellsInner S) (s ∷ ss) found
       lone is true h = inner_sheet s ss found h
-      lone is false h = let c = bind_some (split_corner (bytes_of S s)) (λ c. Some (c, ss)) found h in alone (SpellsInner S) s ss c.0 found (split_word s is c.1) c.2
+      lone is false h =
+          let c = bind_some (split_corner (bytes_of S s)) (λ c. Some (c, ss)) found h in
+          let j = split_spelled (bytes_of S s) c.0 c.1 in
+          alone (SpellsInner S) s ss c.0 found (subst (SpellsInner S (s ∷ [])) (sym j.2) (joined_word s is j.1)) c.2
 
       by : (g : Sign) → s.sign ≡ g → inner_by S s g ss ≡ Some found → Reads (SpellsInner S) (s ∷ ss) found
       by sign.Point is h = let a = address_read Own ss found h in record { used = s ∷ a.symbol ∷ []; parts = ap (λ c. s ∷ c) a.parts; spells = own s a.symbol is a.word a.corner }
@@ -277,12 +283,12 @@ module _ (S : Setting) where
             let f : option_and_then (λ n. Some (number_tree (from_to s.span t.0.span) n, t.1)) (reading (bytes_of S t.0)) ≡ Some found = ap (λ g. signed_by S g (from_to s.span t.0.span) t.0 t.1) (sym plus) ∙ h in
             let n = bind_some (reading (bytes_of S t.0)) (λ n. Some (number_tree (from_to s.span t.0.span) n, t.1)) found f in
             let same : (number_tree (from_to s.span t.0.span) n.0, t.1) ≡ found = some_is (number_tree (from_to s.span t.0.span) n.0, t.1) found n.2 in
-            subst (Reads (SpellsItem S) (s ∷ t.0 ∷ t.1)) same (record { used = s ∷ t.0 ∷ []; parts = refl; spells = positive s t.0 plus is_number n.1 })
+            subst (Reads (SpellsItem S) (s ∷ t.0 ∷ t.1)) same (record { used = s ∷ t.0 ∷ []; parts = refl; spells = positive s t.0 plus is_number (reading-sound (bytes_of S t.0) n.0 n.1) })
         | inr minus ↦
             let f : option_and_then (λ n. Some (negative_tree (from_to s.span t.0.span) n, t.1)) (reading (bytes_of S t.0)) ≡ Some found = ap (λ g. signed_by S g (from_to s.span t.0.span) t.0 t.1) (sym minus) ∙ h in
             let n = bind_some (reading (bytes_of S t.0)) (λ n. Some (negative_tree (from_to s.span t.0.span) n, t.1)) found f in
             let same : (negative_tree (from_to s.span t.0.span) n.0, t.1) ≡ found = some_is (negative_tree (from_to s.span t.0.span) n.0, t.1) found n.2 in
-            subst (Reads (SpellsItem S) (s ∷ t.0 ∷ t.1)) same (record { used = s ∷ t.0 ∷ []; parts = refl; spells = negative s t.0 minus is_number n.1 })
+            subst (Reads (SpellsItem S) (s ∷ t.0 ∷ t.1)) same (record { used = s ∷ t.0 ∷ []; parts = refl; spells = negative s t.0 minus is_number (reading-sound (bytes_of S t.0) n.0 n.1) })
       ]
 
   pub item_sound : Sound (SpellsItem S) (item_at S)
@@ -291,7 +297,7 @@ module _ (S : Setting) where
   item_sound (s ∷ ss) found e = by s.sign refl e
     where
       by : (g : Sign) → s.sign ≡ g → item_by S g s ss ≡ Some found → Reads (SpellsItem S) (s ∷ ss) found
-      by sign.Number is h = let n = bind_some (reading (bytes_of S s)) (λ n. Some (number_tree s.span n, ss)) found h in alone (SpellsItem S) s ss (number_tree s.span n.0) found (number s is n.1) n.2
+      by sign.Number is h = let n = bind_some (reading (bytes_of S s)) (λ n. Some (number_tree s.span n, ss)) found h in alone (SpellsItem S) s ss (number_tree s.span n.0) found (number s is (reading-sound (bytes_of S s) n.0 n.1)) n.2
       by sign.Plus is h = signed_read s ss found (inl is) h
       by sign.Minus is h = signed_read s ss found (inr is) h
       by sign.Text is h = alone (SpellsItem S) s ss (Text s.span (quoted_text (bytes_of S s))) found (text s is) h
@@ -374,7 +380,7 @@ module _ (S : Setting) where
       lone : (b : Option Bool) (c : Option Corner) → logical_in (bytes_of S s) ≡ b → word_corner S (bytes_of S s) ≡ c → lone_word S s ss b c ≡ Some found → Reads (SpellsLeaf S) (s ∷ ss) found
       lone (Some b) c is_logical is_corner h = alone (SpellsLeaf S) s ss (Logical s.span b) found (leaf.logical s is is_logical) h
       lone None (Some c) is_logical is_corner h = references_sound (s ∷ ss) found h
-      lone None None is_logical is_corner h = alone (SpellsLeaf S) s ss (Name s.span (bytes_of S s)) found (leaf.name s is is_logical is_corner) h
+      lone None None is_logical is_corner h = alone (SpellsLeaf S) s ss (Name s.span (bytes_of S s)) found (leaf.name s is is_logical (no_word S (bytes_of S s) is_corner)) h
 
       by : (b : Bool) → cond b (references_at S (s ∷ ss)) (lone_word S s ss (logical_in (bytes_of S s)) (word_corner S (bytes_of S s))) ≡ Some found → Reads (SpellsLeaf S) (s ∷ ss) found
       by true h = references_sound (s ∷ ss) found h
@@ -387,7 +393,7 @@ module _ (S : Setting) where
   leaf_spelled (s ∷ ss) found e = by s.sign refl e
     where
       by : (g : Sign) → s.sign ≡ g → leaf_by S g s ss ≡ Some found → Reads (SpellsLeaf S) (s ∷ ss) found
-      by sign.Number is h = let n = bind_some (reading (bytes_of S s)) (λ n. Some (number_tree s.span n, ss)) found h in alone (SpellsLeaf S) s ss (number_tree s.span n.0) found (leaf.number s is n.1) n.2
+      by sign.Number is h = let n = bind_some (reading (bytes_of S s)) (λ n. Some (number_tree s.span n, ss)) found h in alone (SpellsLeaf S) s ss (number_tree s.span n.0) found (leaf.number s is (reading-sound (bytes_of S s) n.0 n.1)) n.2
       by sign.Text is h = alone (SpellsLeaf S) s ss (Text s.span (quoted_text (bytes_of S s))) found (leaf.text s is) h
       by sign.Fault is h = let k = bind_some (error_in (bytes_of S s)) (λ k. Some (Fault s.span k, ss)) found h in alone (SpellsLeaf S) s ss (Fault s.span k.0) found (leaf.error s is k.1) k.2
       by sign.OpenBrace is h = array_sound s is ss found h

@@ -8,3 +8,4 @@ pub mod Sound
 pub mod Complete
 pub mod Whole
 pub mod Marks
+pub mod WordCorners

@@ -1,7 +1,6 @@
 -- Arrays of constants (OpenDocument 1.2 part 2, section 5.13).
 use Rattle.std.specs.Prelude.{◌≡◌, ℕ, suc, Bool, List, [], ◌∷◌, ◌++◌, length, Some}
-use Rattle.frac128.specs.Numeral.{Numeral}
-use Rattle.frac128.specs.NumeralReading.{reading}
+use Rattle.frac128.specs.Numeral.{Numeral, Spells}
 use Rattle.formula_ast.specs.Tree.{Tree, Text, Logical}
 use Rattle.formula_grammar.specs.Symbols.{Setting, bytes_of, from_to}
 use Rattle.formula_grammar.specs.Words.{number_tree, negative_tree, quoted_text, logical_in}
@@ -10,10 +9,10 @@ use Rattle.formula_grammar.specs.declared.symbol.Symbol.{Symbol}
 
 -- an item: a number with a sign or without, a text, or TRUE or FALSE
 pub data SpellsItem (S : Setting) : List Symbol → Tree → Type 0 where
-  number : {n : Numeral} (s : Symbol) → s.sign ≡ sign.Number → reading (bytes_of S s) ≡ Some n → SpellsItem S (s ∷ []) (number_tree s.span n)
-  positive : {n : Numeral} (s t : Symbol) → s.sign ≡ sign.Plus → t.sign ≡ sign.Number → reading (bytes_of S t) ≡ Some n
+  number : {n : Numeral} (s : Symbol) → s.sign ≡ sign.Number → Spells (bytes_of S s) n → SpellsItem S (s ∷ []) (number_tree s.span n)
+  positive : {n : Numeral} (s t : Symbol) → s.sign ≡ sign.Plus → t.sign ≡ sign.Number → Spells (bytes_of S t) n
       → SpellsItem S (s ∷ t ∷ []) (number_tree (from_to s.span t.span) n)
-  negative : {n : Numeral} (s t : Symbol) → s.sign ≡ sign.Minus → t.sign ≡ sign.Number → reading (bytes_of S t) ≡ Some n
+  negative : {n : Numeral} (s t : Symbol) → s.sign ≡ sign.Minus → t.sign ≡ sign.Number → Spells (bytes_of S t) n
       → SpellsItem S (s ∷ t ∷ []) (negative_tree (from_to s.span t.span) n)
   text : (s : Symbol) → s.sign ≡ sign.Text → SpellsItem S (s ∷ []) (Text s.span (quoted_text (bytes_of S s)))
   logical : {b : Bool} (s : Symbol) → s.sign ≡ sign.Word → logical_in (bytes_of S s) ≡ Some b → SpellsItem S (s ∷ []) (Logical s.span b)

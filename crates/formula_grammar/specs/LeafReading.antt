@@ -6,7 +6,8 @@ use Rattle.cell_refs.specs.declared.span.Span.{Span}
 use Rattle.cell_refs.specs.Address.{address_in}
 use Rattle.formula_ast.specs.Tree.{Tree, Text, Logical, Fault, Array, Reference, Name, Referred, trees}
 use Rattle.formula_grammar.specs.Symbols.{Setting, bytes_of, from_to, place_of}
-use Rattle.formula_grammar.specs.Words.{Given, Own, Named, Corner, corner_on, sheet_of, split_corner, word_corner, number_tree, negative_tree, quoted_text, error_in, logical_in}
+use Rattle.formula_grammar.specs.Words.{Given, Own, Named, Corner, corner_on, sheet_of, number_tree, negative_tree, quoted_text, error_in, logical_in}
+use Rattle.formula_grammar.specs.WordReading.{split_corner, word_corner}
 use Rattle.formula_grammar.specs.References.{area_between}
 use Rattle.formula_grammar.specs.Loops.{Found, Reader, Turn, Stop, Fail, Go, go_on, all_turns, ◌>>=◌}
 use Rattle.formula_grammar.specs.declared.symbol.Sign.{Sign}

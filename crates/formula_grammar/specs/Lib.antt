@@ -1,5 +1,6 @@
 pub mod Symbols
 pub mod Words
+pub mod WordReading
 pub mod References
 pub mod Arrays
 pub mod Leaves

@@ -1,11 +1,14 @@
 -- References: which symbols spell which cells (OpenDocument 1.2 part 2, sections 5.8 and 5.5.11; the forms without brackets are
 -- those that spreadsheets show).
-use Rattle.std.specs.Prelude.{◌≡◌, ◌⊎◌, ℕ, Bool, true, false, min, max, if◌then◌else◌, ◌==◌, List, [], ◌∷◌, ◌++◌, Option, Some, None}
-use Rattle.cell_refs.specs.Address.{address_in}
+use Rattle.std.specs.Prelude.{◌≡◌, ◌⊎◌, ℕ, Bool, true, false, if◌then◌else◌, ◌==◌, List, [], ◌∷◌, ◌++◌, Option, Some, None}
+use Rattle.cell_refs.specs.Address.{IsAddress, address_in}
+use Rattle.cell_refs.specs.Areas.{between}
 use Rattle.cell_refs.specs.Names.{place_in, same_letters}
+use Rattle.cell_refs.specs.Sheets.{SpellsSheet}
+use Rattle.cell_refs.specs.declared.cell.Cell.{Cell}
 use Rattle.formula_ast.specs.Tree.{Referred, Listed, Unlisted}
 use Rattle.formula_grammar.specs.Symbols.{Setting, bytes_of}
-use Rattle.formula_grammar.specs.Words.{Given, Own, Named, Corner, corner_on, sheet_of, split_corner, word_corner}
+use Rattle.formula_grammar.specs.Words.{Given, Own, Named, Corner, corner_on, has_point, logical_in, sheet_of}
 use Rattle.formula_grammar.specs.declared.symbol.Sign.TheVariants as sign
 use Rattle.formula_grammar.specs.declared.symbol.Symbol.{Symbol}
 
@@ -33,23 +36,39 @@ abbrev pub agrees : Setting → Given → Given → Bool
 agrees S first Own = true
 agrees S first (Named name) = same_sheet (sheet_given S first) (sheet_given S (Named name))
 
+-- the cell of a corner on a sheet
+abbrev pub cell_on : ℕ → Corner → Cell
+cell_on id c = record { sheet = record { 0 = id }; row = c.row; col = c.column }
+
 abbrev pub cells_between : Sheet → Corner → Corner → Referred
-cells_between (At id) c d = Listed (record {
-  sheet = record { 0 = id };
-  top = min c.row d.row;
-  left = min c.column d.column;
-  bottom = max c.row d.row;
-  right = max c.column d.column;
-})
+cells_between (At id) c d = Listed (between (cell_on id c) (cell_on id d))
 cells_between (Lost name) c d = Unlisted name
 
 -- the cells between two corners of one sheet, with their corners put in order
 abbrev pub area_between : Setting → Corner → Corner → Option Referred
 area_between S c d = if agrees S c.sheet d.sheet then Some (cells_between (sheet_given S c.sheet) c d) else None
 
+-- a sheet's name and an address, joined by the last point of a word
+pub record SpellsJoined (bytes name : List ℕ) (row column : ℕ) : Type 0 where
+  pub sheet : List ℕ
+  pub address : List ℕ
+  pub joined : bytes ≡ sheet ++ 46 ∷ address
+  pub last : has_point address ≡ false
+  pub is_sheet : SpellsSheet sheet name
+  pub is_address : IsAddress address row column
+
+-- the corner that a word outside brackets is, unless it is TRUE or FALSE: an address; or else a listed sheet's name and an
+-- address
+pub data SpellsWord (S : Setting) (bytes : List ℕ) : Corner → Type 0 where
+  address : {row column : ℕ} → logical_in bytes ≡ None → IsAddress bytes row column
+      → SpellsWord S bytes (record { sheet = Own; row = row; column = column })
+  with_sheet : {name : List ℕ} {row column id : ℕ} → logical_in bytes ≡ None → ((r c : ℕ) → IsAddress bytes r c → ⊥)
+      → SpellsJoined bytes name row column → place_in S.sheets name ≡ Some id
+      → SpellsWord S bytes (record { sheet = Named name; row = row; column = column })
+
 -- a corner outside brackets
 pub data SpellsCorner (S : Setting) : List Symbol → Corner → Type 0 where
-  word : {c : Corner} (s : Symbol) → s.sign ≡ sign.Word → word_corner S (bytes_of S s) ≡ Some c → SpellsCorner S (s ∷ []) c
+  word : {c : Corner} (s : Symbol) → s.sign ≡ sign.Word → SpellsWord S (bytes_of S s) c → SpellsCorner S (s ∷ []) c
   on_sheet : {name : List ℕ} {c : Corner} (s t u : Symbol) → sheet_of S s ≡ Some name → (t.sign ≡ sign.Exclamation) ⊎ (t.sign ≡ sign.Point)
       → u.sign ≡ sign.Word → corner_on (Named name) (address_in (bytes_of S u)) ≡ Some c → SpellsCorner S (s ∷ t ∷ u ∷ []) c
 
@@ -59,7 +78,8 @@ pub data SpellsInner (S : Setting) : List Symbol → Corner → Type 0 where
       → SpellsInner S (t ∷ u ∷ []) c
   after_sheet : {name : List ℕ} {c : Corner} (s t u : Symbol) → sheet_of S s ≡ Some name → t.sign ≡ sign.Point → u.sign ≡ sign.Word
       → corner_on (Named name) (address_in (bytes_of S u)) ≡ Some c → SpellsInner S (s ∷ t ∷ u ∷ []) c
-  split_word : {c : Corner} (s : Symbol) → s.sign ≡ sign.Word → split_corner (bytes_of S s) ≡ Some c → SpellsInner S (s ∷ []) c
+  joined_word : {name : List ℕ} {row column : ℕ} (s : Symbol) → s.sign ≡ sign.Word → SpellsJoined (bytes_of S s) name row column
+      → SpellsInner S (s ∷ []) (record { sheet = Named name; row = row; column = column })
 
 -- a reference: one corner or two, within brackets or without
 pub data SpellsReference (S : Setting) : List Symbol → Referred → Type 0 where

@@ -1,7 +1,6 @@
 -- What single symbols say: numbers, texts, errors, logicals, sheets and addresses (OpenDocument 1.2 part 2, sections 5.3 to
 -- 5.12).
 use Rattle.std.specs.Prelude.{ℕ, ◌^◌, Bool, true, false, ◌&&◌, ◌||◌, if◌then◌else◌, nat_eq, nat_lt, List, [], ◌∷◌, codes, Option, Some, None, option_map}
-use Rattle.std.specs.Option.{option_and_then}
 use Rattle.std.specs.Str.Parse.{digits_value}
 use Rattle.fractions.specs.Rational.{neg_ℚ}
 use Rattle.frac128.specs.Narrow.{is_narrow}
@@ -10,8 +9,8 @@ use Rattle.cell_refs.specs.declared.span.Span.{Span}
 use Rattle.cell_refs.specs.declared.error_kind.ErrorKind.{ErrorKind}
 use Rattle.cell_refs.specs.declared.error_kind.ErrorKind.TheVariants as kind
 use Rattle.cell_refs.specs.ErrorText.{error_text}
-use Rattle.cell_refs.specs.Address.{address_in, without_dollar}
-use Rattle.cell_refs.specs.Names.{place_in, same_letters}
+use Rattle.cell_refs.specs.Names.{same_letters}
+use Rattle.cell_refs.specs.Sheets.{sheet_in}
 use Rattle.formula_ast.specs.Tree.{Tree, Number, WideNumber}
 use Rattle.formula_grammar.specs.Symbols.{Setting, bytes_of}
 use Rattle.formula_grammar.specs.declared.symbol.Sign.{Sign}
@@ -44,10 +43,6 @@ behind_quote q (b ∷ bytes) = if nat_eq b q then bytes else []
 abbrev pub quoted_text : List ℕ → List ℕ
 quoted_text bytes = inside 34 (behind_quote 34 bytes)
 
--- the sheet's name of a symbol in single quotes, without the dollar sign before it
-abbrev pub quoted_name : List ℕ → List ℕ
-quoted_name bytes = inside 39 (behind_quote 39 (without_dollar bytes))
-
 -- the error of this name, whose letters a token of an error has as they stand here
 abbrev pub error_in : List ℕ → Option ErrorKind
 error_in bytes =
@@ -62,26 +57,14 @@ error_in bytes =
 abbrev pub logical_in : List ℕ → Option Bool
 logical_in bytes = if same_letters bytes (codes "TRUE") then Some true else if same_letters bytes (codes "FALSE") then Some false else None
 
+-- whether a point stands in a word
 abbrev pub has_point : List ℕ → Bool
 has_point [] = false
 has_point (b ∷ bytes) = nat_eq b 46 || has_point bytes
 
--- what stands before and behind the last point
-abbrev pub with_byte : ℕ → Option (List ℕ × List ℕ) → List ℕ → Option (List ℕ × List ℕ)
-with_byte b (Some p) bytes = Some (b ∷ p.0, p.1)
-with_byte b None bytes = if nat_eq b 46 then Some ([], bytes) else None
-
-abbrev pub at_last_point : List ℕ → Option (List ℕ × List ℕ)
-at_last_point [] = None
-at_last_point (b ∷ bytes) = with_byte b (at_last_point bytes) bytes
-
--- the sheet's name that a word is: it has no point, and a dollar sign before it is no part of it
-abbrev pub sheet_word : List ℕ → Option (List ℕ)
-sheet_word bytes = if has_point bytes then None else Some (without_dollar bytes)
-
 abbrev pub sheet_by : Setting → Sign → Symbol → Option (List ℕ)
-sheet_by S sign.Word s = sheet_word (bytes_of S s)
-sheet_by S sign.Quoted s = Some (quoted_name (bytes_of S s))
+sheet_by S sign.Word s = sheet_in (bytes_of S s)
+sheet_by S sign.Quoted s = sheet_in (bytes_of S s)
 sheet_by S _ s = None
 
 -- the sheet's name that a symbol is
@@ -101,27 +84,3 @@ pub record Corner : Type 0 where
 
 abbrev pub corner_on : Given → Option (ℕ × ℕ) → Option Corner
 corner_on sheet address = option_map (λ (a : ℕ × ℕ). record { sheet = sheet; row = a.0; column = a.1 }) address
-
--- a sheet's name and an address, joined by a point in one word
-abbrev pub split_corner : List ℕ → Option Corner
-split_corner bytes = option_and_then (λ (p : List ℕ × List ℕ). option_and_then (λ name. corner_on (Named name) (address_in p.1)) (sheet_word p.0)) (at_last_point bytes)
-
--- the corner, if its sheet is listed
-abbrev pub if_listed : List (List ℕ) → Given → Corner → Option Corner
-if_listed sheets Own c = Some c
-if_listed sheets (Named name) c = option_map (λ _. c) (place_in sheets name)
-
-abbrev pub or_else : Option Corner → Option Corner → Option Corner
-or_else (Some c) other = Some c
-or_else None other = other
-
-abbrev pub unless_logical : Option Bool → Option Corner → Option Corner
-unless_logical (Some b) corner = None
-unless_logical None corner = corner
-
--- the corner that a word outside brackets is, unless it is TRUE or FALSE: an address; or a listed sheet's name and an address,
--- joined by a point
-abbrev pub word_corner : Setting → List ℕ → Option Corner
-word_corner S bytes =
-    unless_logical (logical_in bytes)
-    (or_else (corner_on Own (address_in bytes)) (option_and_then (λ c. if_listed S.sheets c.sheet c) (split_corner bytes)))

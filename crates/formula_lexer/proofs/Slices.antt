@@ -4,7 +4,7 @@ use Rattle.std.specs.Prelude.{◌&&◌, ◌||◌, not, nat_eq, take_while}
 use Rattle.std.specs.Option.{option_map}
 use Rattle.std.specs.List.{prefix_len}
 use Rattle.std.proofs.lemmas.List.{drop-drop, length-take}
-use Rattle.formula_lexer.specs.Front.{Front, begins_with, digits, exponent, fault_len, first, fraction, front, front_of, goes_on_word, is_digit, is_mark, is_pair, mantissa, number_len, of_kind, quoted_len, sign, starts_number, starts_word}
+use Rattle.formula_lexer.specs.Front.{Front, begins_with, digits, exponent, fault_len, first, fraction, front, front_of, goes_on_word, is_digit, is_mark, is_pair, mantissa, number_len, of_kind, opens_name, quoted_len, sign, starts_number, starts_word, word_rest}
 use Rattle.formula_lexer.specs.Tokens.{AreSlices, Tokens, ends, blank, begins}
 use Rattle.formula_lexer.specs.declared.token.TokenKind.TheVariants as token
 use Rattle.cell_refs.specs.ErrorText.{error_text}
@@ -16,6 +16,14 @@ use Rattle.formula_lexer.proofs.Prefixes.{begins_within}
 -- what is taken is no longer than the whole
 taken_within : (test : ℕ → Bool) (bytes : List ℕ) → length (take_while test bytes) ≤ length bytes
 taken_within test bytes = omega (arith, length-take (prefix_len test bytes) bytes)
+
+word_within : (bytes : List ℕ) → word_rest bytes ≤ length bytes
+word_within [] = omega arith
+word_within (b ∷ bytes) = by (goes_on_word b && not (opens_name b (first bytes))) (word_within bytes)
+  where
+    by : (t : Bool) → word_rest bytes ≤ length bytes → (if t then suc (word_rest bytes) else 0) ≤ suc (length bytes)
+    by true h = omega (arith, h)
+    by false h = omega arith
 
 fraction_within : (bytes : List ℕ) → fraction bytes ≤ length bytes
 fraction_within [] = omega arith
@@ -131,9 +139,9 @@ front_fits b bytes =
     choice (b ∷ bytes) (starts_number b bytes) _ _ (λ e. this_long (b ∷ bytes) token.Number (number_len (b ∷ bytes)) (number_some b bytes e) (number_within (b ∷ bytes)))
     (choice (b ∷ bytes) (nat_eq b 34) _ _ (λ e. of_kind_fits (b ∷ bytes) token.Text 1 (quoted_len 34 bytes) (λ n h. (omega arith, omega (arith, quoted_within 34 n bytes h))))
     (choice (b ∷ bytes) (nat_eq b 39) _ _ (λ e. of_kind_fits (b ∷ bytes) token.Quoted 1 (quoted_len 39 bytes) (λ n h. (omega arith, omega (arith, quoted_within 39 n bytes h))))
-    (choice (b ∷ bytes) (nat_eq b 36 && nat_eq (first bytes) 39) _ _ (λ e. dollar bytes (second_true (nat_eq b 36) (nat_eq (first bytes) 39) e))
+    (choice (b ∷ bytes) (opens_name b (first bytes)) _ _ (λ e. dollar bytes (second_true (nat_eq b 36) (nat_eq (first bytes) 39) e))
     (choice (b ∷ bytes) (nat_eq b 35) _ _ (λ e. of_kind_fits (b ∷ bytes) token.Fault 0 (fault_len (b ∷ bytes)) (λ n h. let k = fault_within (b ∷ bytes) n h in (omega (arith, k.0), omega (arith, k.1))))
-    (choice (b ∷ bytes) (starts_word b) _ _ (λ e. this_long (b ∷ bytes) token.Word (suc (length (take_while goes_on_word bytes))) (omega arith) (omega (arith, taken_within goes_on_word bytes)))
+    (choice (b ∷ bytes) (starts_word b) _ _ (λ e. this_long (b ∷ bytes) token.Word (suc (word_rest bytes)) (omega arith) (omega (arith, word_within bytes)))
     (choice (b ∷ bytes) (is_pair b (first bytes)) _ _ (λ e. pair bytes e)
     (choice (b ∷ bytes) (is_mark b) _ _ (λ e. this_long (b ∷ bytes) token.Mark 1 (omega arith) (omega arith)) (no_front (b ∷ bytes)))))))))
   where

@@ -17,6 +17,11 @@ is_digit b = nat_le 48 b && nat_le b 57
 abbrev pub is_letter : ℕ → Bool
 is_letter b = (nat_le 65 b && nat_le b 90) || (nat_le 97 b && nat_le b 122) || nat_le 128 b
 
+-- the byte at the front, or 0
+abbrev pub first : List ℕ → ℕ
+first [] = 0
+first (b ∷ bytes) = b
+
 -- what a word begins with: a letter, an underscore or a dollar sign
 abbrev pub starts_word : ℕ → Bool
 starts_word b = is_letter b || nat_eq b 95 || nat_eq b 36
@@ -25,10 +30,14 @@ starts_word b = is_letter b || nat_eq b 95 || nat_eq b 36
 abbrev pub goes_on_word : ℕ → Bool
 goes_on_word b = starts_word b || is_digit b || nat_eq b 46
 
--- the byte at the front, or 0
-abbrev pub first : List ℕ → ℕ
-first [] = 0
-first (b ∷ bytes) = b
+-- a dollar sign right before a single quote, which belongs to the name in quotes
+abbrev pub opens_name : ℕ → ℕ → Bool
+opens_name b c = nat_eq b 36 && nat_eq c 39
+
+-- how far a word goes on
+abbrev pub word_rest : List ℕ → ℕ
+word_rest [] = 0
+word_rest (b ∷ bytes) = if goes_on_word b && not (opens_name b (first bytes)) then suc (word_rest bytes) else 0
 
 abbrev pub digits : List ℕ → ℕ
 digits bytes = length (take_while is_digit bytes)
@@ -109,9 +118,9 @@ front_of b bytes =
     if starts_number b bytes then Some (token.Number, number_len (b ∷ bytes))
     else if nat_eq b 34 then of_kind token.Text 1 (quoted_len 34 bytes)
     else if nat_eq b 39 then of_kind token.Quoted 1 (quoted_len 39 bytes)
-    else if nat_eq b 36 && nat_eq (first bytes) 39 then of_kind token.Quoted 2 (quoted_len 39 (drop 1 bytes))
+    else if opens_name b (first bytes) then of_kind token.Quoted 2 (quoted_len 39 (drop 1 bytes))
     else if nat_eq b 35 then of_kind token.Fault 0 (fault_len (b ∷ bytes))
-    else if starts_word b then Some (token.Word, suc (length (take_while goes_on_word bytes)))
+    else if starts_word b then Some (token.Word, suc (word_rest bytes))
     else if is_pair b (first bytes) then Some (token.Mark, 2)
     else if is_mark b then Some (token.Mark, 1)
     else None

@@ -1,8 +1,8 @@
 // The token at the front of a text.
-ghost use Rattle.std.specs.Prelude.{◌≡◌, ℕ, ◌+◌, ◌<◌, ◌≤◌, IfSome, IsTrue, drop, length, take_while};
+ghost use Rattle.std.specs.Prelude.{◌≡◌, ℕ, ◌+◌, ◌<◌, ◌≤◌, IfSome, IsTrue, drop, length};
 ghost use Rattle.cell_refs.specs.ErrorText.{error_text};
 ghost use Rattle.formula_lexer.specs.declared.token.TokenKind.TheVariants as token;
-ghost use Rattle.formula_lexer.specs.Front.{is_blank, is_digit, is_letter, starts_word, goes_on_word, digits, fraction, mantissa, exponent, sign, number_len, quoted_len, starts_number, begins_with, fault_len, first, is_pair, is_mark, of_kind, front};
+ghost use Rattle.formula_lexer.specs.Front.{is_blank, is_digit, is_letter, starts_word, goes_on_word, opens_name, word_rest, digits, fraction, mantissa, exponent, sign, number_len, quoted_len, starts_number, begins_with, fault_len, first, is_pair, is_mark, of_kind, front};
 
 use crate::token::TokenKind;
 use cell_refs::ErrorKind;
@@ -38,11 +38,24 @@ fn digits(bytes: &[u8]) -> usize
     bytes.iter().take_while(|b| is_digit(**b)).count()
 }
 
+// A dollar sign right before a single quote.
+fn opens_name(b: u8, c: u8) -> bool
+    ensures { result ≡ opens_name b c }
+{
+    b == b'$' && c == b'\''
+}
+
+// How far a word goes on, which ends before a sheet's name in quotes.
 fn word_rest(bytes: &[u8]) -> usize
-    ensures count { result ≡ length (take_while goes_on_word bytes.now) }
+    ensures count { result ≡ word_rest bytes.now }
     ensures within { result ≤ length bytes.now }
 {
-    bytes.iter().take_while(|b| goes_on_word(**b)).count()
+    for (at, b) in bytes.iter().enumerate() {
+        if !goes_on_word(*b) || opens_name(*b, first(&bytes[at + 1..])) {
+            return at;
+        }
+    }
+    bytes.len()
 }
 
 fn fraction(bytes: &[u8]) -> usize
@@ -217,7 +230,7 @@ pub fn front(bytes: &[u8]) -> Option<(TokenKind, usize)>
                 quoted(TokenKind::Text, b'"', rest)
             } else if *b == b'\'' {
                 quoted(TokenKind::Quoted, b'\'', rest)
-            } else if *b == b'$' && first(rest) == b'\'' {
+            } else if opens_name(*b, first(rest)) {
                 dollar_quoted(rest)
             } else if *b == b'#' {
                 Some((TokenKind::Fault, fault_len(bytes)?))

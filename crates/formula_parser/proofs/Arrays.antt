@@ -3,7 +3,7 @@ use Rattle.std.proofs.Common.{◌≡◌, ℕ, zero, suc, ◌*◌, ◌<◌, ◌�
 use Rattle.std.specs.Prelude.{IfSome, is_none}
 use Rattle.std.specs.Option.{option_map, option_and_then}
 use Rattle.cell_refs.specs.declared.span.Span.{Span}
-use Rattle.formula_ast.specs.Sound.{AreSoundWithin, IsRectangular, IsWithin}
+use Rattle.formula_ast.specs.Sound.{AreSoundWithin, IsRectangular, IsWithin, count as count_of}
 use Rattle.formula_ast.specs.Tree.{Tree, Array, span_of, trees}
 use Rattle.formula_ast.proofs.Parts.{count-trees}
 use Rattle.formula_grammar.specs.declared.symbol.Sign.{Sign}
@@ -23,7 +23,7 @@ use Rattle.formula_parser.specs.Built.{branch, branch_of, is_whole}
 use Rattle.formula_parser.specs.Given.{Fails, next_where}
 use Rattle.formula_parser.specs.Leaves.{all_items, leaf_found, rows_at, rows_found}
 use Rattle.formula_parser.specs.Placed.{AreSymbols, InOrder, IsInFront, IsInText}
-use Rattle.formula_parser.proofs.Items.{AreFrom, array_branch, items_are, items_wider, rows_stand}
+use Rattle.formula_parser.proofs.Items.{AreConstants, AreFrom, AreWithin, array_branch, items_are, items_wider, kept_are_items, kept_are_sound, rows_stand}
 use Rattle.formula_parser.proofs.Order.{first_behind, first_is, sign_first}
 use Rattle.formula_parser.proofs.Steps.{fails_first}
 use Rattle.formula_parser.proofs.Turning.{fails_rows, leaf_found_fails, rows_mapped}
@@ -137,9 +137,12 @@ module _ (S : Setting) where
         pub forward : s.span.start ≤ last.span.end
         pub few_rows : count ≤ last.span.end
         pub few_columns : columns ≤ last.span.end
-        pub rectangular : IsRectangular count columns (trees xs)
+        pub some_rows : 0 < count
+        pub some_columns : 0 < columns
+        pub size : count_of (trees xs) ≡ count * columns
+        pub literals : AreConstants xs
         pub some : 0 < length xs
-        pub within : AreSoundWithin (from_to s.span last.span) (trees xs)
+        pub within : AreWithin (from_to s.span last.span) xs
         pub behind : InOrder last.span.end after
 
       -- where the items stand
@@ -163,7 +166,10 @@ module _ (S : Setting) where
             forward = omega arith;
             few_rows = omega arith;
             few_columns = omega arith;
-            rectangular = record { some_rows = k.some_rows; some_columns = k.some_columns; size = count-trees xs ∙ size; literals = k.items.literals };
+            some_rows = k.some_rows;
+            some_columns = k.some_columns;
+            size = count-trees xs ∙ size;
+            literals = k.items.literals;
             some = k.items.some;
             within = items_wider (record { start = s.span.end; end = stand.last }) (from_to s.span last.span) xs (omega arith) (omega arith) stand.within;
             behind = before.1;
@@ -181,17 +187,22 @@ module _ (S : Setting) where
       array_few = (array_stands.few_rows, array_stands.few_columns)
 
       -- what holds of the items holds of the trees in memory
-      kept_items : (P : List Tree → Type 0) {V : Type 0} (items : V → List Tree) (o : Option V) → option_map items o ≡ exprs → P array_read.items → IfSome o (λ v. P (items v))
+      kept_items : (P : List Tree → Type 0) {V : Type 0} (items : V → List Tree) (o : Option V) → option_map items o ≡ exprs → (is_none (all_items array_read.items) ≡ false → P array_read.items) → IfSome o (λ v. P (items v))
       kept_items P items None is h = tt
-      kept_items P items (Some v) is h = subst P (items_are array_read.items (items v) (sym (is ∙ array_read.exprs_are))) h
+      kept_items P items (Some v) is h = let e = sym (is ∙ array_read.exprs_are) in subst P (items_are array_read.items (items v) e) (h (ap is_none e))
 
       -- the array is rectangular
       pub array_rectangular : {V : Type 0} (items : V → List Tree) (o : Option V) → option_map items o ≡ exprs → IfSome o (λ v. IsRectangular count columns (trees (items v)))
-      array_rectangular items o is = kept_items (λ xs. IsRectangular count columns (trees xs)) items o is array_stands.rectangular
+      array_rectangular items o is = kept_items (λ xs. IsRectangular count columns (trees xs)) items o is (λ kept. record {
+        some_rows = array_stands.some_rows;
+        some_columns = array_stands.some_columns;
+        size = array_stands.size;
+        literals = kept_are_items array_read.items kept array_stands.literals;
+      })
 
       -- its items stand between the braces
       pub array_within : {V : Type 0} (items : V → List Tree) (o : Option V) → option_map items o ≡ exprs → IfSome o (λ v. AreSoundWithin (from_to s.span last.span) (trees (items v)))
-      array_within items o is = kept_items (λ xs. AreSoundWithin (from_to s.span last.span) (trees xs)) items o is array_stands.within
+      array_within items o is = kept_items (λ xs. AreSoundWithin (from_to s.span last.span) (trees xs)) items o is (λ kept. kept_are_sound (from_to s.span last.span) array_read.items kept array_stands.literals array_stands.within)
 
       -- the branch over the trees in memory
       over_items : {V : Type 0} (items : V → List Tree) (o : Option V)
@@ -207,7 +218,7 @@ module _ (S : Setting) where
       array_gives items o is p made place =
           let r = array_read in
           let at = from_to s.span last.span in
-          let whole : p.branch ≡ branch_of (Array at count columns (trees r.items)) = made ∙ over_items items o ∙ array_branch at count columns r.items array_stands.rectangular.literals array_stands.some (option_map items o) (is ∙ r.exprs_are) in
+          let whole : p.branch ≡ branch_of (Array at count columns (trees r.items)) = made ∙ over_items items o ∙ array_branch at count columns r.items array_stands.literals array_stands.some (option_map items o) (is ∙ r.exprs_are) in
           ap leaf_found
           (array_is s ss
           ∙ ap (option_and_then (with_brace s)) r.read

@@ -1,12 +1,12 @@
 -- Tokens begin and end between characters.
 use Rattle.std.proofs.Common.{◌≡◌, ◌⊎◌, ℕ, zero, suc, ◌+◌, ◌-◌, ◌<◌, ◌≤◌, Bool, true, false, cond, List, [], ◌∷◌, length, drop, get_or, Option, Some, None, refl, sym, ap, subst, ◌∙◌, inl, inr, arith, if◌then◌else◌, length-drop, get_or-drop, add-one}
-use Rattle.std.specs.Prelude.{◌&&◌, ◌||◌, not, nat_eq, take_while}
+use Rattle.std.specs.Prelude.{◌&&◌, ◌||◌, not, nat_eq}
 use Rattle.std.specs.Str.{IsCharBoundary, IsUtf8}
 use Rattle.std.specs.List.{prefix_len}
 use Rattle.std.specs.Option.{option_map}
 use Rattle.std.proofs.lemmas.List.{drop-drop}
 use Rattle.std.proofs.lemmas.List.Folds.{length-prefix_len}
-use Rattle.std.proofs.lemmas.List.Sums.{prefix_len-le-length, prefix_len_passes, prefix_len_stops}
+use Rattle.std.proofs.lemmas.List.Sums.{prefix_len_passes}
 use Rattle.std.proofs.lemmas.Bool.Decides.{nat_tests}
 use Rattle.std.proofs.lemmas.Str.{IsCharBoundary-after_ascii, IsCharBoundary-before_ascii, IsCharBoundary-end, IsCharBoundary-start}
 use Rattle.cell_refs.specs.ErrorText.{error_text}
@@ -14,7 +14,7 @@ use Rattle.cell_refs.specs.declared.error_kind.ErrorKind.TheVariants as kind
 use Rattle.formula_lexer.specs.declared.token.Token.{Token}
 use Rattle.formula_lexer.specs.declared.token.TokenKind.{TokenKind}
 use Rattle.formula_lexer.specs.declared.token.TokenKind.TheVariants as token
-use Rattle.formula_lexer.specs.Front.{Front, begins_with, digits, exponent, fault_len, first, fraction, front, front_of, goes_on_word, is_blank, is_digit, is_mark, is_pair, mantissa, number_len, of_kind, quoted_len, sign, starts_number, starts_word}
+use Rattle.formula_lexer.specs.Front.{Front, begins_with, digits, exponent, fault_len, first, fraction, front, front_of, goes_on_word, is_blank, is_digit, is_mark, is_pair, mantissa, number_len, of_kind, opens_name, quoted_len, sign, starts_number, starts_word, word_rest}
 use Rattle.formula_lexer.specs.Tokens.{Tokens, ends, blank, begins}
 use Rattle.formula_lexer.proofs.Slices.{front_fits}
 use Rattle.std.specs.Prelude.{All}
@@ -209,20 +209,28 @@ faults_cut bytes n h = by (begins_with (error_text kind.Div0) bytes) (begins_wit
 other_ascii : (b : ℕ) → goes_on_word b ≡ false → b < 128
 other_ascii b h = grind (arith, nat_tests)
 
-word_cut : (b : ℕ) (bytes : List ℕ) → Cut (b ∷ bytes) (suc (length (take_while goes_on_word bytes)))
-word_cut b bytes = by (below_or (prefix_len goes_on_word bytes) (length bytes) (prefix_len-le-length goes_on_word bytes))
-  where
-    below_or : (n m : ℕ) → n ≤ m → (n < m) ⊎ (n ≡ m)
-    below_or zero zero h = inr refl
-    below_or zero (suc m) h = inl (omega arith)
-    below_or (suc n) zero h = absurd (omega arith)
-    below_or (suc n) (suc m) h = elim (below_or n m (omega arith)) [ inl k ↦ inl (omega arith) | inr k ↦ inr (ap suc k) ]
+opens_ascii : (b c : ℕ) → opens_name b c ≡ true → b < 128
+opens_ascii b c h = grind (arith, nat_tests)
 
-    by : (prefix_len goes_on_word bytes < length bytes) ⊎ (prefix_len goes_on_word bytes ≡ length bytes) → Cut (b ∷ bytes) (suc (length (take_while goes_on_word bytes)))
-    by (inl lt) =
-        let same : suc (prefix_len goes_on_word bytes) ≡ suc (length (take_while goes_on_word bytes)) = ap suc (sym (length-prefix_len goes_on_word bytes)) in
-        subst (Cut (b ∷ bytes)) same (before (omega arith) (other_ascii (get_or bytes (prefix_len goes_on_word bytes) 0) (prefix_len_stops goes_on_word bytes 0 lt)))
-    by (inr is) = at_end (omega (arith, length-prefix_len goes_on_word bytes))
+abbrev WordEnds : List ℕ → ℕ → Type 0
+WordEnds bytes n = ((n < length bytes) × (get_or bytes n 0 < 128)) ⊎ (n ≡ length bytes)
+
+word_ends : (bytes : List ℕ) → WordEnds bytes (word_rest bytes)
+word_ends [] = inr refl
+word_ends (b ∷ bytes) = by (goes_on_word b) (opens_name b (first bytes)) refl refl (word_ends bytes)
+  where
+    by : (t u : Bool) → goes_on_word b ≡ t → opens_name b (first bytes) ≡ u → WordEnds bytes (word_rest bytes) → WordEnds (b ∷ bytes) (if t && not u then suc (word_rest bytes) else 0)
+    by true false e f (inl h) = inl (omega (arith, h.0), h.1)
+    by true false e f (inr h) = inr (ap suc h)
+    by true true e f h = inl (omega arith, opens_ascii b (first bytes) f)
+    by false u e f h = inl (omega arith, other_ascii b e)
+
+word_cut : (b : ℕ) (bytes : List ℕ) → Cut (b ∷ bytes) (suc (word_rest bytes))
+word_cut b bytes = by (word_ends bytes)
+  where
+    by : WordEnds bytes (word_rest bytes) → Cut (b ∷ bytes) (suc (word_rest bytes))
+    by (inl h) = before (omega (arith, h.0)) h.1
+    by (inr is) = at_end (ap suc is)
 
 mark_ascii : (b : ℕ) → is_mark b ≡ true → b < 128
 mark_ascii b h = grind (arith, nat_tests)
@@ -237,9 +245,9 @@ front_cuts b bytes =
     this_long (b ∷ bytes) token.Number (number_len (b ∷ bytes)) (behind k.0 k.1 (number_ascii (b ∷ bytes) (number_len (b ∷ bytes) - 1) (omega (arith, k.0)))))
     (λ _. choice (b ∷ bytes) (nat_eq b 34) _ _ (λ e. of_kind_cuts (b ∷ bytes) token.Text 1 (quoted_len 34 bytes) (λ n h. quote_cut 34 1 n bytes (b ∷ bytes) (omega arith) refl (omega arith) h))
     (λ _. choice (b ∷ bytes) (nat_eq b 39) _ _ (λ e. of_kind_cuts (b ∷ bytes) token.Quoted 1 (quoted_len 39 bytes) (λ n h. quote_cut 39 1 n bytes (b ∷ bytes) (omega arith) refl (omega arith) h))
-    (λ _. choice (b ∷ bytes) (nat_eq b 36 && nat_eq (first bytes) 39) _ _ (λ e. dollar bytes (both (nat_eq b 36) (nat_eq (first bytes) 39) e).1)
+    (λ _. choice (b ∷ bytes) (opens_name b (first bytes)) _ _ (λ e. dollar bytes (both (nat_eq b 36) (nat_eq (first bytes) 39) e).1)
     (λ _. choice (b ∷ bytes) (nat_eq b 35) _ _ (λ e. of_kind_cuts (b ∷ bytes) token.Fault 0 (fault_len (b ∷ bytes)) (λ n h. subst (Cut (b ∷ bytes)) (let z : n ≡ 0 + n = omega arith in z) (faults_cut (b ∷ bytes) n h)))
-    (λ _. choice (b ∷ bytes) (starts_word b) _ _ (λ e. this_long (b ∷ bytes) token.Word (suc (length (take_while goes_on_word bytes))) (word_cut b bytes))
+    (λ _. choice (b ∷ bytes) (starts_word b) _ _ (λ e. this_long (b ∷ bytes) token.Word (suc (word_rest bytes)) (word_cut b bytes))
     (λ _. choice (b ∷ bytes) (is_pair b (first bytes)) _ _ (λ e. pair bytes e)
     (λ _. choice (b ∷ bytes) (is_mark b) _ _ (λ e. this_long (b ∷ bytes) token.Mark 1 (behind (omega arith) (omega arith) (mark_ascii b e))) (λ _. no_front (b ∷ bytes)))))))))
   where
@@ -247,9 +255,9 @@ front_cuts b bytes =
     others =
         if nat_eq b 34 then of_kind token.Text 1 (quoted_len 34 bytes)
         else if nat_eq b 39 then of_kind token.Quoted 1 (quoted_len 39 bytes)
-        else if nat_eq b 36 && nat_eq (first bytes) 39 then of_kind token.Quoted 2 (quoted_len 39 (drop 1 bytes))
+        else if opens_name b (first bytes) then of_kind token.Quoted 2 (quoted_len 39 (drop 1 bytes))
         else if nat_eq b 35 then of_kind token.Fault 0 (fault_len (b ∷ bytes))
-        else if starts_word b then Some (token.Word, suc (length (take_while goes_on_word bytes)))
+        else if starts_word b then Some (token.Word, suc (word_rest bytes))
         else if is_pair b (first bytes) then Some (token.Mark, 2)
         else if is_mark b then Some (token.Mark, 1)
         else None

@@ -7,7 +7,8 @@ use Rattle.formula_grammar.specs.declared.symbol.Sign.{Sign}
 use Rattle.formula_grammar.specs.declared.symbol.Sign.TheVariants as sign
 use Rattle.formula_grammar.specs.declared.symbol.Symbol.{Symbol}
 use Rattle.formula_grammar.specs.Symbols.{Setting, bytes_of}
-use Rattle.formula_grammar.specs.Words.{Given, Named, Corner, corner_on, sheet_of, split_corner, word_corner}
+use Rattle.formula_grammar.specs.Words.{Given, Named, Corner, corner_on, sheet_of}
+use Rattle.formula_grammar.specs.WordReading.{split_corner, word_corner}
 use Rattle.formula_grammar.specs.Loops.{Found, Reader}
 use Rattle.formula_grammar.specs.References.{area_between}
 use Rattle.formula_grammar.specs.LeafReading.{is_word, is_point, is_sheet_mark, is_colon, is_close_square, one_at, starts_with, address_at, behind_sheet_at, corner_by, corner_at, inner_by, inner_at, second_at, brackets_at, plain_at, reference_by, reference_at}
@@ -17,7 +18,7 @@ use Rattle.formula_parser.specs.Given.{Fails, Gives}
 use Rattle.formula_parser.specs.Leaves.{area_of}
 use Rattle.formula_parser.proofs.Steps.{fails_first}
 use Rattle.formula_grammar.proofs.Turns.{some_is}
-use Rattle.cell_refs.specs.declared.cell.Area.{Area}
+use Rattle.cell_refs.specs.Areas.{Area}
 
 -- the same is given where the reading is the same
 pub gives_as : {X Y : Type 0} (view : X → Y) (result : Result X stopped.Stop) (read same : Option Y) → Gives view result read → same ≡ read → Gives view result same
@@ -226,6 +227,13 @@ module _ (S : Setting) (corner : Reader Corner) (c : Corner) (ss : List Symbol) 
       by None = refl
       by (Some r) = refl
 
+-- the area, where a closing bracket stands in front
+abbrev pub closing : Option Area → List Symbol → Option (Option Area × List Symbol)
+closing area ss = option_map (λ t. (area, t.1)) (one_at is_close_square ss)
+
+pub over_closing : {o p : Option (Symbol × List Symbol)} (area : Option Area) → o ≡ p → option_map {U = Option Area × List Symbol} (λ t. (area, t.1)) o ≡ option_map (λ t. (area, t.1)) p
+over_closing area e = ap (λ o. option_map (λ (t : Symbol × List Symbol). (area, t.1)) o) e
+
 module _ (S : Setting) (ss : List Symbol) where
   pub plain_fails : (e : stopped.Stop) → Fails e (corner_at S ss) → Fails e (with_area (plain_at S ss))
   unfolding plain_at
@@ -252,27 +260,19 @@ module _ (S : Setting) (ss : List Symbol) where
   brackets_fail_second c rest stops.Memory h f = tt
   brackets_fail_second c rest stops.Syntax h f = ap with_area (inner_there c rest h ∙ ap (option_and_then closed) (none_view (λ (f : Referred × List Symbol). (area_of f.0, f.1)) _ f))
 
-  pub brackets_open : (c : Corner) (rest : List Symbol) (area : Option Area) (after : List Symbol) → inner_at S ss ≡ Some (c, rest) → with_area (second_at S (inner_at S) c rest) ≡ Some (area, after) → one_at is_close_square after ≡ None → with_area (brackets_at S ss) ≡ None
-  brackets_open c rest area after h k t = ap with_area (inner_there c rest h) ∙ by (second_at S (inner_at S) c rest) k
+  pub brackets_then : (c : Corner) (rest : List Symbol) (area : Option Area) (after : List Symbol) → inner_at S ss ≡ Some (c, rest) → with_area (second_at S (inner_at S) c rest) ≡ Some (area, after)
+      → with_area (brackets_at S ss) ≡ closing area after
+  brackets_then c rest area after h k = ap with_area (inner_there c rest h) ∙ by (second_at S (inner_at S) c rest) k
     where
-      by : (o : Found Referred) → with_area o ≡ Some (area, after) → with_area (option_and_then closed o) ≡ None
-      by None e = absurd cc
-      by (Some r) e =
-          let same : r.1 ≡ after = ap (λ (f : Option Area × List Symbol). f.1) (some_is (area_of r.0, r.1) (area, after) e) in
-          ap (λ l. with_area (option_and_then (λ (t : Symbol × List Symbol). Some (r.0, t.1)) (one_at is_close_square l))) same
-          ∙ ap (λ o. with_area (option_and_then (λ (t : Symbol × List Symbol). Some (r.0, t.1)) o)) t
+      over : (r : Referred) (o : Option (Symbol × List Symbol)) → with_area (option_and_then (λ (t : Symbol × List Symbol). Some (r, t.1)) o) ≡ option_map (λ (t : Symbol × List Symbol). (area_of r, t.1)) o
+      over r None = refl
+      over r (Some t) = refl
 
-  pub brackets_closed : (c : Corner) (rest : List Symbol) (area : Option Area) (after : List Symbol) (t : Symbol) (others : List Symbol) → inner_at S ss ≡ Some (c, rest) → with_area (second_at S (inner_at S) c rest) ≡ Some (area, after)
-      → one_at is_close_square after ≡ Some (t, others) → with_area (brackets_at S ss) ≡ Some (area, others)
-  brackets_closed c rest area after t others h k there = ap with_area (inner_there c rest h) ∙ by (second_at S (inner_at S) c rest) k
-    where
-      by : (o : Found Referred) → with_area o ≡ Some (area, after) → with_area (option_and_then closed o) ≡ Some (area, others)
+      by : (o : Found Referred) → with_area o ≡ Some (area, after) → with_area (option_and_then closed o) ≡ closing area after
       by None e = absurd cc
       by (Some r) e =
           let both : (area_of r.0, r.1) ≡ (area, after) = some_is (area_of r.0, r.1) (area, after) e in
-          ap (λ l. with_area (option_and_then (λ (t : Symbol × List Symbol). Some (r.0, t.1)) (one_at is_close_square l))) (ap (λ (f : Option Area × List Symbol). f.1) both)
-          ∙ ap (λ o. with_area (option_and_then (λ (t : Symbol × List Symbol). Some (r.0, t.1)) o)) there
-          ∙ ap (λ (f : Option Area × List Symbol). Some (f.0, others)) both
+          over r.0 (one_at is_close_square r.1) ∙ ap (λ (f : Option Area × List Symbol). closing f.0 f.1) both
 
   pub reference_none : ss ≡ [] → reference_at S ss ≡ None
   unfolding reference_at

@@ -5,7 +5,7 @@ use Rattle.std.specs.Option.{option_map, option_and_then}
 use Rattle.std.proofs.lemmas.List.Elements.{All-head, All-tail}
 use Rattle.cell_refs.specs.declared.span.Span.{Span}
 use Rattle.formula_ast.specs.Measures.{height_of, greatest_height}
-use Rattle.formula_ast.specs.Sound.{AreItems, AreSoundWithin, IsItem, IsSound}
+use Rattle.formula_ast.specs.Sound.{AreItems, AreSoundWithin, IsForward, IsItem, IsSound, IsWithin}
 use Rattle.formula_ast.specs.Tree.{Tree, Array, Number, WideNumber, span_of, trees}
 use Rattle.formula_ast.specs.Tree as tree
 use Rattle.fractions.specs.Rational.{neg_ℚ}
@@ -23,44 +23,60 @@ use Rattle.formula_parser.specs.Placed.{InOrder, IsInText}
 
 -- ---- one item
 
+-- a constant as it is spelled: a number, narrow or not, a text or a logical
+abbrev pub IsConstant : Tree → Type 0
+IsConstant (tree.Number at x) = Unit {0}
+IsConstant (tree.WideNumber at x) = Unit {0}
+IsConstant (tree.Text at t) = Unit {0}
+IsConstant (tree.Logical at b) = Unit {0}
+IsConstant _ = ⊥
+
+abbrev pub AreConstants : List Tree → Type 0
+AreConstants [] = Unit {0}
+AreConstants (x ∷ xs) = IsConstant x × AreConstants xs
+
+-- spans that lie within another
+abbrev pub AreWithin : Span → List Tree → Type 0
+AreWithin outer [] = Unit {0}
+AreWithin outer (x ∷ xs) = IsWithin (span_of x) outer × IsForward (span_of x) × AreWithin outer xs
+
 -- an item that stands in a place
 record IsItemAt (at : Span) (x : Tree) : Type 0 where
-  pub item : IsItem x
+  pub item : IsConstant x
   pub place : span_of x ≡ at
-  pub sound : at.start ≤ at.end → IsSound x
 
 -- a number is one, narrow or not
 number_at : (at : Span) (n : Numeral) → IsItemAt at (number_tree at n)
 number_at at n = by_case (is_narrow_numeral n)
   where
     by_case : (b : Bool) → IsItemAt at (cond b (Number at (value n)) (WideNumber at (value n)))
-    by_case true = record { item = tt; place = refl; sound = λ h. h }
-    by_case false = record { item = tt; place = refl; sound = λ h. h }
+    by_case true = record { item = tt; place = refl }
+    by_case false = record { item = tt; place = refl }
 
 -- so is one behind a minus
 negative_at : (at : Span) (n : Numeral) → IsItemAt at (negative_tree at n)
 negative_at at n = by_case (is_narrow_numeral n)
   where
     by_case : (b : Bool) → IsItemAt at (cond b (Number at (neg_ℚ (value n))) (WideNumber at (neg_ℚ (value n))))
-    by_case true = record { item = tt; place = refl; sound = λ h. h }
-    by_case false = record { item = tt; place = refl; sound = λ h. h }
+    by_case true = record { item = tt; place = refl }
+    by_case false = record { item = tt; place = refl }
 
 -- ---- items one after the other
 
 -- items are literals
-are_items : (xs ys : List Tree) → AreItems (trees xs) → AreItems (trees ys) → AreItems (trees (xs ++ ys))
+are_items : (xs ys : List Tree) → AreConstants xs → AreConstants ys → AreConstants (xs ++ ys)
 are_items [] ys h k = k
 are_items (x ∷ xs) ys h k = (h.0, are_items xs ys h.1 k)
 
 -- items within a place lie within a wider one
-pub items_wider : (inner outer : Span) (xs : List Tree) → outer.start ≤ inner.start → inner.end ≤ outer.end → AreSoundWithin inner (trees xs) → AreSoundWithin outer (trees xs)
+pub items_wider : (inner outer : Span) (xs : List Tree) → outer.start ≤ inner.start → inner.end ≤ outer.end → AreWithin inner xs → AreWithin outer xs
 items_wider inner outer [] first last h = tt
 items_wider inner outer (x ∷ xs) first last h =
     let a = h.0.start in let b = h.0.end in
     (record { start = omega arith; end = omega arith }, h.1, items_wider inner outer xs first last h.2)
 
 -- items of both lists lie within a place
-items_within : (at : Span) (xs ys : List Tree) → AreSoundWithin at (trees xs) → AreSoundWithin at (trees ys) → AreSoundWithin at (trees (xs ++ ys))
+items_within : (at : Span) (xs ys : List Tree) → AreWithin at xs → AreWithin at ys → AreWithin at (xs ++ ys)
 items_within at [] ys h k = k
 items_within at (x ∷ xs) ys h k = (h.0, h.1, items_within at xs ys h.2 k)
 
@@ -81,12 +97,12 @@ from_first text from s ss are = (
 pub record Stand (text : List ℕ) (from : ℕ) (xs : List Tree) (rest : List Symbol) : Type 0 where
   pub last : ℕ
   pub order : from + length xs ≤ last
-  pub within : AreSoundWithin (record { start = from; end = last }) (trees xs)
+  pub within : AreWithin (record { start = from; end = last }) xs
   pub ends : AreFrom text last rest
 
 -- what items of an array are, and where they stand
 pub record AreStanding (text : List ℕ) (used : List Symbol) (xs : List Tree) : Type 0 where
-  pub literals : AreItems (trees xs)
+  pub literals : AreConstants xs
   pub some : 0 < length xs
   pub few : length xs ≤ length used
   pub stand : (from : ℕ) (rest : List Symbol) → AreFrom text from (used ++ rest) → Stand text from xs rest
@@ -104,7 +120,7 @@ one_symbol text s x is = record {
       let q : (span_of x).end ≡ s.span.end = ap (λ (p : Span). p.end) is.place in record {
         last = s.span.end;
         order = omega arith;
-        within = (record { start = omega arith; end = omega arith }, is.sound (omega arith), tt);
+        within = (record { start = omega arith; end = omega arith }, omega arith, tt);
         ends = f.2;
       };
 }
@@ -123,7 +139,7 @@ two_symbols text s t x is = record {
       let q : (span_of x).end ≡ t.span.end = ap (λ (p : Span). p.end) is.place in record {
         last = t.span.end;
         order = omega arith;
-        within = (record { start = omega arith; end = omega arith }, is.sound (omega arith), tt);
+        within = (record { start = omega arith; end = omega arith }, omega arith, tt);
         ends = g.2;
       };
 }
@@ -133,8 +149,8 @@ item_stands : (text : List ℕ) {S : Setting} {a : List Symbol} {x : Tree} → S
 item_stands text (arrays.number {n = n} s is h) = one_symbol text s (number_tree s.span n) (number_at s.span n)
 item_stands text (arrays.positive {n = n} s t is k h) = two_symbols text s t (number_tree (from_to s.span t.span) n) (number_at (from_to s.span t.span) n)
 item_stands text (arrays.negative {n = n} s t is k h) = two_symbols text s t (negative_tree (from_to s.span t.span) n) (negative_at (from_to s.span t.span) n)
-item_stands text (arrays.text s is) = one_symbol text s _ (record { item = tt; place = refl; sound = λ h. h })
-item_stands text (arrays.logical s is h) = one_symbol text s _ (record { item = tt; place = refl; sound = λ h. h })
+item_stands text (arrays.text s is) = one_symbol text s _ (record { item = tt; place = refl })
+item_stands text (arrays.logical s is h) = one_symbol text s _ (record { item = tt; place = refl })
 
 -- items, a mark and other items
 both_stand : (text : List ℕ) (a b : List Symbol) (s : Symbol) (xs ys : List Tree) → AreStanding text a xs → AreStanding text b ys → AreStanding text (a ++ s ∷ b) (xs ++ ys)
@@ -190,7 +206,7 @@ rows_stand text (arrays.next_row {a = a} {b = b} {rows = rows} {columns = column
 -- ---- the branch of an array
 
 -- an item alone is as high as one level
-one_level : (x : Tree) → IsItem x → height_of x ≡ 1
+one_level : (x : Tree) → IsConstant x → height_of x ≡ 1
 one_level (tree.Number at v) h = refl
 one_level (tree.WideNumber at v) h = refl
 one_level (tree.Text at t) h = refl
@@ -198,13 +214,13 @@ one_level (tree.Logical at b) h = refl
 one_level _ h = absurd h
 
 -- so are items
-items_level : (xs : List Tree) → AreItems (trees xs) → 0 < length xs → greatest_height (trees xs) ≡ 1
+items_level : (xs : List Tree) → AreConstants xs → 0 < length xs → greatest_height (trees xs) ≡ 1
 items_level [] h some = absurd (omega arith)
 items_level (x ∷ []) h some = let e = one_level x h.0 in omega arith
 items_level (x ∷ y ∷ xs) h some = let e = one_level x h.0 in let d = items_level (y ∷ xs) h.1 (omega arith) in omega arith
 
 -- no item has a part of which a test holds that holds of no item
-has_none : (test : Tree → Bool) → ((x : Tree) → IsItem x → test x ≡ false) → (x : Tree) → IsItem x → has_part test x ≡ false
+has_none : (test : Tree → Bool) → ((x : Tree) → IsConstant x → test x ≡ false) → (x : Tree) → IsConstant x → has_part test x ≡ false
 has_none test none (tree.Number at v) h = none (tree.Number at v) tt
 has_none test none (tree.WideNumber at v) h = none (tree.WideNumber at v) tt
 has_none test none (tree.Text at t) h = none (tree.Text at t) tt
@@ -212,12 +228,12 @@ has_none test none (tree.Logical at b) h = none (tree.Logical at b) tt
 has_none test none _ h = absurd h
 
 -- nor have items
-have_none : (test : Tree → Bool) → ((x : Tree) → IsItem x → test x ≡ false) → (xs : List Tree) → AreItems (trees xs) → have_part test (trees xs) ≡ false
+have_none : (test : Tree → Bool) → ((x : Tree) → IsConstant x → test x ≡ false) → (xs : List Tree) → AreConstants xs → have_part test (trees xs) ≡ false
 have_none test none [] h = refl
 have_none test none (x ∷ xs) h = ap (λ b. b || have_part test (trees xs)) (has_none test none x h.0) ∙ have_none test none xs h.1
 
 -- no item is lost
-none_lost : (x : Tree) → IsItem x → is_lost x ≡ false
+none_lost : (x : Tree) → IsConstant x → is_lost x ≡ false
 none_lost (tree.Number at v) h = refl
 none_lost (tree.WideNumber at v) h = refl
 none_lost (tree.Text at t) h = refl
@@ -225,7 +241,7 @@ none_lost (tree.Logical at b) h = refl
 none_lost _ h = absurd h
 
 -- nor miscounted
-none_miscounted : (x : Tree) → IsItem x → is_miscounted x ≡ false
+none_miscounted : (x : Tree) → IsConstant x → is_miscounted x ≡ false
 none_miscounted (tree.Number at v) h = refl
 none_miscounted (tree.WideNumber at v) h = refl
 none_miscounted (tree.Text at t) h = refl
@@ -239,7 +255,7 @@ none_of x (Some u) None = refl
 none_of x (Some u) (Some us) = refl
 
 -- an item is wide where it has no tree
-wide_one : (x : Tree) → IsItem x → has_part is_wide x ≡ is_none (item_of x)
+wide_one : (x : Tree) → IsConstant x → has_part is_wide x ≡ is_none (item_of x)
 wide_one (tree.Number at v) h = refl
 wide_one (tree.WideNumber at v) h = refl
 wide_one (tree.Text at t) h = refl
@@ -247,12 +263,43 @@ wide_one (tree.Logical at b) h = refl
 wide_one _ h = absurd h
 
 -- so are items
-wide_items : (xs : List Tree) → AreItems (trees xs) → have_part is_wide (trees xs) ≡ is_none (all_items xs)
+wide_items : (xs : List Tree) → AreConstants xs → have_part is_wide (trees xs) ≡ is_none (all_items xs)
 wide_items [] h = refl
 wide_items (x ∷ xs) h =
     ap (λ b. b || have_part is_wide (trees xs)) (wide_one x h.0)
     ∙ ap (λ b. is_none (item_of x) || b) (wide_items xs h.1)
     ∙ none_of x (item_of x) (all_items xs)
+
+-- a constant that is kept is an item
+narrow_item : (x : Tree) → IsConstant x → is_none (item_of x) ≡ false → IsItem x
+narrow_item (tree.Number at v) h e = tt
+narrow_item (tree.WideNumber at v) h e = absurd cc
+narrow_item (tree.Text at t) h e = tt
+narrow_item (tree.Logical at b) h e = tt
+narrow_item _ h e = absurd h
+
+narrow_sound : (x : Tree) → IsConstant x → is_none (item_of x) ≡ false → IsForward (span_of x) → IsSound x
+narrow_sound (tree.Number at v) h e f = f
+narrow_sound (tree.WideNumber at v) h e f = absurd cc
+narrow_sound (tree.Text at t) h e f = f
+narrow_sound (tree.Logical at b) h e f = f
+narrow_sound _ h e f = absurd h
+
+-- where all are kept, each is
+each_kept : (x : Tree) (xs : List Tree) → is_none (all_items (x ∷ xs)) ≡ false → (is_none (item_of x) ≡ false) × (is_none (all_items xs) ≡ false)
+each_kept x xs e = both_false (is_none (item_of x)) (is_none (all_items xs)) (none_of x (item_of x) (all_items xs) ∙ e)
+  where
+    both_false : (b c : Bool) → (b || c) ≡ false → (b ≡ false) × (c ≡ false)
+    both_false true c e = absurd cc
+    both_false false c e = (refl, e)
+
+pub kept_are_items : (xs : List Tree) → is_none (all_items xs) ≡ false → AreConstants xs → AreItems (trees xs)
+kept_are_items [] e h = tt
+kept_are_items (x ∷ xs) e h = let k = each_kept x xs e in (narrow_item x h.0 k.0, kept_are_items xs k.1 h.1)
+
+pub kept_are_sound : (outer : Span) (xs : List Tree) → is_none (all_items xs) ≡ false → AreConstants xs → AreWithin outer xs → AreSoundWithin outer (trees xs)
+kept_are_sound outer [] e h w = tt
+kept_are_sound outer (x ∷ xs) e h w = let k = each_kept x xs e in (w.0, narrow_sound x h.0 k.0 w.1, kept_are_sound outer xs k.1 h.1 w.2)
 
 -- the tree of an item is the item
 item_is : (x t : Tree) (b : Bool) → cond b None (Some x) ≡ Some t → x ≡ t
@@ -307,7 +354,7 @@ items_more (y ∷ xs) ys =
 
 -- ---- the array
 
-module _ (at : Span) (rows columns : ℕ) (xs : List Tree) (literals : AreItems (trees xs)) (some : 0 < length xs) where
+module _ (at : Span) (rows columns : ℕ) (xs : List Tree) (literals : AreConstants xs) (some : 0 < length xs) where
   -- the branch of an array by its items
   by_items : (o : Option (List Tree)) → all_items xs ≡ o
       → branch (option_map (λ ts. Array at rows columns (trees ts)) o) 2 (record { lost = false; miscounted = false; wide = is_none o }) ≡ branch (Some (Array at rows columns (trees xs))) 2 (record { lost = false; miscounted = false; wide = is_none o })

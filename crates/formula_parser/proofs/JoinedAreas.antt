@@ -3,10 +3,9 @@ use Rattle.std.proofs.Common.{◌≡◌, ◌∙◌, ◌<◌, Bool, false, cond, 
 use Rattle.std.specs.Prelude.{◌||◌, All, IfSome}
 use Rattle.std.proofs.lemmas.List.Elements.{All-append, All-cons}
 use Rattle.std.specs.Option.{option_and_then, option_map}
-use Rattle.cell_refs.specs.declared.cell.Area.{Area}
+use Rattle.cell_refs.specs.Areas.{Area, IsOnSheet}
 use Rattle.formula_ast.specs.Tree.{Referred, Listed, Unlisted}
 use Rattle.formula_ast.specs.Measures.{listed}
-use Rattle.formula_ast.specs.Sound.{IsOnSheet}
 use Rattle.formula_grammar.specs.declared.symbol.Symbol.{Symbol}
 use Rattle.formula_grammar.specs.Faults.{some_unlisted}
 use Rattle.formula_grammar.specs.Symbols.{Setting}
@@ -18,7 +17,7 @@ use Rattle.formula_grammar.proofs.LeafSound.{goes, reference_sound}
 use Rattle.formula_parser.specs.declared.stop.Stop as stopped
 use Rattle.formula_parser.specs.declared.stop.Stop.TheVariants as stops
 use Rattle.formula_parser.specs.Given.{Fails, StartsWith}
-use Rattle.formula_parser.specs.Leaves.{area_of, areas_of, is_missing, some_area}
+use Rattle.formula_parser.specs.Leaves.{IsAdded, area_of, areas_of, is_missing, some_area}
 use Rattle.formula_parser.proofs.Corners.{with_area}
 
 -- the areas of what was read
@@ -99,6 +98,10 @@ module _ (S : Setting) where
           lost_is = unlisted_more [] r.0 ∙ ap is_missing r.2 ∙ sym l;
           goes_on = sym (ap (option_and_then (λ (r : Referred × List Symbol). all_turns (union_turn S) (r.0 ∷ []) r.1)) r.1);
         }
+
+    -- the first reference is added to none
+    pub added_first : (none areas : List Area) (lost : Bool) (rest : List Symbol) → none ≡ [] → IsAdded S ss none false areas lost rest → IsJoined S ss areas lost rest
+    added_first none areas lost rest empty a = union_begins a.area rest areas lost a.read (a.areas_are ∙ ap (λ l. l ++ some_area a.area) empty) a.lost_is
 
     pub union_goes : (a : Option Area) (areas more : List Area) (lost missing : Bool) (rest behind others : List Symbol) → IsJoined S ss areas lost rest → StartsWith is_tilde rest behind → with_area (reference_at S behind) ≡ Some (a, others)
         → more ≡ areas ++ some_area a → missing ≡ (lost || is_missing a) → IsJoined S ss more missing others

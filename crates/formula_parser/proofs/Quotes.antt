@@ -8,8 +8,8 @@ use Rattle.std.proofs.lemmas.Str.{encode_ascii}
 use Rattle.std.proofs.lemmas.Str.Pattern.{NoCharPasses-char, drop_at_char}
 use lib.Utf8.{encode}
 use denote.Ref.{Bor}
-use Rattle.formula_grammar.specs.Words.{at_last_point, behind_quote, inside, with_byte}
-use Rattle.cell_refs.specs.Address.{without_dollar}
+use Rattle.formula_grammar.specs.Words.{behind_quote, inside}
+use Rattle.formula_grammar.specs.WordReading.{at_last_point, with_byte}
 
 -- what is inside, where a quote stands just before or none does
 abbrev pub inside_from : Bool → ℕ → List ℕ → List ℕ
@@ -100,11 +100,6 @@ first_quote q c old rest after total lt same is so_far =
     ap (λ l. old ++ l) (sym (opens q after)) ∙ ap (λ l. old ++ inside q l) (sym (quote_first q c rest after lt same is)) ∙ so_far
 
 -- ---- behind a first character
-
--- no dollar sign leads it
-pub no_dollar : (bs : List ℕ) → ((rest : List ℕ) → bs ≢ encode_utf8 36 ++ rest) → bs ≡ without_dollar bs
-no_dollar [] h = refl
-no_dollar (b ∷ bs) h = sym (ap (λ t. cond t bs (b ∷ bs)) (ne_eqb b 36 (λ e. h bs (ap (λ d. d ∷ bs) e ∙ sym (ap (λ l. l ++ bs) (encode_ascii 36 (lit< tt)))))))
 
 pub no_quote : (q : ℕ) (bs : List ℕ) → q < 128 → ((rest : List ℕ) → bs ≢ encode_utf8 q ++ rest) → behind_quote q bs ≡ []
 no_quote q [] lt h = refl

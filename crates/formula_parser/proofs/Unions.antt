@@ -3,10 +3,10 @@ use Rattle.std.proofs.Common.{◌≡◌, ◌≤◌, ◌<◌, ◌-◌, ℕ, Bool,
 use Rattle.std.specs.Prelude.{All}
 use Rattle.std.specs.Option.{option_map, option_and_then}
 use Rattle.std.proofs.lemmas.List.Elements.{All-cons, All-head, All-nil, All-tail}
-use Rattle.cell_refs.specs.declared.cell.Area.{Area}
+use Rattle.cell_refs.specs.Areas.{Area, IsOnSheet}
 use Rattle.cell_refs.specs.declared.span.Span.{Span}
 use Rattle.formula_ast.specs.Measures.{listed}
-use Rattle.formula_ast.specs.Sound.{IsOnItsSheet, IsOnSheet}
+use Rattle.formula_ast.specs.Sound.{IsOnItsSheet}
 use Rattle.formula_ast.specs.Tree.{Tree, Listed, Reference, Referred, Unlisted}
 use Rattle.formula_grammar.specs.declared.symbol.Symbol.{Symbol}
 use Rattle.formula_grammar.specs.Symbols.{Setting, last_end, place_of}

@@ -1,8 +1,8 @@
 -- References and arrays as the code keeps them.
-use Rattle.std.specs.Prelude.{ℕ, suc, nat_eq, Bool, true, false, not, if◌then◌else◌, List, [], ◌∷◌, ◌++◌, length, Option, Some, None, string_bytes, option_map, is_some}
+use Rattle.std.specs.Prelude.{◌≡◌, ◌||◌, ℕ, suc, nat_eq, Bool, true, false, not, if◌then◌else◌, List, [], ◌∷◌, ◌++◌, length, Option, Some, None, string_bytes, option_map, is_some}
 use Rattle.std.specs.Option.{option_and_then, option_map_or}
 use Rattle.cell_refs.specs.declared.span.Span.{Span}
-use Rattle.cell_refs.specs.declared.cell.Area.{Area}
+use Rattle.cell_refs.specs.Areas.{Area}
 use Rattle.cell_refs.specs.Names.{place_in}
 use Rattle.frac128.specs.Numeral.{Numeral}
 use Rattle.frac128.specs.NumeralReading.{reading}
@@ -13,7 +13,7 @@ use Rattle.formula_grammar.specs.declared.symbol.Sign.{Sign}
 use Rattle.formula_grammar.specs.declared.symbol.Sign.TheVariants as sign
 use Rattle.formula_grammar.specs.Symbols.{Setting, bytes_of}
 use Rattle.formula_grammar.specs.Faults.{some_unlisted, is_wide}
-use Rattle.formula_grammar.specs.LeafReading.{RowsRead, row_at, rows_turn}
+use Rattle.formula_grammar.specs.LeafReading.{RowsRead, reference_at, row_at, rows_turn}
 use Rattle.formula_grammar.specs.Loops.{Found, Reader, all_turns}
 use Rattle.formula_grammar.specs.Words as grammar
 use Rattle.formula_grammar.specs.Words.{Own, Named, number_tree, negative_tree, quoted_text, error_in, logical_in}
@@ -53,6 +53,13 @@ is_missing area = not (is_some area)
 -- the areas of listed sheets, and whether another is among them
 abbrev pub areas_of : List Referred → List Area × Bool
 areas_of rs = (listed rs, some_unlisted rs)
+
+-- the reference at the front is added to the areas, and these symbols are behind it
+pub record IsAdded (S : Setting) (symbols : List Symbol) (areas : List Area) (lost : Bool) (more : List Area) (missing : Bool) (rest : List Symbol) : Type 0 where
+  pub area : Option Area
+  pub read : option_map {U = Option Area × List Symbol} (λ f. (area_of f.0, f.1)) (reference_at S symbols) ≡ Some (area, rest)
+  pub areas_are : more ≡ areas ++ some_area area
+  pub lost_is : missing ≡ (lost || is_missing area)
 
 -- the tree of an item, or none where its number is too wide
 abbrev pub item_of : Tree → Option Tree

@@ -4,7 +4,7 @@ ghost use Rattle.formula_ast.specs.Measures.{height_of};
 ghost use Rattle.formula_grammar.specs.LeafReading.{is_sheet_mark, references_at, starts_with, word_leaf};
 ghost use Rattle.formula_grammar.specs.Reading.{leaf_of};
 ghost use Rattle.formula_grammar.specs.Symbols.{bytes_of, place_of};
-ghost use Rattle.formula_grammar.specs.Words.{word_corner};
+ghost use Rattle.formula_grammar.specs.WordReading.{word_corner};
 ghost use Rattle.formula_grammar.specs.declared.symbol.Sign.TheVariants as sign;
 ghost use Rattle.formula_parser.specs.Built.{built, faults_of, no_faults};
 ghost use Rattle.formula_parser.specs.Given.{Gives};

@@ -1,7 +1,7 @@
 // The reference that a name stands for.
 ghost use Rattle.std.specs.Prelude.{◌≡◌, ◌<◌, ◌≤◌, IfOk, IfSome, length};
 ghost use Rattle.std.specs.Option.{option_and_then};
-ghost use Rattle.formula_ast.specs.Sound.{IsOnSheet};
+ghost use Rattle.cell_refs.specs.Areas.{IsOnSheet};
 ghost use Rattle.formula_grammar.specs.LeafReading.{reference_at};
 ghost use Rattle.formula_parser.specs.Leaves.{area_of};
 ghost use Rattle.formula_parser.specs.Placed.{AreSymbols};

@@ -1,23 +1,23 @@
 // References: cells, areas and unions.
-ghost use Rattle.std.specs.Prelude.{◌≡◌, ◌<◌, ◌++◌, ◌||◌, All, Bool, false, IfOk, IfSome, List, MatchOption, Option, option_map};
+ghost use Rattle.std.specs.Prelude.{◌≡◌, ◌<◌, ◌++◌, ◌||◌, All, Bool, false, IfErr, IfOk, IfSome, List, MatchOption, Option, option_map};
 ghost use Rattle.cell_refs.specs.declared.limits.TheConstants.{COLUMNS, ROWS};
-ghost use Rattle.formula_ast.specs.Sound.{IsOnSheet};
-ghost use Rattle.formula_grammar.specs.LeafReading.{address_at, behind_sheet_at, brackets_at, corner_at, corner_by, inner_at, inner_by, is_point, is_sheet_mark, is_tilde, plain_at, reference_at, second_at, starts_with, union_at};
-ghost use Rattle.formula_grammar.specs.References.{agrees, area_between};
-ghost use Rattle.formula_grammar.specs.Words.{corner_on, split_corner, word_corner};
+ghost use Rattle.formula_grammar.specs.LeafReading.{address_at, behind_sheet_at, brackets_at, corner_at, corner_by, inner_at, inner_by, is_close_square, is_point, is_sheet_mark, is_tilde, one_at, plain_at, reference_at, second_at, starts_with, union_at};
+ghost use Rattle.formula_grammar.specs.References.{agrees, area_between, cell_on};
+ghost use Rattle.formula_grammar.specs.Words.{corner_on};
+ghost use Rattle.formula_grammar.specs.WordReading.{split_corner, word_corner};
 ghost use Rattle.cell_refs.specs.Address.{address_in};
-ghost use Rattle.cell_refs.specs.declared.cell.Area.{Area};
+ghost use Rattle.cell_refs.specs.Areas.{Area, IsOnSheet};
 ghost use Rattle.formula_grammar.specs.declared.symbol.Sign.TheVariants as sign;
 ghost use Rattle.formula_grammar.specs.declared.symbol.Symbol.{Symbol};
-ghost use Rattle.formula_parser.specs.Given.{Gives, StartsWith};
-ghost use Rattle.formula_parser.specs.Leaves.{area_of, areas_of, corner_of, given_of, is_missing, number_of, some_area};
+ghost use Rattle.formula_parser.specs.Given.{Fails, Gives, StartsWith};
+ghost use Rattle.formula_parser.specs.Leaves.{IsAdded, area_of, areas_of, corner_of, given_of, is_missing, number_of, some_area};
 ghost use Rattle.formula_parser.specs.Placed.{AreSymbols, IsInText};
 ghost use Rattle.formula_parser.specs.Settings.{seen};
 
 use crate::setting::Setting;
 use crate::stop::Stop;
-use crate::words::{at_last_point, has_point, is_same, logical, sheet_name, without_dollar};
-use cell_refs::{Area, SheetId, read_address};
+use crate::words::{at_last_point, is_same, logical, sheet_of};
+use cell_refs::{Area, Cell, SheetId, read_address, sheet_name};
 use formula_grammar::{Sign, Symbol};
 use std::alloc::{AllocError, Global};
 
@@ -34,6 +34,19 @@ pub struct Corner {
     pub sheet: Given,
     pub row: u16,
     pub column: u16,
+}
+
+impl Corner {
+    // Its cell on a sheet.
+    fn on(&self, sheet: SheetId) -> Cell
+        ensures { result ≡ cell_on sheet.0 (corner_of self.now) }
+    {
+        Cell {
+            sheet,
+            row: self.row,
+            col: self.column,
+        }
+    }
 }
 
 /// The areas of a union that are on listed sheets, and whether one is not.
@@ -76,7 +89,6 @@ impl Setting<'_> {
         requires first { first.now.row < ROWS × first.now.column < COLUMNS }
         requires second { second.now.row < ROWS × second.now.column < COLUMNS }
         ensures area { result ≡ option_map area_of (area_between (seen self.now) (corner_of first.now) (corner_of second.now)) }
-        ensures on_sheet { IfSome result (λ o. IfSome o IsOnSheet) }
     {
         if !self.agrees(&first.sheet, &second.sheet) {
             return None;
@@ -84,13 +96,7 @@ impl Setting<'_> {
         let Some(sheet) = self.sheet(&first.sheet) else {
             return Some(None);
         };
-        Some(Some(Area {
-            sheet,
-            top: first.row.min(second.row),
-            left: first.column.min(second.column),
-            bottom: first.row.max(second.row),
-            right: first.column.max(second.column),
-        }))
+        Some(Some(Area::between(first.on(sheet), second.on(sheet))))
     }
 
     // The cells between two corners, and the symbols that are left.
@@ -99,7 +105,6 @@ impl Setting<'_> {
         requires second { second.now.row < ROWS × second.now.column < COLUMNS }
         requires rest { AreSymbols self.now.text.now rest.now }
         ensures gives { Gives {Y = Option Area × List Symbol} (λ x. (x.0, x.1.now)) result (option_map (λ r. (area_of r, rest.now)) (area_between (seen self.now) (corner_of first.now) (corner_of second.now))) }
-        ensures on_sheet { IfOk result (λ x. IfSome x.0 IsOnSheet) }
         ensures rest { IfOk result (λ x. AreSymbols self.now.text.now x.1.now) }
     {
         match self.area(first, second) {
@@ -126,10 +131,9 @@ fn split(alloc: Global, word: &str) -> Result<Option<Corner>, AllocError>
     let Some((sheet, address)) = at_last_point(word) else {
         return Ok(None);
     };
-    if has_point(sheet) {
+    let Some(name) = sheet_name(alloc, sheet)? else {
         return Ok(None);
-    }
-    let name = String::from_str(alloc, without_dollar(sheet))?;
+    };
     Ok(corner_on(Given::Named(name), address))
 }
 
@@ -191,7 +195,7 @@ fn behind_sheet<'a>(
     ensures on_sheet { IfOk result (λ x. x.0.row < ROWS × x.0.column < COLUMNS) }
     ensures rest { IfOk result (λ x. AreSymbols setting.now.text.now x.1.now) }
 {
-    let Some(name) = sheet_name(alloc, setting, sheet)? else {
+    let Some(name) = sheet_of(alloc, setting, sheet)? else {
         return Err(Stop::Syntax);
     };
     let Some((mark, rest)) = setting.first(symbols) else {
@@ -216,7 +220,7 @@ fn behind_plain_sheet<'a>(
     ensures on_sheet { IfOk result (λ x. x.0.row < ROWS × x.0.column < COLUMNS) }
     ensures rest { IfOk result (λ x. AreSymbols setting.now.text.now x.1.now) }
 {
-    let Some(name) = sheet_name(alloc, setting, sheet)? else {
+    let Some(name) = sheet_of(alloc, setting, sheet)? else {
         return Err(Stop::Syntax);
     };
     let Some((mark, rest)) = setting.first(symbols) else {
@@ -349,7 +353,6 @@ fn second_plain<'a>(
     requires first { first.now.row < ROWS × first.now.column < COLUMNS }
     requires symbols { AreSymbols setting.now.text.now symbols.now }
     ensures gives { Gives {Y = Option Area × List Symbol} (λ x. (x.0, x.1.now)) result (option_map (λ f. (area_of f.0, f.1)) (second_at (seen setting.now) (corner_at (seen setting.now)) (corner_of first.now) symbols.now)) }
-    ensures on_sheet { IfOk result (λ x. IfSome x.0 IsOnSheet) }
     ensures rest { IfOk result (λ x. AreSymbols setting.now.text.now x.1.now) }
 {
     let Some((mark, behind)) = setting.first(symbols) else {
@@ -368,7 +371,6 @@ fn second_plain<'a>(
 fn plain<'a>(alloc: Global, setting: &Setting, symbols: &'a [Symbol]) -> ReadArea<'a>
     requires { AreSymbols setting.now.text.now symbols.now }
     ensures gives { Gives {Y = Option Area × List Symbol} (λ x. (x.0, x.1.now)) result (option_map (λ f. (area_of f.0, f.1)) (plain_at (seen setting.now) symbols.now)) }
-    ensures on_sheet { IfOk result (λ x. IfSome x.0 IsOnSheet) }
     ensures rest { IfOk result (λ x. AreSymbols setting.now.text.now x.1.now) }
 {
     let (first, rest) = plain_corner(alloc, setting, symbols)?;
@@ -385,7 +387,6 @@ fn second_inner<'a>(
     requires first { first.now.row < ROWS × first.now.column < COLUMNS }
     requires symbols { AreSymbols setting.now.text.now symbols.now }
     ensures gives { Gives {Y = Option Area × List Symbol} (λ x. (x.0, x.1.now)) result (option_map (λ f. (area_of f.0, f.1)) (second_at (seen setting.now) (inner_at (seen setting.now)) (corner_of first.now) symbols.now)) }
-    ensures on_sheet { IfOk result (λ x. IfSome x.0 IsOnSheet) }
     ensures rest { IfOk result (λ x. AreSymbols setting.now.text.now x.1.now) }
 {
     let Some((mark, behind)) = setting.first(symbols) else {
@@ -404,12 +405,22 @@ fn second_inner<'a>(
 fn brackets<'a>(alloc: Global, setting: &Setting, symbols: &'a [Symbol]) -> ReadArea<'a>
     requires { AreSymbols setting.now.text.now symbols.now }
     ensures gives { Gives {Y = Option Area × List Symbol} (λ x. (x.0, x.1.now)) result (option_map (λ f. (area_of f.0, f.1)) (brackets_at (seen setting.now) symbols.now)) }
-    ensures on_sheet { IfOk result (λ x. IfSome x.0 IsOnSheet) }
     ensures rest { IfOk result (λ x. AreSymbols setting.now.text.now x.1.now) }
 {
     let (first, behind) = inner_corner(alloc, setting, symbols)?;
-    let (area, rest) = second_inner(alloc, setting, &first, behind)?;
-    let Some((close, after)) = setting.first(rest) else {
+    match second_inner(alloc, setting, &first, behind) {
+        Ok((area, rest)) => closed(setting, area, rest),
+        Err(stop) => Err(stop),
+    }
+}
+
+// The area, where a closing bracket stands in front.
+fn closed<'a>(setting: &Setting, area: Option<Area>, symbols: &'a [Symbol]) -> ReadArea<'a>
+    requires { AreSymbols setting.now.text.now symbols.now }
+    ensures gives { Gives {Y = Option Area × List Symbol} (λ x. (x.0, x.1.now)) result (option_map (λ t. (area, t.1)) (one_at is_close_square symbols.now)) }
+    ensures rest { IfOk result (λ x. AreSymbols setting.now.text.now x.1.now) }
+{
+    let Some((close, after)) = setting.first(symbols) else {
         return Err(Stop::Syntax);
     };
     match close.sign {
@@ -422,7 +433,6 @@ fn brackets<'a>(alloc: Global, setting: &Setting, symbols: &'a [Symbol]) -> Read
 pub fn reference<'a>(alloc: Global, setting: &Setting, symbols: &'a [Symbol]) -> ReadArea<'a>
     requires { AreSymbols setting.now.text.now symbols.now }
     ensures gives { Gives {Y = Option Area × List Symbol} (λ x. (x.0, x.1.now)) result (option_map (λ f. (area_of f.0, f.1)) (reference_at (seen setting.now) symbols.now)) }
-    ensures on_sheet { IfOk result (λ x. IfSome x.0 IsOnSheet) }
     ensures rest { IfOk result (λ x. AreSymbols setting.now.text.now x.1.now) }
 {
     let Some((symbol, rest)) = setting.first(symbols) else {
@@ -435,9 +445,10 @@ pub fn reference<'a>(alloc: Global, setting: &Setting, symbols: &'a [Symbol]) ->
 }
 
 impl Union {
-    // Adds a reference.
+    // Adds an area, or that there is no such sheet.
     fn add(&mut self, area: Option<Area>) -> Result<(), AllocError>
-        ensures { IfOk result (λ _. (self.new.areas.items ≡ self.old.areas.items ++ some_area area) × (self.new.lost ≡ (self.old.lost || is_missing area))) }
+        ensures added { IfOk result (λ _. (self.new.areas.items ≡ self.old.areas.items ++ some_area area) × (self.new.lost ≡ (self.old.lost || is_missing area))) }
+        ensures on_sheet { IfOk result (λ _. All IsOnSheet self.old.areas.items → All IsOnSheet self.new.areas.items) }
     {
         match area {
             Some(area) => Ok(self.areas.push(area)?),
@@ -445,6 +456,28 @@ impl Union {
                 self.lost = true;
                 Ok(())
             }
+        }
+    }
+
+    // Adds the reference at the front, and gives the symbols behind it.
+    fn add_reference<'a>(
+        &mut self,
+        alloc: Global,
+        setting: &Setting,
+        symbols: &'a [Symbol],
+    ) -> Result<&'a [Symbol], Stop>
+        requires { AreSymbols setting.now.text.now symbols.now }
+        ensures ok { IfOk result (λ rest. IsAdded (seen setting.now) symbols.now self.old.areas.items self.old.lost self.new.areas.items self.new.lost rest.now) }
+        ensures err { IfErr result (λ stop. Fails {Y = Option Area × List Symbol} stop (option_map (λ f. (area_of f.0, f.1)) (reference_at (seen setting.now) symbols.now))) }
+        ensures on_sheet { IfOk result (λ _. All IsOnSheet self.old.areas.items → All IsOnSheet self.new.areas.items) }
+        ensures rest { IfOk result (λ rest. AreSymbols setting.now.text.now rest.now) }
+    {
+        match reference(alloc, setting, symbols) {
+            Ok((area, rest)) => {
+                self.add(area)?;
+                Ok(rest)
+            }
+            Err(stop) => Err(stop),
         }
     }
 }
@@ -473,16 +506,13 @@ pub fn references<'a>(
     ensures on_sheet { IfOk result (λ x. All IsOnSheet x.0.areas.items) }
     ensures rest { IfOk result (λ x. AreSymbols setting.now.text.now x.1.now) }
 {
-    let (first, mut rest) = reference(alloc, setting, symbols)?;
     let mut union = Union {
         areas: Vec::new(alloc),
         lost: false,
     };
-    union.add(first)?;
+    let mut rest = union.add_reference(alloc, setting, symbols)?;
     while let Some(behind) = behind_tilde(setting, rest) {
-        let (next, others) = reference(alloc, setting, behind)?;
-        union.add(next)?;
-        rest = others;
+        rest = union.add_reference(alloc, setting, behind)?;
     }
     Ok((union, rest))
 }

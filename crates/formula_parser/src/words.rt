@@ -1,13 +1,13 @@
 // What single symbols say.
 ghost use Rattle.std.specs.Prelude.{◌≡◌, ◌<◌, IfOk, option_map, string_bytes};
-ghost use Rattle.formula_grammar.specs.Words.{at_last_point, error_in, has_point, inside, logical_in, quoted_text, sheet_of};
-ghost use Rattle.cell_refs.specs.Address.{without_dollar};
+ghost use Rattle.formula_grammar.specs.Words.{error_in, inside, logical_in, quoted_text, sheet_of};
+ghost use Rattle.formula_grammar.specs.WordReading.{at_last_point};
 ghost use Rattle.cell_refs.specs.Names.{same_letters};
 ghost use Rattle.formula_parser.specs.Placed.{IsInText};
 ghost use Rattle.formula_parser.specs.Settings.{seen};
 
 use crate::setting::Setting;
-use cell_refs::ErrorKind;
+use cell_refs::{ErrorKind, sheet_name};
 use formula_grammar::{Sign, Symbol};
 use std::alloc::{AllocError, Global};
 
@@ -50,28 +50,11 @@ pub fn error(name: &str) -> Option<ErrorKind>
     }
 }
 
-/// Whether a word has a point.
-pub fn has_point(word: &str) -> bool
-    ensures { result ≡ has_point word.now }
-{
-    word.as_bytes().contains(&b'.')
-}
-
 /// What stands before the last point of a word, and behind it.
 pub fn at_last_point(word: &str) -> Option<(&str, &str)>
     ensures { option_map (λ p. (p.0.now, p.1.now)) result ≡ at_last_point word.now }
 {
     word.rsplit_once('.')
-}
-
-/// The text without the dollar sign before it.
-pub fn without_dollar(text: &str) -> &str
-    ensures { result.now ≡ without_dollar text.now }
-{
-    match text.strip_prefix('$') {
-        Some(rest) => rest,
-        None => text,
-    }
 }
 
 /// What stands before the closing quote of a text behind its opening quote, each doubled quote as one.
@@ -108,7 +91,7 @@ pub fn quoted_text(alloc: Global, symbol: &str) -> Result<String, AllocError>
 }
 
 /// The sheet's name that a symbol is: a word without a point, or a text in single quotes.
-pub fn sheet_name(
+pub fn sheet_of(
     alloc: Global,
     setting: &Setting,
     symbol: Symbol,
@@ -116,14 +99,8 @@ pub fn sheet_name(
     requires { IsInText setting.now.text.now symbol }
     ensures { IfOk result (λ name. option_map string_bytes name ≡ sheet_of (seen setting.now) symbol) }
 {
-    let bytes = setting.slice(symbol);
     match symbol.sign {
-        Sign::Word if has_point(bytes) => Ok(None),
-        Sign::Word => Ok(Some(String::from_str(alloc, without_dollar(bytes))?)),
-        Sign::Quoted => match without_dollar(bytes).strip_prefix('\'') {
-            Some(behind) => Ok(Some(inside(alloc, '\'', behind)?)),
-            None => Ok(Some(String::new(alloc))),
-        },
+        Sign::Word | Sign::Quoted => sheet_name(alloc, setting.slice(symbol)),
         _ => Ok(None),
     }
 }

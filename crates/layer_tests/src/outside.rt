@@ -14,7 +14,7 @@ fn file(alloc: Global, name: &str, bytes: &[u8]) -> Result<(String, Vec<u8>), Al
 #[test]
 fn sources_give_what_fits(rt: HostRuntime) -> Result<(), Fail> {
     let alloc = rt.alloc();
-    let mut source = MemSource::new(b"abc".to_vec(alloc)?, [1].to_vec(alloc)?);
+    let mut source = MemSource::new(alloc, b"abc".to_vec(alloc)?, [1].to_vec(alloc)?);
     let mut into = [0u8; 2];
     assert!(rt; source.read(&mut into).is_ok_and(|n| n == 2));
     assert_eq!(rt; into.as_slice(), b"ab".as_slice());
@@ -22,7 +22,7 @@ fn sources_give_what_fits(rt: HostRuntime) -> Result<(), Fail> {
     assert!(rt; source.read(&mut into).is_ok_and(|n| n == 1));
     assert_eq!(rt; into.as_slice(), b"cb".as_slice());
     assert!(rt; source.read(&mut into).is_ok_and(|n| n == 0));
-    let mut source = SureSource::new(b"abcd".to_vec(alloc)?);
+    let mut source = SureSource::new(alloc, b"abcd".to_vec(alloc)?);
     let mut into = [0u8; 3];
     assert!(rt; source.read(&mut into).is_ok_and(|n| n == 3));
     assert_eq!(rt; into.as_slice(), b"abc".as_slice());

@@ -2,8 +2,8 @@
 ghost use Rattle.std.specs.Prelude.{◌≡◌};
 
 use cell_refs::{
-    Area, COLUMNS, Cell, NameFault, ROWS, SheetId, SheetNames, print_address, print_cell,
-    read_address,
+    Area, Cell, NameFault, SheetId, SheetNames, print_address, print_cell, read_address,
+    sheet_name, without_dollar,
 };
 use std::test::Fail;
 
@@ -32,7 +32,6 @@ fn addresses_are_read_and_printed(rt: HostRuntime) -> Result<(), Fail> {
         assert!(rt; found == want, "{text}");
         let mut shown = String::new(rt.alloc());
         if let Some((row, column)) = found {
-            assert!(rt; row < ROWS && column < COLUMNS);
             print_address(row, column, &mut shown)?;
         }
         assert_eq!(rt; shown.as_str(), printed);
@@ -64,17 +63,79 @@ fn sheets_have_names_and_areas_have_cells(rt: HostRuntime) -> Result<(), Fail> {
     text.push_str(" ")?;
     print_cell(&cell(1, 0, 27), &sheets, &mut text)?;
     assert_eq!(rt; text.as_str(), "plan!A2 'It''s me'!AB1");
-    let area = Area {
-        sheet: SheetId(3),
-        top: 1,
-        left: 2,
-        bottom: 2,
-        right: 4,
-    };
+    let area = Area::between(cell(3, 2, 2), cell(3, 1, 4));
+    assert!(rt; area.sheet() == SheetId(3));
+    assert!(rt; (area.top(), area.left(), area.bottom(), area.right()) == (1, 2, 2, 4));
     assert!(rt; area.len() == 6);
     assert!(rt; area.has(cell(3, 2, 4)));
+    assert!(rt; !area.has(cell(2, 2, 4)));
     for (place, row, col) in [(0, 1, 2), (2, 1, 4), (3, 2, 2), (5, 2, 4)] {
         assert!(rt; area.at(place) == cell(3, row, col));
     }
+    Ok(())
+}
+
+// The letters of columns, by their numbers from 0.
+const LETTERS: &[(u16, &str)] = &[
+    (0, "A1"),
+    (25, "Z1"),
+    (26, "AA1"),
+    (701, "ZZ1"),
+    (702, "AAA1"),
+    (16383, "XFD1"),
+    (18277, "ZZZ1"),
+    (18278, "AAAA1"),
+    (65535, "CRXP1"),
+];
+
+#[test]
+fn columns_have_letters(rt: HostRuntime) -> Result<(), Fail> {
+    for (column, want) in LETTERS {
+        let mut shown = String::new(rt.alloc());
+        print_address(0, *column, &mut shown)?;
+        assert_eq!(rt; shown.as_str(), *want);
+    }
+    let mut last = String::new(rt.alloc());
+    print_address(65535, 0, &mut last)?;
+    assert_eq!(rt; last.as_str(), "A65536");
+    Ok(())
+}
+
+// Sheets before an address, by what is spelled.
+const SHEETS: &[(&str, Option<&str>)] = &[
+    ("plan", Some("plan")),
+    ("$plan", Some("plan")),
+    ("pl$an", Some("pl$an")),
+    ("_1", Some("_1")),
+    ("é", Some("é")),
+    ("$1", Some("1")),
+    ("$$x", Some("$x")),
+    ("$", Some("")),
+    ("'My Plan'", Some("My Plan")),
+    ("$'It''s'", Some("It's")),
+    ("'a.b'", Some("a.b")),
+    ("''", Some("")),
+    ("''''", Some("'")),
+    ("", None),
+    ("1", None),
+    ("a.b", None),
+    ("a b", None),
+    ("a'b'", None),
+    ("$$'x'", None),
+    ("'x", None),
+    ("'x'y", None),
+    ("'", None),
+];
+
+#[test]
+fn sheets_stand_before_addresses(rt: HostRuntime) -> Result<(), Fail> {
+    for (text, want) in SHEETS {
+        match (sheet_name(rt.alloc(), text)?, want) {
+            (Some(name), Some(want)) => assert_eq!(rt; name.as_str(), *want),
+            (None, None) => {}
+            _ => assert!(rt; false, "{text}"),
+        }
+    }
+    assert_eq!(rt; without_dollar("$$x"), "$x");
     Ok(())
 }

@@ -24,15 +24,27 @@ fn names(
 }
 
 fn is_at(area: Area, place: Place) -> bool {
-    (area.sheet.0, area.top, area.left, area.bottom, area.right) == place
+    (
+        area.sheet().0,
+        area.top(),
+        area.left(),
+        area.bottom(),
+        area.right(),
+    ) == place
 }
 
 const PLAN: u8 = 0;
 
 const OTHER: u8 = 1;
 
+const DOLLAR: u8 = 2;
+
+const ONE: u8 = 3;
+
+const LED: u8 = 4;
+
 // References alone, with the sheet, the rows and the columns from 0.
-const REFERENCES: [(&str, Option<Place>); 18] = [
+const REFERENCES: [(&str, Option<Place>); 28] = [
     ("A1", Some((PLAN, 0, 0, 0, 0))),
     ("$B$2", Some((PLAN, 1, 1, 1, 1))),
     (" A1 ", Some((PLAN, 0, 0, 0, 0))),
@@ -42,6 +54,16 @@ const REFERENCES: [(&str, Option<Place>); 18] = [
     ("My!C1", None),
     ("'My Plan'!C1", Some((OTHER, 0, 2, 0, 2))),
     ("'MY PLAN'.C1", Some((OTHER, 0, 2, 0, 2))),
+    ("pl$an!A1", Some((DOLLAR, 0, 0, 0, 0))),
+    ("$PL$AN.B1", Some((DOLLAR, 0, 1, 0, 1))),
+    ("'pl$an'!A1", Some((DOLLAR, 0, 0, 0, 0))),
+    ("$1!A1", Some((ONE, 0, 0, 0, 0))),
+    ("'1'!A1:A2", Some((ONE, 0, 0, 1, 0))),
+    ("1!A1", None),
+    ("$$x!A1", Some((LED, 0, 0, 0, 0))),
+    ("$x!A1", None),
+    ("$!A1", None),
+    ("plan$'My Plan'!A1", None),
     ("[.A1]", Some((PLAN, 0, 0, 0, 0))),
     ("plan.A1", Some((PLAN, 0, 0, 0, 0))),
     ("IV4096", Some((PLAN, 4095, 255, 4095, 255))),
@@ -59,6 +81,9 @@ fn a_reference_alone_names_an_area(rt: HostRuntime) -> Result<(), Fail> {
     let mut sheets = SheetNames::new(alloc);
     sheets.add("plan")?;
     sheets.add("My Plan")?;
+    sheets.add("pl$an")?;
+    sheets.add("1")?;
+    sheets.add("$x")?;
     for (text, want) in REFERENCES {
         assert!(rt; names(alloc, text, &sheets, want)?);
     }

@@ -37,6 +37,16 @@ fn texts_have_tokens(rt: HostRuntime) -> Result<(), Fail> {
         ("\"a\"\"b\"\"\"", "Text 0-8;"),
         ("$'It''s'", "Quoted 0-8;"),
         ("'é'", "Quoted 0-4;"),
+        // A dollar sign right before a single quote is no part of a word.
+        ("a$'b'", "Word 0-1;Quoted 1-5;"),
+        ("$$'b'", "Word 0-1;Quoted 1-5;"),
+        ("a$$'b'", "Word 0-2;Quoted 2-6;"),
+        ("a$b$", "Word 0-4;"),
+        (
+            "A1:$'b'.C2",
+            "Word 0-2;Mark 2-3;Quoted 3-7;Mark 7-8;Word 8-10;",
+        ),
+        ("a$'b", "At(1)"),
         ("#N/A#DIV/0!", "Fault 0-4;Fault 4-11;"),
         ("", ""),
         // The first byte at which none begins.

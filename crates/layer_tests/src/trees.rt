@@ -45,12 +45,15 @@ fn show_areas(
             to.push_str(" ")?;
         }
         is_first = false;
-        if (area.sheet.0 as usize) < sheets.len() {
-            to.push_str(sheets.at(area.sheet))?;
+        if (area.sheet().0 as usize) < sheets.len() {
+            to.push_str(sheets.at(area.sheet()))?;
         }
         let text = format!(in alloc;
             ":{},{}-{},{}",
-            area.top, area.left, area.bottom, area.right
+            area.top(),
+            area.left(),
+            area.bottom(),
+            area.right()
         )?;
         to.push_str(text.as_str())?;
     }

@@ -15,6 +15,5 @@ returns-in_default-sign c = record {
   gives =
       gives_as _ c.plain.result _ _ c.plain.ensures.gives
       (reference_other (seen c.args.setting.now) c.args.symbols.now c.in-Some.symbol c.in-Some.rest.now c.in-Some.ensures.front c.in_default-sign.not-OpenSquare);
-  on_sheet = c.plain.ensures.on_sheet;
   rest = c.plain.ensures.rest;
 }

@@ -1,6 +1,6 @@
 use Rattle.std.proofs.Common.{length}
 use Rattle.std.specs.Prelude.{All}
-use Rattle.formula_ast.specs.Sound.{IsOnSheet}
+use Rattle.cell_refs.specs.Areas.{IsOnSheet}
 use Rattle.formula_parser.specs.Placed.{AreSymbols}
 use Rattle.formula_parser.specs.Settings.{seen}
 use Rattle.formula_parser.proofs.JoinedAreas.{IsJoined}

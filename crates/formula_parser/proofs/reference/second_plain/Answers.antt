@@ -21,6 +21,5 @@ returns-in_ok-second-in-Colon-clause-gives c =
 pub returns-in_default-sign : goal.returns-in_default-sign
 returns-in_default-sign c = record {
   gives = gives_as _ c.area_before-in_default-sign.result _ _ c.area_before-in_default-sign.ensures.gives (second_other (seen c.args.setting.now) (corner_at (seen c.args.setting.now)) (corner_of c.args.first.now) c.args.symbols.now c.in-Some.mark c.in-Some.behind.now c.in-Some.ensures.front c.in_default-sign.not-Colon);
-  on_sheet = c.area_before-in_default-sign.ensures.on_sheet;
   rest = c.area_before-in_default-sign.ensures.rest;
 }
