@@ -4,8 +4,8 @@ use Rattle.fractions.specs.Rational.{ℚ, zero_ℚ, ◌≤ℚ◌}
 use Rattle.fractions.proofs.Field.{ordered_field}
 use Rattle.fractions.proofs.Tests.{le_or_lt}
 use Rattle.optimality.specs.Problem.{Assignment, Problem, Goal, greatest, least, reach}
-use Rattle.optimality.specs.Optimal.{Permitted, Better, IsBetter, Optimal, Beats, objective_at}
-use Rattle.optimality.specs.Laws.{AnswersExclude, OneBestValue, Agree, AgreeingAnswers}
+use Rattle.optimality.specs.Optimal.{Infeasible, Unbounded, Permitted, Better, IsBetter, Optimal, Beats, objective_at}
+use Rattle.optimality.specs.Laws.{AnswersExclude, OneBestValue, Agree}
 
 beaten : (p : Problem) (a : Assignment) (x : ℚ) → Optimal p a → objective_at p a ≡ Some x → Beats p x → ⊥
 beaten p a x o is b = o.best b.by b.permitted record { mine = b.worth; other = x; mine_is = b.worth_is; other_is = is; better = b.better }
@@ -37,6 +37,12 @@ better_moves p q a b g pa pb w = record {
   other_is = g.objective b pb ∙ w.other_is;
   better = subst (λ (x : Goal). IsBetter x w.mine w.other) (sym g.goal) w.better;
 }
+
+-- two problems that agree have the same answers
+pub record AgreeingAnswers : Type 0 where
+  pub optimal : (p q : Problem) (a : Assignment) → Agree p q → Optimal p a → Optimal q a
+  pub infeasible : (p q : Problem) → Agree p q → Infeasible p → Infeasible q
+  pub unbounded : (p q : Problem) → Agree p q → Unbounded p → Unbounded q
 
 pub agreeing_answers : AgreeingAnswers
 agreeing_answers = record {

@@ -25,12 +25,6 @@ pub record Agree (p q : Problem) : Type 0 where
   pub permitted : (a : Assignment) → Permitted p a ↔ Permitted q a
   pub objective : (a : Assignment) → Permitted p a → objective_at p a ≡ objective_at q a
 
--- they have the same answers
-pub record AgreeingAnswers : Type 0 where
-  pub optimal : (p q : Problem) (a : Assignment) → Agree p q → Optimal p a → Optimal q a
-  pub infeasible : (p q : Problem) → Agree p q → Infeasible p → Infeasible q
-  pub unbounded : (p q : Problem) → Agree p q → Unbounded p → Unbounded q
-
 -- two problems that permit the same assignments and are optimal at the same ones, infeasible together and unbounded together
 pub record SameAnswers (p q : Problem) : Type 0 where
   pub permitted : (a : Assignment) → Permitted p a ↔ Permitted q a

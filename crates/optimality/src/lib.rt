@@ -1,7 +1,7 @@
 //! What permitted, better, optimal, infeasible and unbounded mean, for any problem.
 #![tactic(auto)]
 
-ghost use Rattle.optimality.specs.Laws.{AgreeingAnswers, AnswersExclude, OneBestValue, ReachedIsOptimal, SameAnswersHold};
+ghost use Rattle.optimality.specs.Laws.{AnswersExclude, OneBestValue, ReachedIsOptimal, SameAnswersHold};
 
 /// No problem has two of the answers optimal, infeasible and unbounded.
 pub fn answers_exclude_each_other()
@@ -18,12 +18,8 @@ pub fn one_best_value()
     ensures { OneBestValue }
 {}
 
-/// Problems with the same permitted assignments and objective have the same answers.
-pub fn agreeing_problems_have_the_same_answers()
-    ensures { AgreeingAnswers }
-{}
-
-/// A constant as the objective changes no answer of a problem without one.
+/// Problems with the same permitted assignments and objective have the same answers, and a constant as the objective changes no
+/// answer of a problem without one.
 pub fn agreeing_problems_are_answered_alike()
     ensures { SameAnswersHold }
 {}
