@@ -1,4 +1,4 @@
--- What is collected up to the first error.
+-- Lists of numbers or of logicals up to the first error.
 use Rattle.std.proofs.Common.{◌≡◌, refl, sym, ap, ◌∙◌, append_assoc, append-nil, Bool, not, ◌||◌, List, [], ◌∷◌, ◌++◌, Option, Some, None, Result, Ok, Err}
 use Rattle.std.specs.Prelude.{flat_map}
 use Rattle.std.specs.List.{filter_map, list_any}
@@ -7,14 +7,14 @@ use Rattle.std.specs.Result.{result_map_both}
 use Rattle.std.proofs.lemmas.List.Folds.{list_any-append}
 use Rattle.cell_refs.specs.declared.error_kind.ErrorKind.{ErrorKind}
 use Rattle.sheet_funcs.specs.Arguments.{all_or_error, behind_first}
-use Rattle.sheet_funcs.specs.Collected.{behind, collected}
+use Rattle.sheet_funcs.specs.Collected.{behind}
 use Rattle.sheet_funcs.specs.SeenLogicals.{joined, seen_of, seen_or_error}
 use Rattle.sheet_funcs.specs.declared.logic.Seen.{Seen}
 
 -- more, where there was no error before
-abbrev then : {A : Type 0} → Result (List A) ErrorKind → Result (List A) ErrorKind → Result (List A) ErrorKind
-then (Ok xs) more = behind xs more
-then (Err k) more = Err k
+abbrev pub with_more : {A : Type 0} → Result (List A) ErrorKind → Result (List A) ErrorKind → Result (List A) ErrorKind
+with_more (Ok xs) more = behind xs more
+with_more (Err k) more = Err k
 
 behind-first : {A : Type 0} (x : A) (r : Result (List A) ErrorKind) → behind_first x r ≡ behind (x ∷ []) r
 behind-first x (Ok xs) = refl
@@ -29,41 +29,15 @@ behind-nothing (Ok xs) = refl
 behind-nothing (Err k) = refl
 
 -- one more in front
-then-first : {A : Type 0} (x : A) (r more : Result (List A) ErrorKind) → behind_first x (then r more) ≡ then (behind_first x r) more
+then-first : {A : Type 0} (x : A) (r more : Result (List A) ErrorKind) → behind_first x (with_more r more) ≡ with_more (behind_first x r) more
 then-first x (Ok xs) more = behind-first x (behind xs more) ∙ behind-behind (x ∷ []) xs more
 then-first x (Err k) more = refl
 
 -- all of two lists
-pub all-append : {A : Type 0} (xs ys : List (Result A ErrorKind)) → all_or_error (xs ++ ys) ≡ then (all_or_error xs) (all_or_error ys)
+pub all-append : {A : Type 0} (xs ys : List (Result A ErrorKind)) → all_or_error (xs ++ ys) ≡ with_more (all_or_error xs) (all_or_error ys)
 all-append [] ys = sym (behind-nothing (all_or_error ys))
 all-append (Ok x ∷ xs) ys = ap (behind_first x) (all-append xs ys) ∙ then-first x (all_or_error xs) (all_or_error ys)
 all-append (Err k ∷ xs) ys = refl
-
--- behind what is there
-then-behind : {A : Type 0} (front : List A) (r more : Result (List A) ErrorKind) → behind front (then r more) ≡ then (behind front r) more
-then-behind front (Ok xs) more = behind-behind front xs more
-then-behind front (Err k) more = refl
-
--- ---- an item's part, and then those of the others
-first_part : {A X : Type 0} (h : X → List (Result A ErrorKind)) (whole : Result (List A) ErrorKind) (front : List A) (rest : List X) (x : X) (others : List X) (r : Result (List A) ErrorKind)
-    → rest ≡ x ∷ others → whole ≡ behind front (all_or_error (flat_map h rest)) → r ≡ behind front (all_or_error (h x)) → whole ≡ then r (all_or_error (flat_map h others))
-first_part h whole front rest x others r e all part =
-    all ∙ ap (λ xs. behind front (all_or_error (flat_map h xs))) e
-    ∙ ap (behind front) (all-append (h x) (flat_map h others))
-    ∙ then-behind front (all_or_error (h x)) (all_or_error (flat_map h others))
-    ∙ ap (λ p. then p (all_or_error (flat_map h others))) (sym part)
-
-pub collects_more : {A X : Type 0} (h : X → List (Result A ErrorKind)) (whole : Result (List A) ErrorKind) (front : List A) (rest : List X) (x : X) (others : List X) (new : List A)
-    → rest ≡ x ∷ others → whole ≡ behind front (all_or_error (flat_map h rest)) → collected new None ≡ behind front (all_or_error (h x)) → whole ≡ behind new (all_or_error (flat_map h others))
-collects_more h whole front rest x others new e all part = first_part h whole front rest x others (Ok new) e all part
-
-pub meets_error : {A X : Type 0} (h : X → List (Result A ErrorKind)) (whole : Result (List A) ErrorKind) (front : List A) (rest : List X) (x : X) (others : List X) (new : List A) (k : ErrorKind)
-    → rest ≡ x ∷ others → whole ≡ behind front (all_or_error (flat_map h rest)) → collected new (Some k) ≡ behind front (all_or_error (h x)) → whole ≡ Err k
-meets_error h whole front rest x others new k e all part = first_part h whole front rest x others (Err k) e all part
-
--- at the end
-pub collects_all : {A X : Type 0} (h : X → List (Result A ErrorKind)) (whole : Result (List A) ErrorKind) (front : List A) → whole ≡ behind front (all_or_error (flat_map h [])) → whole ≡ Ok front
-collects_all h whole front all = all ∙ ap Ok (append-nil front)
 
 -- what is skipped and what is not, in parts
 pub filter_map-parts : {X Y : Type 0} (h : X → Option Y) (xs : List X) → filter_map h xs ≡ flat_map (λ x. option_to_list (h x)) xs
@@ -94,7 +68,7 @@ seen-behind : (ps : List Bool) (r : Result (List Bool) ErrorKind) → seen_or_er
 seen-behind ps (Ok bs) = ap Ok (seen-append ps bs)
 seen-behind ps (Err k) = refl
 
-seen-then : (r more : Result (List Bool) ErrorKind) → seen_or_error (then r more) ≡ after_part (seen_or_error r) (seen_or_error more)
+seen-then : (r more : Result (List Bool) ErrorKind) → seen_or_error (with_more r more) ≡ after_part (seen_or_error r) (seen_or_error more)
 seen-then (Ok ps) more = seen-behind ps more
 seen-then (Err k) more = refl
 

@@ -34,19 +34,10 @@ greater_by_tests x y z false true e f = rw (e, f) refl
 greater_by_tests x y z false false e f = rw (e, f, e, above_both x y z (le_ℚ x z) e f refl) refl
 
 -- the first two numbers in one
-least-two : (x y : ℚ) (zs : List ℚ) → least (x ∷ y ∷ zs) ≡ least (lesser x y ∷ zs)
+pub least-two : (x y : ℚ) (zs : List ℚ) → least (x ∷ y ∷ zs) ≡ least (lesser x y ∷ zs)
 least-two x y [] = refl
 least-two x y (z ∷ zs) = lesser_by_tests x y (least (z ∷ zs)) (le_ℚ x y) (le_ℚ y (least (z ∷ zs))) refl refl
 
-greatest-two : (x y : ℚ) (zs : List ℚ) → greatest (x ∷ y ∷ zs) ≡ greatest (greater x y ∷ zs)
+pub greatest-two : (x y : ℚ) (zs : List ℚ) → greatest (x ∷ y ∷ zs) ≡ greatest (greater x y ∷ zs)
 greatest-two x y [] = refl
 greatest-two x y (z ∷ zs) = greater_by_tests x y (greatest (z ∷ zs)) (le_ℚ x y) (le_ℚ y (greatest (z ∷ zs))) refl refl
-
--- one number more
-pub least_goes : (whole least_so_far next : ℚ) (rest : List ℚ) (y : ℚ) (others : List ℚ) → rest ≡ y ∷ others → next ≡ lesser least_so_far y
-    → whole ≡ least (least_so_far ∷ rest) → whole ≡ least (next ∷ others)
-least_goes whole x next rest y others e f all = let two : least (x ∷ y ∷ others) ≡ least (lesser x y ∷ others) = least-two x y others in cc
-
-pub greatest_goes : (whole greatest_so_far next : ℚ) (rest : List ℚ) (y : ℚ) (others : List ℚ) → rest ≡ y ∷ others → next ≡ greater greatest_so_far y
-    → whole ≡ greatest (greatest_so_far ∷ rest) → whole ≡ greatest (next ∷ others)
-greatest_goes whole x next rest y others e f all = let two : greatest (x ∷ y ∷ others) ≡ greatest (greater x y ∷ others) = greatest-two x y others in cc

@@ -21,3 +21,4 @@ pub mod Placed
 pub mod Ranges
 pub mod Remainders
 pub mod Stepping
+pub mod Tallying

@@ -1,22 +1,25 @@
 -- Lookups.
-use Rattle.std.proofs.Common.{◌≡◌, ◌⊎◌, inl, inr, ℕ, zero, suc, ◌+◌, ◌-◌, ◌*◌, ◌<◌, ◌≤◌, max, Bool, true, false, refl, sym, ap, ◌∙◌, subst, List, [], ◌∷◌, length, get_or, take, drop, Option, Some, None, Ok, Err, add-one, arith}
-use Rattle.std.specs.Prelude.{nat_le, if◌then◌else◌, ℤ, pos, negsuc, int_le, ◌==◌, ◌||◌}
-use Rattle.std.proofs.lemmas.Bool.Decides.{nat_tests}
+use Rattle.std.proofs.Common.{◌≡◌, ◌⊎◌, inl, inr, ℕ, ◌+◌, ◌-◌, ◌*◌, ◌<◌, ◌≤◌, max, Bool, true, false, refl, sym, ap, ◌∙◌, subst, List, [], ◌∷◌, length, get_or, take, drop, Option, Result, Ok, arith}
+use Rattle.std.specs.Prelude.{if◌then◌else◌, ◌==◌, ◌||◌, flat_map, map}
+use Rattle.std.specs.List.{range_with_len}
 use Rattle.std.proofs.lemmas.Bool.{eq-eqb}
 use Rattle.std.proofs.lemmas.List.{take_rest}
+use Rattle.cell_refs.specs.declared.error_kind.ErrorKind.{ErrorKind}
 use Rattle.cell_refs.specs.declared.error_kind.ErrorKind.TheVariants as kind
 use Rattle.fractions.specs.Rational.{ℚ}
 use Rattle.sheet_model.specs.Grids.{Rectangle, IsFull}
+use Rattle.sheet_model.specs.Operators.{single}
 use Rattle.sheet_model.specs.declared.value.Value.{Value}
-use Rattle.sheet_model.specs.declared.value.Value.TheVariants.{Empty, Error}
+use Rattle.sheet_model.specs.declared.value.Value.TheVariants.{Empty}
 use Rattle.sheet_model.specs.declared.grid.Arg.{Arg}
+use Rattle.sheet_model.specs.declared.grid.Arg.TheVariants.{One, Area}
 use Rattle.sheet_funcs.specs.Arguments.{at, column_of, grid_of, no_error, value_of}
-use Rattle.sheet_funcs.specs.Fields.{field_at, field_of, kind_where}
-use Rattle.sheet_funcs.specs.Lookups.{element_or, found, kind_of, looked_up, lookup_pick, pick_by, pick_in}
+use Rattle.sheet_funcs.specs.Fields.{AreWithin, one_field}
+use Rattle.sheet_funcs.specs.Lookups.{found, kind_of, lookup_pick, pick_by, pick_in, record_pick}
+use Rattle.sheet_funcs.specs.Picks.{taken_from}
 use Rattle.sheet_funcs.specs.Searches.{spaced}
-use Rattle.sheet_funcs.specs.TableViews.{IsIndexed, IsTable}
-use Rattle.sheet_funcs.specs.declared.lookups.MatchKind.{MatchKind}
-use Rattle.sheet_funcs.specs.declared.pick.Pick.TheVariants.{Fault}
+use Rattle.sheet_funcs.specs.TableViews.{IsIndexed, IsTable, field_place, keys_of}
+use Rattle.sheet_funcs.specs.declared.pick.Pick.TheVariants.{Part, Fault}
 use Rattle.sheet_funcs.specs.declared.table_view.TableView.{TableView}
 use Rattle.sheet_funcs.proofs.Spaced.{same_below, spaced_one}
 
@@ -53,29 +56,26 @@ keys_are t g indexed table =
     ∙ same_below (λ place. get_or t.items.now (place * t.key_step) Empty) (λ row. at g row 0) g.rows Empty
     (λ row h. ap (λ i. get_or t.items.now i Empty) (omega arith) ∙ table.same row 0 h (subst (λ n. 0 < n) table.fields indexed.some_fields))
 
--- the column by its test
-by_column : (b : Bool) (g : Rectangle) (n : ℕ) (row : Option ℕ) → (if b then element_or g (pos (suc n)) row else Error kind.Ref) ≡ field_of g (if b then Ok n else Err kind.Ref) row
-by_column false g n row = refl
-by_column true g n None = refl
-by_column true g n (Some row) = ap (at g row) (omega arith)
+-- what is picked by the table's fields and keys is picked by those of the grid
+pub picked_there : (t : TableView) (g : Rectangle) (args : List Arg) (r : Result (ℕ × ℕ) ErrorKind) → IsIndexed t → IsTable t g → one_field r ≡ record_pick t.fields (keys_of t) args
+    → record_pick g.columns (column_of g 0) args ≡ one_field r
+picked_there t g args r indexed table there =
+    sym (there ∙ ap (λ n. record_pick n (keys_of t) args) table.fields ∙ ap (λ vs. record_pick g.columns vs args) (keys_are t g indexed table))
 
--- what is looked up is the field of the row that is found
-looked_up-told : (g : Rectangle) (key : Value) (place : ℤ) (sorted : Bool) → looked_up g key place sorted ≡ field_of g (field_at g.columns place) (found (kind_where sorted) key (column_of g 0))
-looked_up-told g key (pos zero) sorted = refl
-looked_up-told g key (negsuc n) sorted = refl
-looked_up-told g key (pos (suc n)) sorted =
-    let above : int_le (pos (suc n)) (pos 0) ≡ false = grind (arith, nat_tests) in
-    let within : int_le (pos (suc n)) (pos g.columns) ≡ nat_le (n + 1) g.columns = rw add-one refl in
-    rw (above, within) (by_column (nat_le (n + 1) g.columns) g n (found (kind_where sorted) key (column_of g 0)))
+-- a part of one row and one column is its element
+one_element : (g : Rectangle) (row column m n : ℕ) → m ≡ 1 → n ≡ 1
+    → single (Area (record { rows = m; columns = n; items = flat_map (λ row. map (λ column. at g row column) (range_with_len column n)) (range_with_len row m) })) ≡ One (at g row column)
+one_element g row column m n d e = rw (d, e) refl
 
--- the same by a table
-pub field-told : (t : TableView) (g : Rectangle) (key : Value) (place : ℤ) (sorted : Bool) (field : ℕ) (kind_found : MatchKind) (row : Option ℕ) → IsIndexed t → IsTable t g → Ok field ≡ field_at t.fields place
-    → kind_found ≡ kind_where sorted → row ≡ found kind_found key (spaced t.items.now t.key_step t.keys) → field_of g (Ok field) row ≡ looked_up g key place sorted
-field-told t g key place sorted field kind_found row indexed table at_place kinds there =
-    let fields : Ok field ≡ field_at g.columns place = at_place ∙ ap (λ n. field_at n place) table.fields in
-    let rows : row ≡ found (kind_where sorted) key (column_of g 0) =
-    there ∙ ap (λ k. found k key (spaced t.items.now t.key_step t.keys)) kinds ∙ ap (found (kind_where sorted) key) (keys_are t g indexed table) in
-    sym (looked_up-told g key place sorted ∙ ap (λ f. field_of g f (found (kind_where sorted) key (column_of g 0))) (sym fields) ∙ ap (field_of g (Ok field)) (sym rows))
+pub one_taken : (g : Rectangle) (row column : ℕ) → taken_from g (Part row column row column) ≡ One (at g row column)
+one_taken g row column = one_element g row column (row + 1 - row) (column + 1 - column) (omega arith) (omega arith)
+
+-- a field of a record of the table is what is looked up
+pub field_is : (t : TableView) (g : Rectangle) (args : List Arg) (r n : ℕ) (v : Value) → IsIndexed t → IsTable t g → one_field (Ok (r, n)) ≡ record_pick t.fields (keys_of t) args
+    → AreWithin t.keys t.fields (r, n) → v ≡ get_or t.items.now (field_place t r n) Empty → taken_from g (record_pick g.columns (column_of g 0) args) ≡ One v
+field_is t g args r n v indexed table there within is =
+    ap (taken_from g) (picked_there t g args (Ok (r, n)) indexed table there) ∙ one_taken g r n
+    ∙ ap One (sym (is ∙ table.same r n (subst (λ k. r < k) table.keys within.0) (subst (λ k. n < k) table.fields within.1)))
 
 -- ---- arguments
 -- three arguments and then others

@@ -81,12 +81,5 @@ step_answers o (Err e) h = subst (λ t. Answers (after o done) (Err t)) (sym h.0
 pub followed_answers : {A B : Type 0} (c : Calculation A) (f : A → Calculation B) (x : A) (r : Result B FuncStop) → narrow c ≡ Some x → Answers (f x) r → Answers (followed_by c f) r
 followed_answers c f x r h a = same_answers (f x) (followed_by c f) r (narrow-followed_by c f ∙ ap (option_and_then (λ a. narrow (f a))) h) a
 
-pub followed_stops : {A B : Type 0} (c : Calculation A) (f : A → Calculation B) (e : FuncStop) (r : Result B FuncStop) → IsErrAnd r (λ s. s ≡ e) → Answers c (Err e) → Answers (followed_by c f) r
-followed_stops c f e r is h = stopped c (followed_by c f) e r is h (λ wide. narrow-followed_by c f ∙ ap (option_and_then (λ a. narrow (f a))) wide)
-
 pub turned_stops : {A B : Type 0} (g : A → B) (c : Calculation A) (e : FuncStop) (r : Result B FuncStop) → IsErrAnd r (λ s. s ≡ e) → Answers c (Err e) → Answers (turned_into g c) r
 turned_stops g c e r is h = stopped c (turned_into g c) e r is h (λ wide. narrow-turned_into g c ∙ ap (option_map g) wide)
-
--- what is made of what is there
-pub on_ok_answers : {A : Type 0} (found : Result A ErrorKind) (x y : A) (f : A → Calculation Arg) (r : Result Arg FuncStop) → Ok x ≡ found → y ≡ x → Answers (f y) r → Answers (on_ok found f) r
-on_ok_answers found x y f r e same h = subst (λ o. Answers (on_ok o f) r) e (subst (λ z. Answers (f z) r) same h)

@@ -34,9 +34,9 @@ pub sum_met : (tested criterion summed : Arg) (v : Value) (read : Criterion) (fi
 sum_met tested criterion summed v read first second numbers is reads size same_first same_second found =
     let g = grid_of tested in
     let h = grid_of summed in
-    let elements : numbers_where read (zip first second) ≡ numbers_among (met v g h) =
+    let elements : numbers_where read (zip first second) ≡ numbers_among (met v g.items h.items) =
     ap (λ xs. numbers_where read (zip xs second)) same_first ∙ ap (λ ys. numbers_where read (zip g.items ys)) same_second
     ∙ ap (λ ps. numbers_among (map (λ (p : Value × Value). p.1) ps)) (filter_same (λ (p : Value × Value). is_met read p.0) (λ (p : Value × Value). meets v p.0) (zip g.items h.items) (λ p. reads.met p.0)) in
     let f = λ (xs : List ℚ). counted (total xs) in
     ap (λ r. on_ok r f) (found ∙ elements)
-    ∙ sym (ap (λ r. on_ok r (λ c. sum_where g c h)) (sym is) ∙ ap (λ b. if b then on_ok (numbers_among (met v g h)) f else answered (Error kind.Value)) size)
+    ∙ sym (ap (λ r. on_ok r (λ c. sum_where g c h)) (sym is) ∙ ap (λ b. if b then on_ok (numbers_among (met v g.items h.items)) f else answered (Error kind.Value)) size)

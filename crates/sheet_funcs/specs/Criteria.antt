@@ -88,15 +88,15 @@ meets (Logical b) v = stands_in op.Eq (Logical b) v
 meets Empty v = false
 meets (Error k) v = false
 
--- the elements of one grid at the places where the other one meets a criterion
-abbrev pub met : Value → Rectangle → Rectangle → List Value
-met criterion tested summed = map (λ (p : Value × Value). p.1) (filter (λ (p : Value × Value). meets criterion p.0) (zip tested.items summed.items))
+-- of what stands beside some elements, that beside an element which meets a criterion
+abbrev pub met : {A : Type 0} → Value → List Value → List A → List A
+met {A = A} criterion tested others = map (λ (p : Value × A). p.1) (filter (λ (p : Value × A). meets criterion p.0) (zip tested others))
 
 -- the sum of the numbers in those places
 abbrev pub sum_where : Rectangle → Value → Rectangle → Calculation Arg
 sum_where tested criterion summed =
     if is_of_size tested summed
-    then on_ok (numbers_among (met criterion tested summed)) (λ xs. counted (total xs))
+    then on_ok (numbers_among (met criterion tested.items summed.items)) (λ xs. counted (total xs))
     else answered (Error kind.Value)
 
 abbrev pub sumif_by : Arg → Arg → Arg → Calculation Arg

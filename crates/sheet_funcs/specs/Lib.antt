@@ -19,3 +19,4 @@ pub mod Collected
 pub mod SeenLogicals
 pub mod Steps
 pub mod Matrices
+pub mod Tallies

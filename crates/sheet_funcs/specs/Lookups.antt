@@ -1,10 +1,10 @@
 -- MATCH, VLOOKUP and HLOOKUP (OpenDocument 1.2 part 2, sections 6.14.9, 6.14.12 and 6.14.5).
-use Rattle.std.specs.Prelude.{ℕ, ◌+◌, ◌-◌, Bool, true, false, ◌&&◌, ◌||◌, ◌==◌, if◌then◌else◌, List, [], ◌∷◌, ℤ, pos, int_le, Option, Some, None, Result, Ok, Err}
+use Rattle.std.specs.Prelude.{ℕ, zero, suc, ◌+◌, Bool, true, false, ◌&&◌, ◌||◌, ◌==◌, if◌then◌else◌, List, [], ◌∷◌, ℤ, pos, negsuc, nat_le, Option, Some, None, Result, Ok, Err}
 use Rattle.std.specs.List.{before_first, position}
 use Rattle.std.specs.Ordering.{is_eq, is_lt, is_gt}
 use Rattle.fractions.specs.Rational.{ℚ}
 use Rattle.fractions.specs.Whole.{whole_ℚ}
-use Rattle.calculations.specs.Calculation.{Calculation}
+use Rattle.calculations.specs.Calculation.{Calculation, done}
 use Rattle.cell_refs.specs.declared.error_kind.ErrorKind.{ErrorKind}
 use Rattle.cell_refs.specs.declared.error_kind.ErrorKind.TheVariants as kind
 use Rattle.sheet_model.specs.Tests.{is_zero, is_negative}
@@ -14,8 +14,9 @@ use Rattle.sheet_model.specs.Grids.{Rectangle}
 use Rattle.sheet_model.specs.declared.value.Value.{Value}
 use Rattle.sheet_model.specs.declared.value.Value.TheVariants.{Number, Empty, Error}
 use Rattle.sheet_model.specs.declared.grid.Arg.{Arg}
-use Rattle.sheet_funcs.specs.Arguments.{at, column_of, grid_of, no_error, value_of, answered, on_ok}
+use Rattle.sheet_funcs.specs.Arguments.{column_of, grid_of, no_error, value_of, answered}
 use Rattle.sheet_funcs.specs.Rounding.{number_of, place_of}
+use Rattle.sheet_funcs.specs.Picks.{taken_from}
 use Rattle.sheet_funcs.specs.Products.{transposed}
 use Rattle.sheet_funcs.specs.declared.pick.Pick.{Pick}
 use Rattle.sheet_funcs.specs.declared.pick.Pick.TheVariants.{Part, Fault}
@@ -81,34 +82,49 @@ match_of (key ∷ keys ∷ []) = answered (place_value (lookup_pick key keys (Ok
 match_of (key ∷ keys ∷ x ∷ []) = answered (place_value (lookup_pick key keys (number_of x)))
 match_of _ = answered (Error kind.Value)
 
--- ---- lookups
--- the element of the row that was found
-abbrev pub element_or : Rectangle → ℤ → Option ℕ → Value
-element_or g column None = Error kind.NotAvailable
-element_or g (pos n) (Some row) = at g row (n - 1)
-element_or g _ (Some row) = Error kind.Value
-
--- in a column, counted from 1, of the row whose first element is found; the column is checked before the key is looked for
-abbrev pub looked_up : Rectangle → Value → ℤ → Bool → Value
-looked_up g key column sorted =
-    if int_le column (pos 0) then Error kind.Value
-    else if int_le column (pos g.columns) then element_or g column (found (if sorted then Rising else Equal) key (column_of g 0))
-    else Error kind.Ref
-
-abbrev pub lookup_of : Rectangle → Arg → Arg → Result Bool ErrorKind → Calculation Arg
-lookup_of g key column sorted =
-    on_ok (no_error (value_of key)) (λ k. on_ok (place_of column) (λ c. on_ok sorted (λ s. answered (looked_up g k c s))))
+-- ---- VLOOKUP and HLOOKUP: the records of a table are its rows for VLOOKUP, and its columns for HLOOKUP
+-- what is picked by what is there, or the error in its place
+abbrev pub or_fault : {A : Type 0} → Result A ErrorKind → (A → Pick) → Pick
+or_fault (Ok x) f = f x
+or_fault (Err k) f = Fault k
 
 -- whether the keys are taken as sorted, which they are where nothing is said
 abbrev pub is_sorted : List Arg → Result Bool ErrorKind
 is_sorted [] = Ok true
 is_sorted (a ∷ _) = logical_in (value_of a)
 
+-- the field, from 0, at a place that is counted from 1
+abbrev pub field_at : ℕ → ℤ → Result ℕ ErrorKind
+field_at fields (pos zero) = Err kind.Value
+field_at fields (pos (suc n)) = if nat_le (n + 1) fields then Ok n else Err kind.Ref
+field_at fields (negsuc n) = Err kind.Value
+
+-- what is looked for among keys that are taken as sorted, or aren't
+abbrev pub kind_where : Bool → MatchKind
+kind_where sorted = if sorted then Rising else Equal
+
+-- a field of the record that was found
+abbrev pub field_of : ℕ → Option ℕ → Pick
+field_of field None = Fault kind.NotAvailable
+field_of field (Some n) = Part n field n field
+
+-- by a key, a place among so many fields and an order, the field of the record whose first field is found; the place is checked
+-- before the key is looked for
+abbrev pub record_pick : ℕ → List Value → List Arg → Pick
+record_pick fields keys (key ∷ place ∷ rest) =
+    or_fault (no_error (value_of key)) (λ k. or_fault (place_of place) (λ n. or_fault (is_sorted rest) (λ s.
+    or_fault (field_at fields n) (λ field. field_of field (found (kind_where s) k keys)))))
+record_pick fields keys _ = Fault kind.Value
+
+-- what is picked of a table whose records are a grid's rows
+abbrev pub lookup_of : Rectangle → List Arg → Calculation Arg
+lookup_of g args = done (taken_from g (record_pick g.columns (column_of g 0) args))
+
 abbrev pub vlookup_of : List Arg → Calculation Arg
-vlookup_of (key ∷ table ∷ column ∷ rest) = lookup_of (grid_of table) key column (is_sorted rest)
+vlookup_of (key ∷ table ∷ others) = lookup_of (grid_of table) (key ∷ others)
 vlookup_of _ = answered (Error kind.Value)
 
 -- the same with rows and columns exchanged
 abbrev pub hlookup_of : List Arg → Calculation Arg
-hlookup_of (key ∷ table ∷ row ∷ rest) = lookup_of (transposed (grid_of table)) key row (is_sorted rest)
+hlookup_of (key ∷ table ∷ others) = lookup_of (transposed (grid_of table)) (key ∷ others)
 hlookup_of _ = answered (Error kind.Value)

@@ -1,17 +1,18 @@
 -- Criteria as they are read once for many elements.
-use Rattle.std.specs.Prelude.{◌≡◌, ℕ, Bool, false, ◌==◌, if◌then◌else◌, List, [], ◌∷◌}
+use Rattle.std.specs.Prelude.{◌≡◌, ℕ, Bool, false, not, ◌&&◌, ◌==◌, if◌then◌else◌, List, [], ◌∷◌}
 use Rattle.cell_refs.specs.declared.op.Op.{Op}
 use Rattle.cell_refs.specs.declared.op.Op.TheVariants as op
 use Rattle.sheet_model.specs.declared.value.Value.{Value}
 use Rattle.sheet_model.specs.declared.value.Value.TheVariants as value
-use Rattle.sheet_funcs.specs.Criteria.{stands_in, meets, meets_nothing}
+use Rattle.sheet_funcs.specs.Criteria.{stands_in, meets, is_empty, is_error}
 use Rattle.sheet_funcs.specs.declared.criterion.Criterion.{Criterion}
-use Rattle.sheet_funcs.specs.declared.criterion.Criterion.TheVariants.{Never, Nothing, Number, Text, Logical}
+use Rattle.sheet_funcs.specs.declared.criterion.Criterion.TheVariants.{Never, Nothing, Something, Number, Text, Logical}
 
 -- whether an element meets what was read
 abbrev pub is_met : Criterion → Value → Bool
 is_met Never v = false
-is_met (Nothing relation) v = meets_nothing relation v
+is_met Nothing v = is_empty v
+is_met Something v = not (is_empty v) && not (is_error v)
 is_met (Number relation x) v = stands_in relation (value.Number x) v
 is_met (Text relation t) v = stands_in relation (value.Text t.now) v
 is_met (Logical b) v = stands_in op.Eq (value.Logical b) v

@@ -1,22 +1,22 @@
 // Criteria, each read once for many elements.
 ghost use Rattle.std.specs.Prelude.{◌≡◌, ◌≢◌, option_map};
 ghost use Rattle.cell_refs.specs.declared.error_kind.ErrorKind.{ErrorKind};
-ghost use Rattle.cell_refs.specs.declared.op.Op.TheVariants as op;
 ghost use Rattle.sheet_model.specs.declared.value.Value.{Value};
-ghost use Rattle.sheet_model.specs.declared.value.Value.TheVariants.{Error, Logical, Number, Text};
-ghost use Rattle.sheet_funcs.specs.Criteria.{meets, meets_nothing, meets_text, operand, relation_in, stands_in};
+ghost use Rattle.sheet_model.specs.declared.value.Value.TheVariants.{Error};
+ghost use Rattle.sheet_funcs.specs.Criteria.{meets, meets_text, operand, relation_in, stands_in};
 ghost use Rattle.sheet_funcs.specs.ReadCriteria.{IsReadOf, behind_greater, behind_less, is_met};
 
 use cell_refs::Op;
 use frac128::Frac;
 use sheet_model::{Value, asks_for, compare_numbers, compare_texts};
 
-/// When an element meets a criterion: never, or where it stands in a relation to nothing, to a number or to a text, or where it
-/// is this logical.
+/// When an element meets a criterion: never, where it is empty, where it is neither empty nor an error, where it stands in a
+/// relation to a number or to a text, or where it is this logical.
 #[derive(Clone, Copy)]
 pub(crate) enum Criterion<'a> {
     Never,
-    Nothing(Op),
+    Nothing,
+    Something,
     Number(Op, Frac),
     Text(Op, &'a str),
     Logical(bool),
@@ -49,7 +49,9 @@ fn read_text(text: &str) -> Criterion<'_>
 {
     match relation_in(text) {
         None => related(Op::Eq, text),
-        Some((relation, "")) => Criterion::Nothing(relation),
+        Some((Op::Eq, "")) => Criterion::Nothing,
+        Some((Op::Ne, "")) => Criterion::Something,
+        Some((relation, "")) => Criterion::Text(relation, ""),
         Some((relation, rest)) => related(relation, rest),
     }
 }
@@ -106,58 +108,22 @@ impl Criterion<'_> {
     pub(crate) fn is_met(&self, item: &Value) -> bool
         ensures { result ≡ is_met self.now item.now }
     {
-        match self {
-            Criterion::Never => false,
-            Criterion::Nothing(relation) => meets_nothing(*relation, item),
-            Criterion::Number(relation, number) => beside_number(*relation, *number, item),
-            Criterion::Text(relation, text) => beside_text(*relation, text, item),
-            Criterion::Logical(holds) => beside_logical(*holds, item),
+        match (self, item) {
+            (Criterion::Never, _) | (_, Value::Error(_)) => false,
+            (Criterion::Nothing, _) => matches!(item, Value::Empty),
+            (Criterion::Something, _) => !matches!(item, Value::Empty),
+            (Criterion::Number(relation, number), Value::Number(found)) => {
+                asks_for(*relation, compare_numbers(*found, *number))
+            }
+            (Criterion::Text(relation, text), Value::Text(found)) => {
+                let order = compare_texts(found.as_str().as_bytes(), text.as_bytes());
+                asks_for(*relation, order)
+            }
+            (Criterion::Logical(holds), Value::Logical(found)) => found == holds,
+            (Criterion::Number(relation, _) | Criterion::Text(relation, _), _) => {
+                *relation == Op::Ne
+            }
+            (Criterion::Logical(_), _) => false,
         }
-    }
-}
-
-// Whether the element stands in a relation to nothing.
-fn meets_nothing(relation: Op, item: &Value) -> bool
-    ensures { result ≡ meets_nothing relation item.now }
-{
-    match relation {
-        Op::Eq => matches!(item, Value::Empty),
-        Op::Ne => !matches!(item, Value::Empty | Value::Error(_)),
-        _ => beside_text(relation, "", item),
-    }
-}
-
-// Whether the element stands in a relation to a number.
-fn beside_number(relation: Op, number: Frac, item: &Value) -> bool
-    ensures { result ≡ stands_in relation (Number number) item.now }
-{
-    match item {
-        Value::Number(found) => asks_for(relation, compare_numbers(*found, number)),
-        Value::Error(_) => false,
-        Value::Text(_) | Value::Logical(_) | Value::Empty => relation == Op::Ne,
-    }
-}
-
-// Whether the element stands in a relation to a text.
-fn beside_text(relation: Op, text: &str, item: &Value) -> bool
-    ensures { result ≡ stands_in relation (Text text.now) item.now }
-{
-    match item {
-        Value::Text(found) => {
-            let order = compare_texts(found.as_str().as_bytes(), text.as_bytes());
-            asks_for(relation, order)
-        }
-        Value::Error(_) => false,
-        Value::Number(_) | Value::Logical(_) | Value::Empty => relation == Op::Ne,
-    }
-}
-
-// Whether the element is this logical.
-fn beside_logical(holds: bool, item: &Value) -> bool
-    ensures { result ≡ stands_in op.Eq (Logical holds) item.now }
-{
-    match item {
-        Value::Logical(found) => *found == holds,
-        Value::Number(_) | Value::Text(_) | Value::Empty | Value::Error(_) => false,
     }
 }

@@ -1,18 +1,14 @@
 // What a function takes of its arguments.
-ghost use Rattle.std.specs.Prelude.{◌≡◌, ◌∷◌, [], IfOk, MatchResult};
-ghost use Rattle.std.specs.Option.{option_to_list};
+ghost use Rattle.std.specs.Prelude.{◌≡◌, MatchResult};
 ghost use Rattle.std.specs.Result.{result_map_both};
-ghost use Rattle.sheet_funcs.specs.Arguments.{all_or_error, elements_of, first_error, grid_of, one_of, value_of};
-ghost use Rattle.sheet_funcs.specs.Collected.{behind, collected};
-ghost use Rattle.sheet_funcs.specs.Items.{items_in, number_at, numbers_among, numbers_of};
+ghost use Rattle.sheet_funcs.specs.Arguments.{elements_of, first_error, grid_of, one_of, value_of};
 ghost use Rattle.sheet_funcs.specs.Rounding.{number_of, place_of};
 ghost use Rattle.sheet_model.specs.Conversions.{logical_in};
 ghost use Rattle.sheet_model.specs.declared.value.Value.TheVariants.{Error};
 
 use cell_refs::ErrorKind;
 use frac128::Frac;
-use sheet_model::{Arg, Memory, Value, to_logical, to_number};
-use std::alloc::Global;
+use sheet_model::{Arg, Value, to_logical, to_number};
 
 /// The single value, or the one element of an area; the error stands for an area of another size.
 pub fn value_of(arg: &Arg) -> Result<&Value, ErrorKind>
@@ -82,71 +78,6 @@ pub(crate) fn columns_of(arg: &Arg) -> u32
     match arg {
         Arg::One(_) => 1,
         Arg::Area(grid) => grid.cols(),
-    }
-}
-
-/// The numbers of some arguments, in their order, or the first error among them.
-pub(crate) fn numbers_of(
-    alloc: Global,
-    args: &[Arg],
-) -> Result<Result<Vec<Frac>, ErrorKind>, Memory>
-    ensures { IfOk result (λ found. result_map_both (λ numbers. numbers.items) (λ kind. kind) found ≡ numbers_of args.now) }
-{
-    let mut numbers = Vec::new(alloc);
-    for arg in args {
-        if let Some(kind) = push_numbers(arg, &mut numbers)? {
-            return Ok(Err(kind));
-        }
-    }
-    Ok(Ok(numbers))
-}
-
-// Collects the numbers of an argument up to its first error, which is returned.
-fn push_numbers(arg: &Arg, numbers: &mut Vec<Frac>) -> Result<Option<ErrorKind>, Memory>
-    ensures { IfOk result (λ fault. collected numbers.new.items fault ≡ behind numbers.old.items (all_or_error (items_in arg.now))) }
-{
-    match arg {
-        Arg::One(value) => push_number(to_number(value), numbers),
-        Arg::Area(grid) => push_numbers_among(grid.items(), numbers),
-    }
-}
-
-// Collects the numbers among some elements up to the first error, which is returned.
-fn push_numbers_among(items: &[Value], numbers: &mut Vec<Frac>) -> Result<Option<ErrorKind>, Memory>
-    ensures { IfOk result (λ fault. collected numbers.new.items fault ≡ behind numbers.old.items (numbers_among items.now)) }
-{
-    for item in items {
-        if let Some(kind) = push_element(item, numbers)? {
-            return Ok(Some(kind));
-        }
-    }
-    Ok(None)
-}
-
-// Collects the number that an element is, if it is one; an error is returned.
-fn push_element(item: &Value, numbers: &mut Vec<Frac>) -> Result<Option<ErrorKind>, Memory>
-    ensures { IfOk result (λ fault. collected numbers.new.items fault ≡ behind numbers.old.items (all_or_error (option_to_list (number_at item.now)))) }
-{
-    match item {
-        Value::Number(number) => push_number(Ok(*number), numbers),
-        Value::Error(kind) => Ok(Some(*kind)),
-        Value::Text(_) | Value::Logical(_) | Value::Empty => Ok(None),
-    }
-}
-
-// Collects a number; an error in its place is returned.
-fn push_number(
-    number: Result<Frac, ErrorKind>,
-    numbers: &mut Vec<Frac>,
-) -> Result<Option<ErrorKind>, Memory>
-    ensures { IfOk result (λ fault. collected numbers.new.items fault ≡ behind numbers.old.items (all_or_error (number ∷ []))) }
-{
-    match number {
-        Ok(number) => {
-            numbers.push(number)?;
-            Ok(None)
-        }
-        Err(kind) => Ok(Some(kind)),
     }
 }
 

@@ -18,6 +18,7 @@ mod steps;
 mod sums;
 mod table;
 mod table_view;
+mod tally;
 
 pub use criteria::{countif, sumif};
 pub use criterion::meets;
@@ -26,7 +27,7 @@ pub use indexing::{index, index_at};
 pub use information::{columns, isblank, isnumber, n_, rows};
 pub use items::{logical_of, place_of, value_of};
 pub use logic::{and_, false_, not_, or_, true_};
-pub use lookups::{MatchKind, hlookup, lookup_at, match_place, vlookup};
+pub use lookups::{MatchKind, hlookup, lookup_at, match_place, record_at, vlookup};
 pub use pick::Pick;
 pub use products::{mmult, sumproduct, transpose};
 pub use rounding::{abs_, int, mod_, power, round};

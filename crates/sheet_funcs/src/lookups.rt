@@ -1,17 +1,15 @@
 // MATCH, VLOOKUP and HLOOKUP.
-ghost use Rattle.std.specs.Prelude.{◌≡◌, ◌≢◌, ◌<◌, ◌≤◌, ◌+◌, ◌||◌, ◌==◌, IfOk, IsOk, length, pos, true};
+ghost use Rattle.std.specs.Prelude.{◌≡◌, ◌<◌, ◌^◌, ◌∷◌, IfOk, IsOk, length};
 ghost use Rattle.calculations.specs.Calculation.{exact};
-ghost use Rattle.cell_refs.specs.declared.error_kind.ErrorKind.{ErrorKind};
 ghost use Rattle.formula_ast.specs.Functions.{Takes};
 ghost use Rattle.formula_ast.specs.declared.func.Func.TheVariants as func;
 ghost use Rattle.sheet_model.specs.Answers.{Answers};
 ghost use Rattle.sheet_model.specs.Grids.{Rectangle};
-ghost use Rattle.sheet_model.specs.declared.value.Value.TheVariants.{Error};
 ghost use Rattle.sheet_funcs.specs.Arguments.{grid_of};
-ghost use Rattle.sheet_funcs.specs.Lookups.{hlookup_of, is_sorted, kind_of, looked_up, lookup_of, lookup_pick, match_of, pick_in, place_value, vlookup_of};
+ghost use Rattle.sheet_funcs.specs.Lookups.{field_at, hlookup_of, is_sorted, kind_of, kind_where, lookup_of, lookup_pick, match_of, pick_in, place_value, record_pick, vlookup_of};
 ghost use Rattle.sheet_funcs.specs.Rounding.{number_of};
-ghost use Rattle.sheet_funcs.specs.Fields.{field_at, kind_where};
-ghost use Rattle.sheet_funcs.specs.TableViews.{IsIndexed, IsTable};
+ghost use Rattle.sheet_funcs.specs.Fields.{AreWithin, one_field};
+ghost use Rattle.sheet_funcs.specs.TableViews.{HasKeys, IsIndexed, IsTable, keys_of};
 ghost use Rattle.sheet_funcs.specs.Within.{IsWithin};
 
 use crate::answers::fault;
@@ -19,10 +17,10 @@ use crate::given::{full_elements, value_or_error};
 use crate::items::{columns_of, logical_of, number_of, place_of, rows_of};
 use crate::pick::Pick;
 use crate::search::found;
-use crate::table_view::{TableView, across, down};
+use crate::table_view::{TableView, across, down, keys_alone};
 use cell_refs::ErrorKind;
 use frac128::Frac;
-use sheet_model::{Arg, FuncStop, Memory, Value};
+use sheet_model::{Arg, FuncStop, Value};
 use std::alloc::Global;
 
 /// Which value a lookup is for: an equal one, or the last before a greater one, or the last before one that is less.
@@ -136,6 +134,19 @@ pub fn hlookup(alloc: Global, args: &[Arg]) -> Result<Arg, FuncStop>
     lookup(alloc, &across(table), key, row, rest)
 }
 
+/// What VLOOKUP and HLOOKUP pick of a table of so many fields whose records have these keys: the field at a place, counted from
+/// 1, of the record whose key is found, and the order of the keys may follow.
+pub fn record_at(keys: &[Value], fields: u32, key: &Arg, place: &Arg, rest: &[Arg]) -> Pick
+    requires { length keys.now < 2 ^ 32 }
+    ensures pick { result ≡ record_pick fields keys.now (key.now ∷ place.now ∷ rest.now) }
+    ensures within { IsWithin (length keys.now) fields result }
+{
+    match field_found(&keys_alone(keys, fields), key, place, rest) {
+        Ok((record, field)) => Pick::Part(record, field, record, field),
+        Err(kind) => Pick::Fault(kind),
+    }
+}
+
 // What is looked up in a table.
 fn lookup(
     alloc: Global,
@@ -145,21 +156,39 @@ fn lookup(
     rest: &[Arg],
 ) -> Result<Arg, FuncStop>
     requires { IsIndexed table.now }
-    ensures { (g : Rectangle) → IsTable table.now g → Answers (lookup_of g key.now place.now (is_sorted rest.now)) result }
+    ensures { (g : Rectangle) → IsTable table.now g → Answers (lookup_of g (key.now ∷ place.now ∷ rest.now)) result }
 {
-    let key = match value_or_error(key) {
-        Ok(key) => key,
-        Err(kind) => return Ok(fault(kind)),
-    };
-    let place = match place_of(place) {
-        Ok(place) => place,
-        Err(kind) => return Ok(fault(kind)),
-    };
-    let sorted = match is_sorted(rest) {
-        Ok(sorted) => sorted,
-        Err(kind) => return Ok(fault(kind)),
-    };
-    Ok(Arg::One(looked_up(alloc, table, key, place, sorted)?))
+    match field_found(table, key, place, rest) {
+        Ok((record, field)) => Ok(Arg::One(table.at(record, field).copy(alloc)?)),
+        Err(kind) => Ok(fault(kind)),
+    }
+}
+
+// The record and the field that are picked.
+fn field_found(
+    table: &TableView<'_>,
+    key: &Arg,
+    place: &Arg,
+    rest: &[Arg],
+) -> Result<(u32, u32), ErrorKind>
+    requires { HasKeys table.now }
+    ensures pick { one_field result ≡ record_pick table.now.fields (keys_of table.now) (key.now ∷ place.now ∷ rest.now) }
+    ensures within { IfOk result (AreWithin table.now.keys table.now.fields) }
+{
+    let key = value_or_error(key)?;
+    let place = place_of(place)?;
+    let sorted = is_sorted(rest)?;
+    let field = field_at(table.fields, place)?;
+    match found(
+        kind_where(sorted),
+        key,
+        table.items,
+        table.key_step,
+        table.keys,
+    ) {
+        Some(record) => Ok((record, field)),
+        None => Err(ErrorKind::NotAvailable),
+    }
 }
 
 // Whether the keys are taken as sorted, which they are where nothing is said.
@@ -169,34 +198,6 @@ fn is_sorted(rest: &[Arg]) -> Result<bool, ErrorKind>
     match rest {
         [] => Ok(true),
         [sorted, ..] => logical_of(sorted),
-    }
-}
-
-// The field at a place, counted from 1, beside the key that is found.
-fn looked_up(
-    alloc: Global,
-    table: &TableView<'_>,
-    key: &Value,
-    place: i128,
-    sorted: bool,
-) -> Result<Value, Memory>
-    requires table { IsIndexed table.now }
-    requires key { (k : ErrorKind) → key.now ≢ Error k }
-    ensures { (g : Rectangle) → IsTable table.now g → IfOk result (λ value. value ≡ looked_up g key.now place sorted) }
-{
-    let field = match field_at(table.fields, place) {
-        Ok(field) => field,
-        Err(kind) => return Ok(Value::Error(kind)),
-    };
-    match found(
-        kind_where(sorted),
-        key,
-        table.items,
-        table.key_step,
-        table.keys,
-    ) {
-        Some(row) => table.at(row, field).copy(alloc),
-        None => Ok(Value::Error(ErrorKind::NotAvailable)),
     }
 }
 

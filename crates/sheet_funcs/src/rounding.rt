@@ -13,10 +13,9 @@ ghost use Rattle.sheet_model.specs.declared.stop.FuncStop.TheVariants as stops;
 use crate::answers::{calculated, fault, number, whole};
 use crate::items::{number_of, place_of};
 use crate::steps::{add, divide, multiply, raise};
-use cell_refs::{ErrorKind, Op};
+use cell_refs::ErrorKind;
 use frac128::Frac;
-use sheet_model::{Arg, FuncStop, infix};
-use std::alloc::Global;
+use sheet_model::{Arg, FuncStop, raised};
 
 /// ABS: a number without its sign.
 pub fn abs_(args: &[Arg]) -> Result<Arg, FuncStop>
@@ -81,16 +80,17 @@ pub fn round(args: &[Arg]) -> Result<Arg, FuncStop>
 }
 
 /// POWER: a number to a whole power.
-pub fn power(alloc: Global, args: &[Arg]) -> Result<Arg, FuncStop>
+pub fn power(args: &[Arg]) -> Result<Arg, FuncStop>
     requires { Takes func.Power (length args.now) }
     ensures exact { IfOk result (λ answer. answer ≡ exact (of_two power_of args.now)) }
     ensures narrow { Answers (of_two power_of args.now) result }
+    ensures stop { IsOkUnless result stops.Wide }
 {
     let [base, exponent] = args else {
         unreachable!();
     };
     match (number_of(base), number_of(exponent)) {
-        (Ok(x), Ok(y)) => raised(alloc, x, y),
+        (Ok(x), Ok(y)) => power_value(x, y),
         (Err(kind), _) | (Ok(_), Err(kind)) => Ok(fault(kind)),
     }
 }
@@ -124,10 +124,14 @@ fn remainder(x: Frac, y: Frac) -> Result<Arg, FuncStop>
 }
 
 // The power, as the operator has it.
-fn raised(alloc: Global, x: Frac, y: Frac) -> Result<Arg, FuncStop>
-    ensures { Answers (turned_into One (raised x y)) result }
+fn power_value(x: Frac, y: Frac) -> Result<Arg, FuncStop>
+    ensures narrow { Answers (turned_into One (raised x y)) result }
+    ensures stop { IsOkUnless result stops.Wide }
 {
-    infix(alloc, Op::Pow, &number(x), &number(y))
+    match raised(x, y) {
+        Ok(value) => Ok(Arg::One(value)),
+        Err(stop) => Err(stop),
+    }
 }
 
 // An argument rounded at a place; the first that is none is the result.

@@ -1,39 +1,47 @@
 // Sums, and what else is made of the numbers of some arguments.
-ghost use Rattle.std.specs.Prelude.{◌≡◌, ◌∷◌, IfOk, IsOk, filter, length};
-ghost use Rattle.calculations.specs.Calculation.{exact};
+ghost use Rattle.std.specs.Prelude.{◌≡◌, IfOk, IsOk, IsOkUnless, List, Result, Some, filter, flat_map, is_some, length, pos};
+ghost use Rattle.calculations.specs.Calculation.{exact, narrow};
 ghost use Rattle.formula_ast.specs.Functions.{Takes};
 ghost use Rattle.formula_ast.specs.declared.func.Func.TheVariants as func;
-ghost use Rattle.sheet_funcs.specs.Sums.{average_of, count_of, greater, greatest, is_number, least, lesser, max_of, mean, min_of, sum_of, total};
+ghost use Rattle.fractions.specs.Rational.{zero_ℚ, ℚ};
+ghost use Rattle.frac128.specs.Narrow.{IsNarrowWhole};
+ghost use Rattle.sheet_funcs.specs.Items.{items_in, number_at};
+ghost use Rattle.sheet_funcs.specs.Arguments.{counted, on_ok};
+ghost use Rattle.sheet_funcs.specs.Tallies.{tally_or_error};
+ghost use Rattle.sheet_funcs.specs.declared.tally.Tally.TheVariants.{Total};
+ghost use Rattle.cell_refs.specs.declared.error_kind.ErrorKind.{ErrorKind};
+ghost use Rattle.sheet_funcs.specs.Sums.{average_of, count_of, is_number, max_of, mean, min_of, sum_of, total};
 ghost use Rattle.sheet_model.specs.Answers.{Answers};
+ghost use Rattle.sheet_model.specs.declared.stop.FuncStop.TheVariants as stops;
 
 use crate::answers::{calculated, fault, number, whole};
-use crate::items::{elements_of, numbers_of};
-use crate::steps::{add, divide};
+use crate::items::elements_of;
+use crate::steps::divide;
+use crate::tally::Tally;
 use cell_refs::ErrorKind;
 use frac128::Frac;
 use sheet_model::{Arg, FuncStop, Value};
-use std::alloc::Global;
 
 /// SUM: the sum of the numbers of all arguments.
-pub fn sum(alloc: Global, args: &[Arg]) -> Result<Arg, FuncStop>
+pub fn sum(args: &[Arg]) -> Result<Arg, FuncStop>
     requires { Takes func.Sum (length args.now) }
     ensures exact { IfOk result (λ answer. answer ≡ exact (sum_of args.now)) }
     ensures narrow { Answers (sum_of args.now) result }
+    ensures stop { IsOkUnless result stops.Wide }
 {
-    match numbers_of(alloc, args)? {
-        Ok(numbers) => calculated(total(&numbers)),
-        Err(kind) => Ok(fault(kind)),
-    }
+    summed(Tally::Total.of_args(Some(Frac::zero()), args))
 }
 
 /// AVERAGE: the sum divided by how many numbers there are.
-pub fn average(alloc: Global, args: &[Arg]) -> Result<Arg, FuncStop>
+pub fn average(args: &[Arg]) -> Result<Arg, FuncStop>
     requires { Takes func.Average (length args.now) }
     ensures exact { IfOk result (λ answer. answer ≡ exact (average_of args.now)) }
     ensures narrow { Answers (average_of args.now) result }
+    ensures stop { IsOkUnless result stops.Wide }
 {
-    match numbers_of(alloc, args)? {
-        Ok(numbers) => mean(&numbers),
+    match Tally::Total.of_args(Some(Frac::zero()), args) {
+        Ok(Some(sum)) => mean(sum, count_items(args)),
+        Ok(None) => Err(FuncStop::Wide),
         Err(kind) => Ok(fault(kind)),
     }
 }
@@ -53,49 +61,91 @@ pub fn count(args: &[Arg]) -> Result<Arg, FuncStop>
 }
 
 /// MIN: the least number of all arguments, 0 where there is none.
-pub fn min(alloc: Global, args: &[Arg]) -> Result<Arg, FuncStop>
+pub fn min(args: &[Arg]) -> Result<Arg, FuncStop>
     requires { Takes func.Min (length args.now) }
     ensures exact { IfOk result (λ answer. answer ≡ exact (min_of args.now)) }
     ensures narrow { Answers (min_of args.now) result }
+    ensures answer { IsOk result }
 {
-    match numbers_of(alloc, args)? {
-        Ok(numbers) => Ok(number(least(&numbers))),
+    match Tally::Least.of_args(None, args) {
+        Ok(Some(least)) => Ok(number(least)),
+        Ok(None) => Ok(number(Frac::zero())),
         Err(kind) => Ok(fault(kind)),
     }
 }
 
 /// MAX: the greatest number of all arguments, 0 where there is none.
-pub fn max(alloc: Global, args: &[Arg]) -> Result<Arg, FuncStop>
+pub fn max(args: &[Arg]) -> Result<Arg, FuncStop>
     requires { Takes func.Max (length args.now) }
     ensures exact { IfOk result (λ answer. answer ≡ exact (max_of args.now)) }
     ensures narrow { Answers (max_of args.now) result }
+    ensures answer { IsOk result }
 {
-    match numbers_of(alloc, args)? {
-        Ok(numbers) => Ok(number(greatest(&numbers))),
+    match Tally::Greatest.of_args(None, args) {
+        Ok(Some(greatest)) => Ok(number(greatest)),
+        Ok(None) => Ok(number(Frac::zero())),
         Err(kind) => Ok(fault(kind)),
     }
 }
 
-/// The sum of some numbers, from 0 and one by one.
-pub(crate) fn total(numbers: &[Frac]) -> Result<Frac, FuncStop>
-    ensures { Answers (total numbers.now) result }
+// A sum divided by how many numbers there are.
+fn mean(sum: Frac, count: i128) -> Result<Arg, FuncStop>
+    requires { IsNarrowWhole count }
+    ensures answer { (xs : List ℚ) → narrow (total xs) ≡ Some sum → count ≡ pos (length xs) → Answers (mean xs) result }
+    ensures stop { IsOkUnless result stops.Wide }
 {
-    let mut total = Frac::zero();
-    for number in numbers {
-        total = add(total, *number)?;
-    }
-    Ok(total)
-}
-
-// The sum divided by how many there are.
-fn mean(numbers: &[Frac]) -> Result<Arg, FuncStop>
-    ensures { Answers (mean numbers.now) result }
-{
-    if numbers.is_empty() {
+    if count == 0 {
         return Ok(fault(ErrorKind::Div0));
     }
-    let total = total(numbers)?;
-    calculated(divide(total, whole(numbers.len() as i128)))
+    calculated(divide(sum, whole(count)))
+}
+
+// How many items some arguments have, errors too.
+fn count_items(args: &[Arg]) -> i128
+    ensures count { result ≡ pos (length (flat_map items_in args.now)) }
+    ensures narrow { IsNarrowWhole result }
+{
+    let mut count = 0;
+    for arg in args {
+        count += count_items_in(arg) as i128;
+    }
+    count
+}
+
+// How many items an argument has.
+fn count_items_in(arg: &Arg) -> usize
+    ensures { result ≡ length (items_in arg.now) }
+{
+    match arg {
+        Arg::One(_) => 1,
+        Arg::Area(grid) => count_items_among(grid.items()),
+    }
+}
+
+// How many items are among some elements.
+fn count_items_among(items: &[Value]) -> usize
+    ensures { result ≡ length (filter (λ v. is_some (number_at v)) items.now) }
+{
+    items.iter().filter(|item| is_item(item)).count()
+}
+
+// Whether a value is a number or an error.
+fn is_item(value: &Value) -> bool
+    ensures { result ≡ is_some (number_at value.now) }
+{
+    matches!(value, Value::Number(_) | Value::Error(_))
+}
+
+/// A sum as a result: the sum, what stops it where it isn't narrow, or the error that it met.
+pub(crate) fn summed(sum: Result<Option<Frac>, ErrorKind>) -> Result<Arg, FuncStop>
+    ensures answer { (numbers : Result (List ℚ) ErrorKind) → sum ≡ tally_or_error Total (Some zero_ℚ) numbers → Answers (on_ok numbers (λ xs. counted (total xs))) result }
+    ensures stop { IsOkUnless result stops.Wide }
+{
+    match sum {
+        Ok(Some(sum)) => Ok(number(sum)),
+        Ok(None) => Err(FuncStop::Wide),
+        Err(kind) => Ok(fault(kind)),
+    }
 }
 
 // How many numbers are among some elements.
@@ -110,60 +160,4 @@ pub(crate) fn is_number(value: &Value) -> bool
     ensures { result ≡ is_number value.now }
 {
     matches!(value, Value::Number(_))
-}
-
-// The least of some numbers, 0 for none.
-fn least(numbers: &[Frac]) -> Frac
-    ensures { result ≡ least numbers.now }
-{
-    let [first, others @ ..] = numbers else {
-        return Frac::zero();
-    };
-    least_from(*first, others)
-}
-
-// The least of a number and others.
-fn least_from(first: Frac, others: &[Frac]) -> Frac
-    ensures { result ≡ least (first ∷ others.now) }
-{
-    let mut least = first;
-    for other in others {
-        least = lesser(least, *other);
-    }
-    least
-}
-
-// The lesser of two numbers.
-fn lesser(x: Frac, y: Frac) -> Frac
-    ensures { result ≡ lesser x y }
-{
-    if y.is_below(x) { y } else { x }
-}
-
-// The greatest of some numbers, 0 for none.
-fn greatest(numbers: &[Frac]) -> Frac
-    ensures { result ≡ greatest numbers.now }
-{
-    let [first, others @ ..] = numbers else {
-        return Frac::zero();
-    };
-    greatest_from(*first, others)
-}
-
-// The greatest of a number and others.
-fn greatest_from(first: Frac, others: &[Frac]) -> Frac
-    ensures { result ≡ greatest (first ∷ others.now) }
-{
-    let mut greatest = first;
-    for other in others {
-        greatest = greater(greatest, *other);
-    }
-    greatest
-}
-
-// The greater of two numbers.
-fn greater(x: Frac, y: Frac) -> Frac
-    ensures { result ≡ greater x y }
-{
-    if y.is_below(x) { x } else { y }
 }

@@ -1,9 +1,9 @@
 // Tables of records, whose first field is the key.
-ghost use Rattle.std.specs.Prelude.{◌≡◌, ◌<◌, slice_index_or};
+ghost use Rattle.std.specs.Prelude.{◌≡◌, ◌<◌, ◌^◌, length, slice_index_or};
 ghost use Rattle.sheet_model.specs.declared.value.Value.TheVariants.{Empty};
 ghost use Rattle.sheet_funcs.specs.Arguments.{grid_of};
 ghost use Rattle.sheet_funcs.specs.Products.{transposed};
-ghost use Rattle.sheet_funcs.specs.TableViews.{IsIndexed, IsTable, field_place};
+ghost use Rattle.sheet_funcs.specs.TableViews.{HasKeys, IsIndexed, IsTable, field_place, keys_of};
 
 use crate::given::full_elements;
 use crate::items::{columns_of, rows_of};
@@ -58,5 +58,22 @@ pub(crate) fn across(arg: &Arg) -> TableView<'_>
         key_step: 1,
         fields: rows_of(arg),
         field_step: columns_of(arg),
+    }
+}
+
+/// The table of which the keys alone are there, and so many fields are told.
+pub(crate) fn keys_alone(keys: &[Value], fields: u32) -> TableView<'_>
+    requires { length keys.now < 2 ^ 32 }
+    ensures fields { result.fields ≡ fields }
+    ensures count { result.keys ≡ length keys.now }
+    ensures keys { keys_of result ≡ keys.now }
+    ensures spaced { HasKeys result }
+{
+    TableView {
+        items: keys,
+        keys: keys.len() as u32,
+        key_step: 1,
+        fields,
+        field_step: 0,
     }
 }

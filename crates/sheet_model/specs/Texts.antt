@@ -1,11 +1,11 @@
 -- The texts of a plain sheet that stand for numbers, cells and areas, each as a function of the text's bytes.
-use Rattle.std.specs.Prelude.{ℕ, ◌-◌, ◌<◌, min, max, ◌==◌, ◌&&◌, not, nat_lt, nat_le, if◌then◌else◌, List, [], ◌∷◌, length, drop, slice_index, Option, Some, None, option_map, ℤ, pos, neg_ℤ}
+use Rattle.std.specs.Prelude.{ℕ, ◌-◌, ◌<◌, ◌==◌, ◌&&◌, not, nat_lt, nat_le, if◌then◌else◌, List, [], ◌∷◌, length, drop, slice_index, Option, Some, None, option_map, ℤ, pos, neg_ℤ}
 use Rattle.std.specs.Option.{option_and_then}
 use Rattle.std.specs.Str.{all_ascii_digits}
 use Rattle.std.specs.Str.Parse.{digits_value}
 use Rattle.cell_refs.specs.declared.cell.SheetId.{SheetId}
 use Rattle.cell_refs.specs.declared.cell.Cell.{Cell}
-use Rattle.cell_refs.specs.declared.cell.Area.{Area}
+use Rattle.cell_refs.specs.Areas.{Area, between}
 
 -- one to four digits, as a number
 abbrev pub digits_in : List ℕ → Option ℕ
@@ -47,10 +47,6 @@ abbrev pub cut_at : ℕ → List ℕ → Option (List ℕ × List ℕ)
 cut_at mark [] = None
 cut_at mark (byte ∷ bytes) =
     if byte == mark then Some ([], bytes) else option_map (λ (p : List ℕ × List ℕ). (byte ∷ p.0, p.1)) (cut_at mark bytes)
-
--- the area of two corners
-abbrev pub between : Cell → Cell → Area
-between a b = record { sheet = a.sheet; top = min a.row b.row; left = min a.col b.col; bottom = max a.row b.row; right = max a.col b.col }
 
 abbrev pub area_of : SheetId → List ℕ → Option (List ℕ × List ℕ) → Option Area
 area_of home text None = option_map (λ c. between c c) (address_in home text)

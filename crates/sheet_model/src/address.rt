@@ -1,7 +1,6 @@
 // References: one address, or two joined by a colon.
 ghost use Rattle.std.specs.Prelude.{◌≡◌, ◌<◌, option_map, IfSome};
-ghost use Rattle.cell_refs.specs.Areas.{IsInOrder};
-ghost use Rattle.sheet_model.specs.Texts.{IsOnPlainSheet, address_in, area_in, between, row_in, undollared};
+ghost use Rattle.sheet_model.specs.Texts.{IsOnPlainSheet, address_in, area_in, row_in, undollared};
 
 use crate::cut::cut;
 use crate::number::digits;
@@ -25,14 +24,13 @@ pub fn cell(text: &[u8], home: SheetId) -> Option<Cell>
     }
 }
 
-/// The area that a reference names, its corners put in order.
+/// The area that a reference names.
 pub fn area(text: &[u8], home: SheetId) -> Option<Area>
-    ensures value { result ≡ area_in home text.now }
-    ensures order { IfSome result IsInOrder }
+    ensures { result ≡ area_in home text.now }
 {
     match cut(text, b':') {
-        None => Some(between(cell(text, home)?, cell(text, home)?)),
-        Some((first, second)) => Some(between(cell(first, home)?, cell(second, home)?)),
+        None => Some(Area::between(cell(text, home)?, cell(text, home)?)),
+        Some((first, second)) => Some(Area::between(cell(first, home)?, cell(second, home)?)),
     }
 }
 
@@ -56,20 +54,4 @@ fn row(text: &[u8]) -> Option<u16>
         return None;
     }
     Some(number - 1)
-}
-
-// The area of two corners.
-fn between(first: Cell, second: Cell) -> Area
-    requires first { IsOnPlainSheet first }
-    requires second { IsOnPlainSheet second }
-    ensures value { result ≡ between first second }
-    ensures order { IsInOrder result }
-{
-    Area {
-        sheet: first.sheet,
-        top: first.row.min(second.row),
-        left: first.col.min(second.col),
-        bottom: first.row.max(second.row),
-        right: first.col.max(second.col),
-    }
 }

@@ -1,5 +1,5 @@
 // The operators on single values.
-ghost use Rattle.std.specs.Prelude.{◌≡◌, ◌&&◌, IfSome, true, false, pos, negsuc, ◌≤ℤ◌, MatchOption};
+ghost use Rattle.std.specs.Prelude.{◌≡◌, ◌&&◌, IfSome, IsOkUnless, true, false, pos, negsuc, ◌≤ℤ◌, MatchOption};
 ghost use Rattle.std.specs.Result.{result_map_both};
 ghost use Rattle.fractions.specs.Rational.{neg_ℚ, numerator, ℚ};
 ghost use Rattle.calculations.specs.Calculation.{Calculation, done, product, sum};
@@ -110,9 +110,11 @@ fn divided(x: Frac, y: Frac) -> Result<Value, FuncStop>
     number(x.div(y))
 }
 
-// The power of two numbers.
-fn raised(x: Frac, y: Frac) -> Result<Value, FuncStop>
-    ensures { Answers (raised x y) result }
+/// The power of two numbers; the error stands for an exponent that isn't whole or isn't from -1000 to 1000, and for a negative
+/// power of 0.
+pub fn raised(x: Frac, y: Frac) -> Result<Value, FuncStop>
+    ensures narrow { Answers (raised x y) result }
+    ensures stop { IsOkUnless result stops.Wide }
 {
     let Some(exponent) = exponent(y) else {
         return Ok(Value::Error(ErrorKind::Num));

@@ -15,6 +15,7 @@ mod stop;
 mod value;
 
 pub use address::{area, cell};
+pub use arithmetic::raised;
 pub use convert::{to_logical, to_number};
 pub use formula::{Factor, Product, Sign, Term, formulas_are_read_as_spelled, plain_formula};
 pub use grid::{Arg, Grid};
