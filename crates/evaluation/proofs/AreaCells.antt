@@ -1,10 +1,9 @@
 -- The cells of areas.
-use Rattle.std.proofs.Common.{◌≡◌, ◌<◌, ◌+◌, ◌-◌, ◌*◌, ◌++◌, ℕ, List, [], ◌∷◌, length, map, flat_map, sym, ap, ◌∙◌, append_assoc, length-append, arith}
+use Rattle.std.proofs.Common.{◌≡◌, ◌<◌, ◌+◌, ◌*◌, ◌++◌, ℕ, List, [], ◌∷◌, length, map, flat_map, sym, ap, ◌∙◌, append_assoc, length-append, arith}
 use Rattle.std.specs.List.{range_with_len}
 use Rattle.std.proofs.lemmas.List.FromFn.{length-map-range_with_len, map-range_with_len_more}
 use Rattle.cell_refs.specs.declared.cell.Cell.{Cell}
-use Rattle.cell_refs.specs.declared.cell.Area.{Area}
-use Rattle.cell_refs.specs.Areas.{IsInOrder, area_len, area_width, cell_at, cells_of}
+use Rattle.cell_refs.specs.Areas.{Area, area_height, area_len, area_width, cell_at, cells_of}
 use Rattle.evaluation.specs.Parts.{IsFullGrid}
 
 -- one cell more of an area
@@ -20,7 +19,7 @@ count a = length-map-range_with_len (cell_at a) 0 (area_len a)
 
 -- an area has at least one cell
 some_cells : (a : Area) → 0 < length (cells_of a)
-some_cells a = rw (count a) (some (a.bottom - a.top) (a.right - a.left))
+some_cells a = rw (count a) (some a.further_rows a.further_columns)
   where
     some : (m n : ℕ) → 0 < (m + 1) * (n + 1)
     some m n = omega arith
@@ -31,13 +30,10 @@ some_in_all [] h = absurd (omega arith)
 some_in_all (a ∷ areas) h = rw length-append (omega (arith, some_cells a))
 
 -- the cells of an area stand in its rows and columns
-pub full_area : (a : Area) (cells : List Cell) → IsInOrder a → cells ≡ [] ++ cells_of a → IsFullGrid (record { rows = a.bottom + 1 - a.top; columns = a.right - a.left + 1; cells = cells })
-full_area a cells order e =
-    let rows = order.rows in
-    record {
-      some_rows = omega arith;
-      some_columns = omega arith;
-      size =
-          let same : a.bottom - a.top + 1 ≡ a.bottom + 1 - a.top = omega arith in
-          ap length e ∙ count a ∙ ap (λ n. n * area_width a) same;
-    }
+pub full_area : (a : Area) (rows columns : ℕ) (cells : List Cell) → rows ≡ area_height a → columns ≡ area_width a → cells ≡ [] ++ cells_of a
+    → IsFullGrid (record { rows = rows; columns = columns; cells = cells })
+full_area a rows columns cells r c e = record {
+  some_rows = omega (arith, r);
+  some_columns = omega (arith, c);
+  size = ap length e ∙ count a ∙ sym (λ i. (r i) * (c i));
+}

@@ -1,7 +1,11 @@
 pub mod AreaCells
 pub mod Composing
-pub mod LookKeys
 pub mod LookLists
+pub mod Chosen
+pub mod Elements
+pub mod Picking
+pub mod Picked
 pub mod LookMet
 pub mod LookRows
 pub mod Nodes
+pub mod Unread

@@ -13,7 +13,7 @@ use Rattle.sheet_funcs.specs.Arguments.{at, below}
 use Rattle.sheet_funcs.proofs.Parts.{rows_more}
 use Rattle.sheet_funcs.proofs.Ranges.{length-transposed}
 use Rattle.recalculation.specs.Evaluation.{CellGrid, values_in}
-use Rattle.recalculation.specs.Looking.{cell_in, column_cells, exchanged}
+use Rattle.recalculation.specs.Looks.{cell_in, column_cells, exchanged}
 use Rattle.recalculation.proofs.GridCells.{IsWhole, exchanged_values, first_column}
 use Rattle.evaluation.specs.Parts.{IsFullGrid}
 

@@ -1,19 +1,21 @@
 -- The parts of expressions.
-use Rattle.std.proofs.Common.{◌≡◌, ◌<◌, ◌+◌, ℕ, zero, suc, List, [], ◌∷◌, ◌++◌, length, map, take, get_or, refl, sym, ap, subst, ◌∙◌, Option, arith}
-use Rattle.std.specs.Prelude.{All, slice_index_or}
-use Rattle.std.proofs.lemmas.List.{take_more}
-use Rattle.cell_refs.specs.Areas.{IsInOrder}
-use Rattle.cell_refs.specs.declared.cell.Area.{Area}
+use Rattle.std.proofs.Common.{◌≡◌, ◌<◌, ◌+◌, ℕ, suc, List, [], ◌∷◌, ◌++◌, length, take, get_or, refl, sym, ap, ◌∙◌, Option, arith}
+use Rattle.std.proofs.lemmas.List.{length-take-le, take_more}
 use Rattle.cell_refs.specs.declared.cell.Cell.{Cell}
 use Rattle.cell_refs.specs.declared.span.Span.{Span}
-use Rattle.formula_ast.specs.Sound.{IsOnItsSheet, count}
-use Rattle.formula_ast.specs.Tree.{Tree, Trees, none, more, Listed, trees}
+use Rattle.formula_ast.proofs.Parts.{count-trees}
+use Rattle.formula_ast.specs.Sound.{count}
+use Rattle.formula_ast.specs.Tree.{Tree, Trees, none, more, trees}
 use Rattle.formula_ast.specs.View.{tree_of}
 use Rattle.formula_ast.specs.declared.expr.Node.{Node}
 use Rattle.recalculation.specs.Evaluation.{literal, literals}
-use Rattle.recalculation.specs.Looking.{Argument, arguments}
+use Rattle.recalculation.specs.Looks.{Argument}
+use Rattle.recalculation.specs.Looking.{arguments}
 use Rattle.sheet_model.specs.declared.value.Value.{Value}
+use Rattle.sheet_model.specs.declared.grid.Arg.{Arg}
 use Rattle.evaluation.specs.Parts.{part_of}
+use Rattle.evaluation.specs.Tables.{unread_at, is_place, read_at}
+use Rattle.evaluation.proofs.Unread.{unread_push}
 
 -- ---- arrays
 literals-push : (xs : List Tree) (x : Tree) → literals (trees (xs ++ x ∷ [])) ≡ literals (trees xs) ++ literal x ∷ []
@@ -34,22 +36,6 @@ pub literals-count : (ts : Trees) → length (literals ts) ≡ count ts
 literals-count none = refl
 literals-count (more t ts) = ap suc (literals-count ts)
 
--- ---- references
-listed_at : (areas : List Area) (k : ℕ) (d : Area) → slice_index_or (map Listed areas) k (Listed d) ≡ Listed (slice_index_or areas k d)
-listed_at [] k d = refl
-listed_at (a ∷ areas) zero d = refl
-listed_at (a ∷ areas) (suc k) d = listed_at areas k d
-
-length-listed : (areas : List Area) → length (map Listed areas) ≡ length areas
-length-listed [] = refl
-length-listed (a ∷ areas) = ap suc (length-listed areas)
-
--- areas on their sheets are in order
-pub in_order : (areas : List Area) → All IsOnItsSheet (map Listed areas) → All IsInOrder areas
-in_order areas h = λ k d within.
-    let here = subst IsOnItsSheet (listed_at areas k d) (h k (Listed d) (rw length-listed within)) in
-    record { rows = here.rows; columns = here.columns; last_row = omega (arith, here.last_row); last_column = omega (arith, here.last_column) }
-
 -- ---- arguments
 module _ (known : Cell → Option Value) where
   arguments-push : (xs : List Tree) (x : Tree) → arguments known (trees (xs ++ x ∷ [])) ≡ arguments known (trees xs) ++ part_of known x ∷ []
@@ -62,7 +48,7 @@ module _ (known : Cell → Option Value) where
   arguments-more xs i x h e = ap (λ ys. arguments known (trees ys)) (take_more xs i x h) ∙ arguments-push (take i xs) (get_or xs i x) ∙ ap (λ y. arguments known (trees (take i xs)) ++ part_of known y ∷ []) (sym e)
 
   -- one argument more
-  pub arguments_go : (xs : List Tree) (i : ℕ) (x : Tree) (so_far now : List Argument) (a : Argument) → i < length xs → x ≡ get_or xs i x
+  pub arguments_go : (xs : List Tree) (i : ℕ) (x : Tree) (so_far now : List (Argument Arg)) (a : Argument Arg) → i < length xs → x ≡ get_or xs i x
       → so_far ≡ arguments known (trees (take i xs)) → a ≡ part_of known x → now ≡ so_far ++ a ∷ [] → now ≡ arguments known (trees (take (i + 1) xs))
   arguments_go xs i x so_far now a h e before here after = after ∙ (λ j. (before j) ++ (here j) ∷ []) ∙ sym (arguments-more xs i x h e)
 
@@ -74,3 +60,13 @@ module _ (known : Cell → Option Value) where
   -- the part of an expression is that of its node
   pub of_node : (e : Tree) (s : Span) (n m : Node) → tree_of s n ≡ e → n ≡ m → part_of known e ≡ part_of known (tree_of s m)
   of_node e s n m view is = ap (part_of known) (sym view) ∙ ap (λ node. part_of known (tree_of s node)) is
+
+  -- one argument more, of which that at a place is left unread
+  pub unread_go : (place : Option ℕ) (xs : List Tree) (i : ℕ) (x : Tree) (so_far now : List (Argument Arg)) (a : Argument Arg) → i < length xs → x ≡ get_or xs i x
+      → so_far ≡ unread_at place (arguments known (trees (take i xs))) → a ≡ read_at (is_place place i) (part_of known x) → now ≡ so_far ++ a ∷ []
+      → now ≡ unread_at place (arguments known (trees (take (i + 1) xs)))
+  unread_go place xs i x so_far now a h e before here after =
+      let before_it : length (arguments known (trees (take i xs))) ≡ i = arguments-count (trees (take i xs)) ∙ count-trees (take i xs) ∙ length-take-le i xs (omega (arith, h)) in
+      after ∙ (λ j. (before j) ++ (here j) ∷ [])
+      ∙ ap (λ n. unread_at place (arguments known (trees (take i xs))) ++ read_at (is_place place n) (part_of known x) ∷ []) (sym before_it)
+      ∙ sym (ap (unread_at place) (arguments-more xs i x h e) ∙ unread_push place (arguments known (trees (take i xs))) (part_of known x))

@@ -1,41 +1,42 @@
 -- A part of a formula, composed of its own parts.
-use Rattle.std.specs.Prelude.{Bool, true, false, if◌then◌else◌, List, [], ◌∷◌, ◌++◌, ℤ, Option, Some, None, option_map, Result, Ok, Err}
+use Rattle.std.specs.Prelude.{ℕ, pos, if◌then◌else◌, List, [], ◌∷◌, ◌++◌, Option, Some, None, option_map}
 use Rattle.std.specs.Option.{option_and_then}
+use Rattle.fractions.specs.Whole.{whole_ℚ}
 use Rattle.calculations.specs.Calculation.{Calculation, narrow}
 use Rattle.cell_refs.specs.declared.cell.Cell.{Cell}
 use Rattle.cell_refs.specs.declared.op.Op.{Op}
-use Rattle.cell_refs.specs.declared.error_kind.ErrorKind.{ErrorKind}
 use Rattle.cell_refs.specs.declared.error_kind.ErrorKind.TheVariants as kind
 use Rattle.formula_ast.specs.declared.func.Func.{Func}
 use Rattle.formula_ast.specs.declared.func.Func.TheVariants as func
-use Rattle.sheet_model.specs.Conversions.{logical_in}
 use Rattle.sheet_model.specs.Operators.{infix_of, single}
 use Rattle.sheet_model.specs.declared.value.Value.{Value}
-use Rattle.sheet_model.specs.declared.value.Value.TheVariants.{Logical, Error}
+use Rattle.sheet_model.specs.declared.value.Value.TheVariants.{Error, Number}
 use Rattle.sheet_model.specs.declared.grid.Arg.{Arg}
 use Rattle.sheet_model.specs.declared.grid.Arg.TheVariants.{One, Area as Elements}
-use Rattle.sheet_funcs.specs.Arguments.{value_of}
-use Rattle.sheet_funcs.specs.Rounding.{place_of}
+use Rattle.sheet_funcs.specs.Lookups.{record_pick}
+use Rattle.sheet_funcs.specs.Picks.{pick_of, taken_from}
 use Rattle.sheet_funcs.specs.Table.{called}
-use Rattle.recalculation.specs.Evaluation.{CellGrid, values_in, at_place}
-use Rattle.recalculation.specs.Looking.{Argument, known_or_empty, are_known, both, outcomes, call_looks}
+use Rattle.sheet_funcs.specs.declared.pick.Pick.{Pick}
+use Rattle.recalculation.specs.Evaluation.{CellGrid, values_in, at_chosen, chosen_place, without_choice}
+use Rattle.recalculation.specs.Looks.{Argument, both, outcomes, elements, picked_cells, column_cells, exchanged, call_looks}
+use Rattle.recalculation.specs.Looking.{by_value, known_or_empty, are_known}
 
 -- ---- parts without calls
 -- a part that looks at nothing
-abbrev pub plain : Arg → Argument
+abbrev pub plain : Arg → Argument Arg
 plain v = record { looks = []; outcome = Some v; reference = None }
 
 -- a reference
-abbrev pub referred : (Cell → Option Value) → CellGrid → Argument
+abbrev pub referred : (Cell → Option Value) → CellGrid → Argument Arg
 referred known g =
     record { looks = g.cells; outcome = if are_known known g.cells then Some (Elements (values_in (known_or_empty known) g)) else None; reference = Some g }
 
 -- an operator in front or behind
-abbrev pub turned : (Arg → Calculation Arg) → Argument → Argument
+abbrev pub turned : (Arg → Calculation Arg) → Argument Arg → Argument Arg
 turned f a = record { looks = a.looks; outcome = option_and_then (λ v. narrow (f v)) a.outcome; reference = None }
 
 -- an operator between two parts
-abbrev pub joined : Op → Argument → Argument → Argument
+abbrev pub joined : Op → Argument Arg → Argument Arg → Argument Arg
 joined op a b =
     record {
       looks = a.looks ++ b.looks;
@@ -44,69 +45,79 @@ joined op a b =
     }
 
 -- ---- functions that choose
-abbrev pub chosen_outcome : Argument → Option Arg
-chosen_outcome a = option_map single a.outcome
+-- the value of the argument that is chosen, or what stands where none is
+abbrev pub chosen_outcome : Arg → Option (Argument Arg) → Option Arg
+chosen_outcome without (Some a) = option_map single a.outcome
+chosen_outcome without None = Some without
 
-abbrev pub otherwise_outcome : List Argument → Option Arg
-otherwise_outcome [] = Some (One (Logical false))
-otherwise_outcome (a ∷ _) = chosen_outcome a
+abbrev pub choosing_outcome : Func → List (Argument Arg) → Option Arg
+choosing_outcome f [] = Some (One (Error kind.Value))
+choosing_outcome f (a ∷ others) = option_and_then (λ v. chosen_outcome (without_choice f v) (at_chosen others (chosen_place f v))) a.outcome
 
-abbrev pub branch_outcome : Argument → List Argument → Result Bool ErrorKind → Option Arg
-branch_outcome a others (Ok true) = chosen_outcome a
-branch_outcome a others (Ok false) = otherwise_outcome others
-branch_outcome a others (Err k) = Some (One (Error k))
+-- ---- functions of all their arguments
+abbrev pub narrow_called : Func → Option (List Arg) → Option Arg
+narrow_called f args = option_and_then (λ vs. narrow (called f vs)) args
 
-abbrev pub if_outcome : List Argument → Option Arg
-if_outcome (test ∷ a ∷ others) = option_and_then (λ v. branch_outcome a others (logical_in (value_of v))) test.outcome
-if_outcome _ = None
+-- ---- functions that pick from a reference
+-- what is picked, where the values of all picked cells are known
+abbrev pub picked_outcome : (Cell → Option Value) → CellGrid → Pick → Option Arg
+picked_outcome known g p = if are_known known (picked_cells g p) then Some (taken_from (values_in (known_or_empty known) g) p) else None
 
-abbrev pub or_else_outcome : Argument → Arg → Option Arg
-or_else_outcome other (One (Error k)) = chosen_outcome other
-or_else_outcome other v = Some v
+-- INDEX
+abbrev pub index_of_outcome : (Cell → Option Value) → Argument Arg → List (Argument Arg) → Option CellGrid → Option Arg
+index_of_outcome known a places None = narrow_called func.Index (outcomes (a ∷ places))
+index_of_outcome known a places (Some g) = option_and_then (λ vs. picked_outcome known g (pick_of g.rows g.columns vs)) (outcomes places)
 
-abbrev pub iferror_outcome : List Argument → Option Arg
-iferror_outcome (a ∷ other ∷ []) = option_and_then (λ v. or_else_outcome other (single v)) a.outcome
-iferror_outcome _ = None
+abbrev pub index_outcome : (Cell → Option Value) → List (Argument Arg) → Option Arg
+index_outcome known [] = narrow_called func.Index (Some [])
+index_outcome known (a ∷ places) = index_of_outcome known a places a.reference
 
-abbrev pub at_place_outcome : Option Argument → Option Arg
-at_place_outcome (Some a) = chosen_outcome a
-at_place_outcome None = Some (One (Error kind.Value))
+-- VLOOKUP and HLOOKUP
+abbrev pub record_outcome : (Cell → Option Value) → CellGrid → List (Argument Arg) → Option Arg
+record_outcome known g args =
+    option_and_then (λ keys. option_and_then (λ vs. picked_outcome known g (record_pick g.columns keys vs)) (outcomes args)) (elements known (column_cells g 0))
 
-abbrev pub place_outcome : List Argument → Result ℤ ErrorKind → Option Arg
-place_outcome others (Ok n) = at_place_outcome (at_place others n)
-place_outcome others (Err k) = Some (One (Error k))
+abbrev pub table_outcome : (Cell → Option Value) → Func → (CellGrid → CellGrid) → Argument Arg → Argument Arg → List (Argument Arg) → Option CellGrid → Option Arg
+table_outcome known f turned key table rest None = narrow_called f (outcomes (key ∷ table ∷ rest))
+table_outcome known f turned key table rest (Some g) = record_outcome known (turned g) (key ∷ rest)
 
-abbrev pub choose_outcome : List Argument → Option Arg
-choose_outcome (place ∷ others) = option_and_then (λ v. place_outcome others (place_of v)) place.outcome
-choose_outcome [] = None
+abbrev pub lookup_outcome : (Cell → Option Value) → Func → (CellGrid → CellGrid) → List (Argument Arg) → Option Arg
+lookup_outcome known f turned (key ∷ table ∷ rest) = table_outcome known f turned key table rest table.reference
+lookup_outcome known f turned args = narrow_called f (outcomes args)
 
--- ---- functions that pick from a reference: its cells without a known value count as empty, and what is looked at has to be known
+-- ROWS and COLUMNS: the size of a reference, whatever its elements are
+abbrev pub size_of_outcome : Func → (CellGrid → ℕ) → Argument Arg → Option CellGrid → Option Arg
+size_of_outcome f size a None = narrow_called f (outcomes (a ∷ []))
+size_of_outcome f size a (Some g) = Some (One (Number (whole_ℚ (pos (size g)))))
+
+abbrev pub size_outcome : Func → (CellGrid → ℕ) → List (Argument Arg) → Option Arg
+size_outcome f size (a ∷ []) = size_of_outcome f size a a.reference
+size_outcome f size args = narrow_called f (outcomes args)
+
+-- SUMIF: cells without a known value count as empty, and what is looked at has to be known
 abbrev pub filled_or : (Cell → Option Value) → Option CellGrid → Option Arg → Option Arg
 filled_or known (Some g) outcome = Some (Elements (values_in (known_or_empty known) g))
 filled_or known None outcome = outcome
 
-abbrev pub all_filled : (Cell → Option Value) → List Argument → Option (List Arg)
+abbrev pub all_filled : (Cell → Option Value) → List (Argument Arg) → Option (List Arg)
 all_filled known [] = Some []
 all_filled known (a ∷ args) = both (filled_or known a.reference a.outcome) (all_filled known args)
 
-abbrev pub narrow_called : Func → Option (List Arg) → Option Arg
-narrow_called f args = option_and_then (λ vs. narrow (called f vs)) args
+abbrev pub filled_outcome : (Cell → Option Value) → Func → List (Argument Arg) → Option Arg
+filled_outcome known f args = if are_known known (call_looks by_value known f args) then narrow_called f (all_filled known args) else None
 
-abbrev pub picking_outcome : (Cell → Option Value) → Func → List Argument → Option Arg
-picking_outcome known f args = if are_known known (call_looks known f args) then narrow_called f (all_filled known args) else None
-
--- ---- calls, each with as many arguments as the function takes
-abbrev pub call_outcome : (Cell → Option Value) → Func → List Argument → Option Arg
-call_outcome known func.If args = if_outcome args
-call_outcome known func.IfError args = iferror_outcome args
-call_outcome known func.Choose args = choose_outcome args
-call_outcome known func.Index args = picking_outcome known func.Index args
-call_outcome known func.VLookup args = picking_outcome known func.VLookup args
-call_outcome known func.HLookup args = picking_outcome known func.HLookup args
-call_outcome known func.SumIf args = picking_outcome known func.SumIf args
-call_outcome known func.Rows args = picking_outcome known func.Rows args
-call_outcome known func.Columns args = picking_outcome known func.Columns args
+-- ---- calls
+abbrev pub call_outcome : (Cell → Option Value) → Func → List (Argument Arg) → Option Arg
+call_outcome known func.If args = choosing_outcome func.If args
+call_outcome known func.IfError args = choosing_outcome func.IfError args
+call_outcome known func.Choose args = choosing_outcome func.Choose args
+call_outcome known func.Index args = index_outcome known args
+call_outcome known func.VLookup args = lookup_outcome known func.VLookup (λ g. g) args
+call_outcome known func.HLookup args = lookup_outcome known func.HLookup exchanged args
+call_outcome known func.SumIf args = filled_outcome known func.SumIf args
+call_outcome known func.Rows args = size_outcome func.Rows (λ g. g.rows) args
+call_outcome known func.Columns args = size_outcome func.Columns (λ g. g.columns) args
 call_outcome known f args = narrow_called f (outcomes args)
 
-abbrev pub call_part : (Cell → Option Value) → Func → List Argument → Argument
-call_part known f args = record { looks = call_looks known f args; outcome = call_outcome known f args; reference = None }
+abbrev pub call_part : (Cell → Option Value) → Func → List (Argument Arg) → Argument Arg
+call_part known f args = record { looks = call_looks by_value known f args; outcome = call_outcome known f args; reference = None }

@@ -1,5 +1,3 @@
 pub mod Parts
+pub mod Tables
 pub mod Composed
-pub mod FoundRows
-pub mod Known
-pub mod Picking

@@ -1,64 +1,72 @@
-// The functions that choose among their arguments.
-ghost use Rattle.std.specs.Prelude.{◌≡◌, ◌≤◌, IfOk, length};
-ghost use Rattle.evaluation.specs.Composed.{at_place_outcome, choose_outcome, chosen_outcome, if_outcome, iferror_outcome, or_else_outcome, otherwise_outcome};
-ghost use Rattle.recalculation.specs.Evaluation.{at_place};
+// IF, IFERROR and CHOOSE: by their first argument they choose one of those behind it.
+ghost use Rattle.std.specs.Prelude.{◌≡◌, ◌++◌, None, IfOk, option_map};
+ghost use Rattle.evaluation.specs.Composed.{chosen_outcome, choosing_outcome};
+ghost use Rattle.recalculation.specs.Evaluation.{at_chosen, choose_place, choose_without, chosen_place, if_place, if_without, iferror_place, is_one_error, without_choice};
+ghost use Rattle.recalculation.specs.Looking.{by_value};
+ghost use Rattle.recalculation.specs.Looks.{choosing_looks, looks_of};
+ghost use Rattle.sheet_funcs.specs.Arguments.{value_of};
+ghost use Rattle.sheet_funcs.specs.Criteria.{is_error};
+ghost use Rattle.sheet_funcs.specs.Rounding.{place_of};
+ghost use Rattle.sheet_model.specs.Conversions.{logical_in};
 ghost use Rattle.sheet_model.specs.Operators.{single};
 
+use crate::looks::arguments::{copied, push_all};
 use crate::part::Part;
-use cell_refs::ErrorKind;
+use cell_refs::{Cell, ErrorKind};
+use formula_ast::Func;
 use sheet_funcs::{logical_of, place_of};
 use sheet_model::{Arg, Memory, Value};
 use std::alloc::Global;
 
-/// IF: the value of its second argument where the first is TRUE, and else of the third.
-pub(crate) fn if_outcome(alloc: Global, args: &[Part]) -> Result<Option<Arg>, Memory>
-    ensures { IfOk result (λ outcome. outcome ≡ if_outcome args.now) }
+/// A call: it looks at its first argument and then at the chosen one, and has the value of the chosen one.
+#[tactic(auto, using(crate::proofs::Chosen::looks_are))]
+pub(crate) fn choosing_part(alloc: Global, function: Func, args: &[Part]) -> Result<Part, Memory>
+    ensures { IfOk result (λ part. part ≡ record { looks = choosing_looks by_value function args.now; outcome = choosing_outcome function args.now; reference = None }) }
 {
-    let [test, chosen, others @ ..] = args else {
-        return Ok(None);
+    let [first, others @ ..] = args else {
+        return Ok(Part::plain(alloc, Arg::One(Value::Error(ErrorKind::Value))));
     };
-    let Some(value) = test.outcome() else {
-        return Ok(None);
+    let looks = copied(alloc, &first.looks)?;
+    let Some(value) = &first.outcome else {
+        return Ok(Part {
+            looks,
+            outcome: None,
+            reference: None,
+        });
     };
-    match logical_of(value) {
-        Ok(true) => chosen_outcome(alloc, chosen),
-        Ok(false) => otherwise_outcome(alloc, others),
-        Err(kind) => Ok(Some(Arg::One(Value::Error(kind)))),
-    }
+    chosen_part(alloc, function, looks, value, others)
 }
 
-/// IFERROR: the value of its first argument, or of the second where that is an error.
-pub(crate) fn iferror_outcome(alloc: Global, args: &[Part]) -> Result<Option<Arg>, Memory>
-    ensures { IfOk result (λ outcome. outcome ≡ iferror_outcome args.now) }
+// A call that looks at some cells and has a first argument of some value.
+fn chosen_part(
+    alloc: Global,
+    function: Func,
+    mut looks: Vec<Cell>,
+    first: &Arg,
+    others: &[Part],
+) -> Result<Part, Memory>
+    ensures { IfOk result (λ part. part ≡ record { looks = looks.items ++ looks_of (at_chosen others.now (chosen_place function first.now)); outcome = chosen_outcome (without_choice function first.now) (at_chosen others.now (chosen_place function first.now)); reference = None }) }
 {
-    let [tried, other] = args else {
-        return Ok(None);
+    let Some(part) = chosen(function, first, others) else {
+        let without = without_choice(alloc, function, first)?;
+        return Ok(Part {
+            looks,
+            outcome: Some(without),
+            reference: None,
+        });
     };
-    let Some(value) = tried.outcome() else {
-        return Ok(None);
-    };
-    or_else_outcome(alloc, other, single_of(alloc, value)?)
-}
-
-/// CHOOSE: the value of the argument at a place, counted from 1 behind the place itself.
-pub(crate) fn choose_outcome(alloc: Global, args: &[Part]) -> Result<Option<Arg>, Memory>
-    ensures { IfOk result (λ outcome. outcome ≡ choose_outcome args.now) }
-{
-    let [place, others @ ..] = args else {
-        return Ok(None);
-    };
-    let Some(value) = place.outcome() else {
-        return Ok(None);
-    };
-    match place_of(value) {
-        Ok(place) => at_place_outcome(alloc, others, place),
-        Err(kind) => Ok(Some(Arg::One(Value::Error(kind)))),
-    }
+    push_all(&part.looks, &mut looks)?;
+    let outcome = single_outcome(alloc, part)?;
+    Ok(Part {
+        looks,
+        outcome,
+        reference: None,
+    })
 }
 
 // The value of what is chosen, a single value where it has one element.
-fn chosen_outcome(alloc: Global, part: &Part) -> Result<Option<Arg>, Memory>
-    ensures { IfOk result (λ outcome. outcome ≡ chosen_outcome part.now) }
+fn single_outcome(alloc: Global, part: &Part) -> Result<Option<Arg>, Memory>
+    ensures { IfOk result (λ outcome. outcome ≡ option_map single part.now.outcome) }
 {
     match part.outcome() {
         Some(value) => Ok(Some(single_of(alloc, value)?)),
@@ -66,34 +74,107 @@ fn chosen_outcome(alloc: Global, part: &Part) -> Result<Option<Arg>, Memory>
     }
 }
 
-// The value of the first of some parts; FALSE where there is none.
-fn otherwise_outcome(alloc: Global, others: &[Part]) -> Result<Option<Arg>, Memory>
-    ensures { IfOk result (λ outcome. outcome ≡ otherwise_outcome others.now) }
+// The argument that is chosen, if there is one.
+fn chosen<'a>(function: Func, first: &Arg, others: &'a [Part]) -> Option<&'a Part>
+    ensures { option_map (λ part. part.now) result ≡ at_chosen others.now (chosen_place function first.now) }
 {
-    match others {
-        [] => Ok(Some(Arg::One(Value::Logical(false)))),
-        [other, ..] => chosen_outcome(alloc, other),
+    match function {
+        Func::If => by_test(first, others),
+        Func::IfError => by_error(first, others),
+        _ => by_place(first, others),
     }
 }
 
-// A value, or that of another part where it is an error.
-fn or_else_outcome(alloc: Global, other: &Part, value: Arg) -> Result<Option<Arg>, Memory>
-    ensures { IfOk result (λ outcome. outcome ≡ or_else_outcome other.now value) }
+// The first argument where a test holds, and the second where it doesn't.
+fn by_test<'a>(test: &Arg, others: &'a [Part]) -> Option<&'a Part>
+    ensures { option_map (λ part. part.now) result ≡ at_chosen others.now (if_place (logical_in (value_of test.now))) }
 {
-    if matches!(&value, Arg::One(Value::Error(_))) {
-        return chosen_outcome(alloc, other);
+    match logical_of(test) {
+        Ok(true) => others.first(),
+        Ok(false) => others.get(1),
+        Err(_) => None,
     }
-    Ok(Some(value))
 }
 
-// The value of the part at a place, counted from 1.
-fn at_place_outcome(alloc: Global, parts: &[Part], place: i128) -> Result<Option<Arg>, Memory>
-    ensures { IfOk result (λ outcome. outcome ≡ at_place_outcome (at_place parts.now place)) }
+// The first argument where another one is an error.
+fn by_error<'a>(tried: &Arg, others: &'a [Part]) -> Option<&'a Part>
+    ensures { option_map (λ part. part.now) result ≡ at_chosen others.now (iferror_place (is_one_error (single tried.now))) }
 {
-    if place < 1 || place > parts.len() as i128 {
-        return Ok(Some(Arg::One(Value::Error(ErrorKind::Value))));
+    if is_one_error(tried) {
+        return others.first();
     }
-    chosen_outcome(alloc, &parts[(place - 1) as usize])
+    None
+}
+
+// The argument at a place, counted from 1.
+fn by_place<'a>(place: &Arg, others: &'a [Part]) -> Option<&'a Part>
+    ensures { option_map (λ part. part.now) result ≡ at_chosen others.now (choose_place (place_of place.now)) }
+{
+    let Ok(place) = place_of(place) else {
+        return None;
+    };
+    at_place(others, place)
+}
+
+// The same of the number.
+fn at_place(others: &[Part], place: i128) -> Option<&Part>
+    ensures { option_map (λ part. part.now) result ≡ at_chosen others.now (choose_place (Ok place)) }
+{
+    if place < 1 || place > others.len() as i128 {
+        return None;
+    }
+    Some(&others[(place - 1) as usize])
+}
+
+// Whether a value is an error, as a single value where it has one element.
+fn is_one_error(arg: &Arg) -> bool
+    ensures { result ≡ is_one_error (single arg.now) }
+{
+    match arg {
+        Arg::One(value) => is_error(value),
+        Arg::Area(grid) => match grid.items() {
+            [value] => is_error(value),
+            _ => false,
+        },
+    }
+}
+
+// Whether a single value is.
+fn is_error(value: &Value) -> bool
+    ensures { result ≡ is_error value.now }
+{
+    matches!(value, Value::Error(_))
+}
+
+// The value where no argument is there to be chosen.
+fn without_choice(alloc: Global, function: Func, first: &Arg) -> Result<Arg, Memory>
+    ensures { IfOk result (λ value. value ≡ without_choice function first.now) }
+{
+    match function {
+        Func::If => Ok(Arg::One(without_branch(first))),
+        Func::IfError => single_of(alloc, first),
+        _ => Ok(Arg::One(without_place(first))),
+    }
+}
+
+// The value of IF without a third argument, or where its test is an error.
+fn without_branch(test: &Arg) -> Value
+    ensures { result ≡ if_without (logical_in (value_of test.now)) }
+{
+    match logical_of(test) {
+        Ok(_) => Value::Logical(false),
+        Err(kind) => Value::Error(kind),
+    }
+}
+
+// The value of CHOOSE without an argument at its place, or where its place is an error.
+fn without_place(place: &Arg) -> Value
+    ensures { result ≡ choose_without (place_of place.now) }
+{
+    match place_of(place) {
+        Ok(_) => Value::Error(ErrorKind::Value),
+        Err(kind) => Value::Error(kind),
+    }
 }
 
 // An equal value, a single one where it has one element.

@@ -1,6 +1,5 @@
 // Numbers, texts, logicals, arrays and references.
-ghost use Rattle.std.specs.Prelude.{◌≡◌, ◌<◌, ◌*◌, All, IfOk, length};
-ghost use Rattle.cell_refs.specs.Areas.{IsInOrder};
+ghost use Rattle.std.specs.Prelude.{◌≡◌, ◌<◌, IfOk, length};
 ghost use Rattle.evaluation.specs.Composed.{plain, referred};
 ghost use Rattle.formula_ast.specs.Sound.{IsRectangular};
 ghost use Rattle.formula_ast.specs.Tree.{trees};
@@ -39,8 +38,7 @@ pub(crate) fn reference_part<C: Cells>(
     cells: &C,
     areas: &[Area],
 ) -> Result<Part, Memory>
-    requires some { 0 < length areas.now }
-    requires order { All IsInOrder areas.now }
+    requires { 0 < length areas.now }
     ensures { IfOk result (λ part. part ≡ referred (C.known cells.now) (grid_of_areas areas.now)) }
 {
     let reference = Reference::of_areas(alloc, areas)?;
@@ -48,6 +46,19 @@ pub(crate) fn reference_part<C: Cells>(
     Ok(Part {
         looks: Vec::from_slice(alloc, &reference.cells)?,
         outcome,
+        reference: Some(reference),
+    })
+}
+
+/// A reference to some areas whose values are left unread.
+pub(crate) fn table_part(alloc: Global, areas: &[Area]) -> Result<Part, Memory>
+    requires { 0 < length areas.now }
+    ensures { IfOk result (λ part. part ≡ record { looks = (grid_of_areas areas.now).cells; outcome = None; reference = Some (grid_of_areas areas.now) }) }
+{
+    let reference = Reference::of_areas(alloc, areas)?;
+    Ok(Part {
+        looks: Vec::from_slice(alloc, &reference.cells)?,
+        outcome: None,
         reference: Some(reference),
     })
 }

@@ -1,5 +1,5 @@
 // Parts of formulas.
-ghost use Rattle.std.specs.Prelude.{◌≡◌, IfOk, Some, option_map};
+ghost use Rattle.std.specs.Prelude.{◌≡◌, IfOk, None, Some, option_map};
 ghost use Rattle.recalculation.specs.Evaluation.{cell_value, filled};
 ghost use Rattle.evaluation.specs.Composed.{plain};
 
@@ -20,9 +20,10 @@ pub struct Part {
 }
 
 impl Model for Part {
-    ghost use Rattle.recalculation.specs.Looking.{Argument};
+    ghost use Rattle.recalculation.specs.Looks.{Argument};
+    ghost use Rattle.sheet_model.specs.declared.grid.Arg.{Arg};
 
-    ghost Value = { Argument };
+    ghost Value = { Argument Arg };
 
     ghost view = { λ p. record { looks = p.looks.items; outcome = p.outcome; reference = p.reference } };
 }
@@ -49,6 +50,17 @@ impl Part {
         match &self.outcome {
             Some(arg) => Ok(Some(cell_value(alloc, arg)?)),
             None => Ok(None),
+        }
+    }
+
+    /// A part that looks at some cells and has no value.
+    pub(crate) fn without(looks: Vec<Cell>) -> Part
+        ensures { result ≡ record { looks = looks.items; outcome = None; reference = None } }
+    {
+        Part {
+            looks,
+            outcome: None,
+            reference: None,
         }
     }
 

@@ -1,6 +1,6 @@
 // The cells of references.
-ghost use Rattle.std.specs.Prelude.{◌≡◌, ◌<◌, ◌++◌, [], ◌∷◌, All, IfOk, flat_map, length};
-ghost use Rattle.cell_refs.specs.Areas.{IsInOrder, cells_of};
+ghost use Rattle.std.specs.Prelude.{◌≡◌, ◌<◌, ◌++◌, [], ◌∷◌, IfOk, flat_map, length};
+ghost use Rattle.cell_refs.specs.Areas.{cells_of};
 ghost use Rattle.recalculation.specs.Evaluation.{grid_of_areas};
 
 use cell_refs::{Area, Cell};
@@ -30,8 +30,7 @@ impl Model for Reference {
 impl Reference {
     /// The cells of an area, or those of several, one behind the other in one column; out of memory where there are too many.
     pub(crate) fn of_areas(alloc: Global, areas: &[Area]) -> Result<Reference, Memory>
-        requires some { 0 < length areas.now }
-        requires order { All IsInOrder areas.now }
+        requires { 0 < length areas.now }
         ensures { IfOk result (λ g. g ≡ grid_of_areas areas.now) }
     {
         if let [area] = areas {
@@ -42,14 +41,13 @@ impl Reference {
 
     // The cells of an area in its rows and columns.
     fn of_area(alloc: Global, area: &Area) -> Result<Reference, Memory>
-        requires { IsInOrder area.now }
         ensures { IfOk result (λ g. g ≡ grid_of_areas (area.now ∷ [])) }
     {
         let mut cells = Vec::new(alloc);
         push_cells(area, &mut cells)?;
         Ok(Reference {
-            rows: area.bottom as u32 + 1 - area.top as u32,
-            cols: area.right as u32 - area.left as u32 + 1,
+            rows: area.bottom() as u32 - area.top() as u32 + 1,
+            cols: area.right() as u32 - area.left() as u32 + 1,
             cells,
         })
     }
@@ -72,7 +70,6 @@ impl Reference {
 
 // The cells of some areas, one behind the other.
 fn all_cells(alloc: Global, areas: &[Area]) -> Result<Vec<Cell>, Memory>
-    requires { All IsInOrder areas.now }
     ensures { IfOk result (λ cells. cells.items ≡ flat_map cells_of areas.now) }
 {
     let mut cells = Vec::new(alloc);
@@ -84,7 +81,6 @@ fn all_cells(alloc: Global, areas: &[Area]) -> Result<Vec<Cell>, Memory>
 
 // Puts the cells of an area behind others, row by row.
 fn push_cells(area: &Area, to: &mut Vec<Cell>) -> Result<(), Memory>
-    requires { IsInOrder area.now }
     ensures { IfOk result (λ _. to.new.items ≡ to.old.items ++ cells_of area.now) }
 {
     for place in 0..area.len() {

@@ -1,9 +1,10 @@
 // What is known of the values of cells.
-ghost use Rattle.std.specs.Prelude.{◌≡◌, IfOk, length, map, option_map};
+ghost use Rattle.std.specs.Prelude.{◌≡◌, ◌<◌, ◌*◌, IfOk, IfSome, length, map, option_map};
 ghost use Rattle.recalculation.specs.Looking.{are_known, known_or_empty};
+ghost use Rattle.recalculation.specs.Looks.{elements};
 ghost use Rattle.recalculation.specs.Evaluation.{values_in};
 ghost use Rattle.evaluation.specs.Composed.{referred};
-ghost use Rattle.evaluation.specs.Known.{known_values};
+ghost use Rattle.sheet_model.specs.Operators.{single};
 ghost use Rattle.sheet_model.specs.declared.grid.Arg.TheVariants.{Area as Elements};
 
 use crate::cells::Cells;
@@ -30,7 +31,8 @@ pub(crate) fn values_of<C: Cells>(
     cells: &C,
     of: &[Cell],
 ) -> Result<Option<Vec<Value>>, Memory>
-    ensures { IfOk result (λ found. option_map (λ values. values.items) found ≡ known_values (C.known cells.now) of.now) }
+    ensures values { IfOk result (λ found. option_map (λ values. values.items) found ≡ elements (C.known cells.now) of.now) }
+    ensures count { IfOk result (λ found. IfSome found (λ values. length values.items ≡ length of.now)) }
 {
     let mut values = Vec::new(alloc);
     for cell in of {
@@ -58,6 +60,7 @@ pub(crate) fn filled_values<C: Cells>(
 }
 
 /// The values of a reference, where all are known.
+#[tactic(auto, using(crate::proofs::Elements::elements_are))]
 pub(crate) fn known_grid<C: Cells>(
     alloc: Global,
     cells: &C,
@@ -89,6 +92,38 @@ fn in_grid(reference: &Reference, values: Vec<Value>) -> Arg
     ensures { result ≡ Elements (record { rows = reference.now.rows; columns = reference.now.columns; items = values.items }) }
 {
     match Grid::new(reference.rows, reference.cols, values) {
+        Some(grid) => Arg::Area(grid),
+        None => unreachable!(),
+    }
+}
+
+/// Values, if there are any, in so many rows and columns, and a single one where there is one.
+pub(crate) fn single_grid(rows: u32, cols: u32, values: Option<Vec<Value>>) -> Option<Arg>
+    requires some_rows { 0 < rows }
+    requires some_columns { 0 < cols }
+    requires count { IfSome values (λ v. length v.items ≡ rows * cols) }
+    ensures { result ≡ option_map (λ items. single (Elements (record { rows = rows; columns = cols; items = items }))) (option_map (λ v. v.items) values) }
+{
+    match values {
+        Some(values) => Some(one_or_grid(rows, cols, values)),
+        None => None,
+    }
+}
+
+// The same of values that there are.
+fn one_or_grid(rows: u32, cols: u32, values: Vec<Value>) -> Arg
+    requires some_rows { 0 < rows }
+    requires some_columns { 0 < cols }
+    requires count { length values.items ≡ rows * cols }
+    ensures { result ≡ single (Elements (record { rows = rows; columns = cols; items = values.items })) }
+{
+    let mut values = values;
+    if values.len() == 1 {
+        if let Some(value) = values.pop() {
+            return Arg::One(value);
+        }
+    }
+    match Grid::new(rows, cols, values) {
         Some(grid) => Arg::Area(grid),
         None => unreachable!(),
     }

@@ -3,7 +3,7 @@ use Rattle.std.proofs.Common.{◌≡◌, List, [], ◌∷◌, refl, sym, ap, ◌
 use Rattle.std.specs.Option.{option_and_then, option_map}
 use Rattle.calculations.specs.Calculation.{Calculation, narrow, followed_by, turned_into, for_each}
 use Rattle.calculations.proofs.CalculationLaws.{narrow-followed_by, narrow-turned_into}
-use Rattle.recalculation.specs.Looking.{both}
+use Rattle.recalculation.specs.Looks.{both}
 
 -- the answers are the same, and then those of what follows
 pub behind : {A B : Type 0} (c d : Calculation A) (f g : A → Calculation B) → narrow c ≡ narrow d → ((a : A) → narrow d ≡ Some a → narrow (f a) ≡ narrow (g a))

@@ -1,18 +1,17 @@
 -- The cells of a grid and their values, by rows and columns.
-use Rattle.std.proofs.Common.{◌≡◌, ℕ, zero, suc, ◌+◌, ◌-◌, ◌*◌, ◌<◌, ◌≤◌, List, [], ◌∷◌, ◌++◌, length, refl, sym, ap, subst, ◌∙◌, arith}
+use Rattle.std.proofs.Common.{◌≡◌, ℕ, zero, suc, ◌+◌, ◌*◌, ◌<◌, ◌≤◌, List, [], ◌∷◌, ◌++◌, length, refl, sym, ap, subst, ◌∙◌, arith}
 use Rattle.std.specs.Prelude.{map, flat_map, slice_get, slice_index_or, option_to_list}
 use Rattle.std.specs.List.{AllByRecursion, range_with_len}
 use Rattle.std.proofs.lemmas.Nat.{mul-add-lt}
 use Rattle.cell_refs.specs.declared.cell.Cell.{Cell}
-use Rattle.cell_refs.specs.declared.cell.Area.{Area}
-use Rattle.cell_refs.specs.Areas.{area_width, area_len, cell_at, cells_of}
+use Rattle.cell_refs.specs.Areas.{Area, area_height, area_width, area_len, cell_at, cells_of}
 use Rattle.sheet_model.specs.Grids.{Rectangle}
 use Rattle.sheet_model.specs.declared.value.Value.{Value}
 use Rattle.sheet_model.specs.declared.value.Value.TheVariants.{Empty}
 use Rattle.sheet_funcs.specs.Arguments.{at, below, column_of}
 use Rattle.sheet_funcs.specs.Products.{places_of, transposed}
 use Rattle.recalculation.specs.Evaluation.{CellGrid, grid_of_areas, values_in}
-use Rattle.recalculation.specs.Looking.{cell_in, column_cells, exchanged}
+use Rattle.recalculation.specs.Looks.{cell_in, column_cells, exchanged}
 use Rattle.recalculation.proofs.Lists.{each_append, each_weaker}
 
 -- there is a cell in each row and column
@@ -33,7 +32,7 @@ length_range a (suc n) = ap suc (length_range (a + 1) n)
 area_whole : (a : Area) → IsWhole (grid_of_areas (a ∷ []))
 area_whole a row column r c =
     let len : length (cells_of a) ≡ area_len a = length_map (cell_at a) (range_with_len 0 (area_len a)) ∙ length_range 0 (area_len a) in
-    let below : row * area_width a + column < area_width a * (a.bottom - a.top + 1) = mul-add-lt row (area_width a) column (a.bottom - a.top + 1) (omega arith) c in
+    let below : row * area_width a + column < area_width a * area_height a = mul-add-lt row (area_width a) column (area_height a) r c in
     subst (λ n. row * area_width a + column < n) (sym (len ∙ omega arith)) below
 
 -- and so has the grid of some areas
@@ -49,19 +48,19 @@ got_value f (b ∷ cells) zero h = refl
 got_value f (b ∷ cells) (suc n) h = got_value f cells n (omega arith)
 
 -- what is made of two lists
-map_append : {A B : Type 0} (f : A → B) (xs ys : List A) → map f (xs ++ ys) ≡ map f xs ++ map f ys
+pub map_append : {A B : Type 0} (f : A → B) (xs ys : List A) → map f (xs ++ ys) ≡ map f xs ++ map f ys
 map_append f [] ys = refl
 map_append f (x ∷ xs) ys = ap (λ zs. f x ∷ zs) (map_append f xs ys)
 
 -- the values of cells each of which has one in its place
-gathered : {A : Type 0} (f : Cell → Value) (cell : A → List Cell) (value : A → Value) (xs : List A) → AllByRecursion (λ x. map f (cell x) ≡ value x ∷ []) xs
+pub gathered : {A : Type 0} (f : Cell → Value) (cell : A → List Cell) (value : A → Value) (xs : List A) → AllByRecursion (λ x. map f (cell x) ≡ value x ∷ []) xs
     → map f (flat_map cell xs) ≡ map value xs
 gathered f cell value [] h = refl
 gathered f cell value (x ∷ xs) h =
     map_append f (cell x) (flat_map cell xs) ∙ ap (λ vs. vs ++ map f (flat_map cell xs)) h.0 ∙ ap (λ vs. value x ∷ vs) (gathered f cell value xs h.1)
 
 -- the numbers of a range are below its end
-range_below : (n a m : ℕ) → a + m ≤ n → AllByRecursion (λ k. k < n) (range_with_len a m)
+pub range_below : (n a m : ℕ) → a + m ≤ n → AllByRecursion (λ k. k < n) (range_with_len a m)
 range_below n a zero h = tt
 range_below n a (suc m) h = (omega arith, range_below n (a + 1) m (omega arith))
 
@@ -71,7 +70,7 @@ each_below n = range_below n 0 n (omega arith)
 
 module _ (f : Cell → Value) (g : CellGrid) (whole : IsWhole g) where
   -- the value of the cell in a row and a column
-  cell_value_in : (row column : ℕ) → row < g.rows → column < g.columns → map f (cell_in g row column) ≡ at (values_in f g) row column ∷ []
+  pub cell_value_in : (row column : ℕ) → row < g.rows → column < g.columns → map f (cell_in g row column) ≡ at (values_in f g) row column ∷ []
   cell_value_in row column r c = got_value f g.cells (row * g.columns + column) (whole row column r c)
 
   -- the values of the first column

@@ -18,7 +18,6 @@ use Rattle.recalculation.specs.Evaluation.{evaluated, cell_value}
 use Rattle.recalculation.specs.Recalculation.{entry_value, number_or as number_or_value, recalculated, bounded_val, val}
 use Rattle.recalculation.specs.Looking.{known_or_empty, are_known, outcome_of, looked_at}
 use Rattle.recalculation.specs.Narrow.{entry_known, number_or, known_over, bounded_known, known}
-use Rattle.recalculation.specs.Ordered.{AreInOrder, HasAreasInOrder}
 use Rattle.recalculation.specs.Laws.{KnownIsTheValue}
 use Rattle.recalculation.proofs.Lists.{first_true, second_true}
 use Rattle.recalculation.proofs.Walking.{all_enough, fixed}
@@ -29,17 +28,17 @@ use Rattle.recalculation.proofs.Agreeing.{evaluated_same}
 use Rattle.recalculation.proofs.WithinAreas.{of_referred}
 
 -- what a cell says depends on what is known of the cells to which it refers
-known_alike : (f g : Cell → Option Value) (e : Option Entry) → AreInOrder e → ((b : Cell) → refers e b ≡ true → f b ≡ g b) → entry_known f e ≡ entry_known g e
-known_alike f g None order h = refl
-known_alike f g (Some (Constant v)) order h = refl
-known_alike f g (Some (Formula t)) order h = ap (option_map cell_value) (outcomes_alike f g t (of_referred (λ b. f b ≡ g b) t order h))
-known_alike f g (Some Malformed) order h = refl
+known_alike : (f g : Cell → Option Value) (e : Option Entry) → ((b : Cell) → refers e b ≡ true → f b ≡ g b) → entry_known f e ≡ entry_known g e
+known_alike f g None h = refl
+known_alike f g (Some (Constant v)) h = refl
+known_alike f g (Some (Formula t)) h = ap (option_map cell_value) (outcomes_alike f g t (of_referred (λ b. f b ≡ g b) t h))
+known_alike f g (Some Malformed) h = refl
 
 -- so does its narrow value
-layer_alike : (f g : Cell → Option Value) (o : Option ℚ) (circular : Bool) (e : Option Entry) → AreInOrder e → ((b : Cell) → (not (is_some o) && refers e b) ≡ true → f b ≡ g b)
+layer_alike : (f g : Cell → Option Value) (o : Option ℚ) (circular : Bool) (e : Option Entry) → ((b : Cell) → (not (is_some o) && refers e b) ≡ true → f b ≡ g b)
     → number_or o (if circular then Some (Error kind.Circular) else entry_known f e) ≡ number_or o (if circular then Some (Error kind.Circular) else entry_known g e)
-layer_alike f g (Some x) circular e order h = refl
-layer_alike f g None circular e order h = ap (λ v. if circular then Some (Error kind.Circular) else v) (known_alike f g e order h)
+layer_alike f g (Some x) circular e h = refl
+layer_alike f g None circular e h = ap (λ v. if circular then Some (Error kind.Circular) else v) (known_alike f g e h)
 
 -- a formula of which it is known that walks start at it
 either_known : (f g : Cell → Option Value) (w : Bool) (e : Option Entry) → w ≡ true
@@ -57,7 +56,7 @@ layer_looped : (f g : Cell → Option Value) (o : Option ℚ) (w : Bool) (e : Op
 layer_looped f g (Some x) w e h = refl
 layer_looped f g None w e h = either_known f g w e h
 
-module _ (book : Book) (over : Overriding) (order : HasAreasInOrder book) where
+module _ (book : Book) (over : Overriding) where
   abbrev is_leaf : Cell → Bool
   is_leaf b = is_some (over b)
 
@@ -67,7 +66,7 @@ module _ (book : Book) (over : Overriding) (order : HasAreasInOrder book) where
   known_enough zero a h = absurd (omega arith)
   known_enough (suc m) a h =
       all_enough (keys book.texts) (steps_to book is_leaf) (contains_key book.texts) (found_text book) (no_step book is_leaf) (known_over book over)
-      (λ f g b s. layer_alike f g (over b) (is_circular book is_leaf b) (entry book b) (order b) s) (Some (Error kind.Circular))
+      (λ f g b s. layer_alike f g (over b) (is_circular book is_leaf b) (entry book b) s) (Some (Error kind.Circular))
       (λ f g b w. layer_looped f g (over b) _ (entry book b) w) m a (omega arith)
 
   -- the narrow value of a cell is what its text makes of those of the others
@@ -75,7 +74,7 @@ module _ (book : Book) (over : Overriding) (order : HasAreasInOrder book) where
   unfolding bounded_known known
   known_is a =
       fixed (keys book.texts) (steps_to book is_leaf) (contains_key book.texts) (found_text book) (no_step book is_leaf) (known_over book over)
-      (λ f g b s. layer_alike f g (over b) (is_circular book is_leaf b) (entry book b) (order b) s) (Some (Error kind.Circular))
+      (λ f g b s. layer_alike f g (over b) (is_circular book is_leaf b) (entry book b) s) (Some (Error kind.Circular))
       (λ f g b w. layer_looped f g (over b) _ (entry book b) w) a
 
 -- ---- a narrow value is the value

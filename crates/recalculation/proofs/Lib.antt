@@ -6,6 +6,7 @@ pub mod Knowing
 pub mod GridCells
 pub mod Calculating
 pub mod SeenGrids
+pub mod Deciding
 pub mod Agreeing
 pub mod WithinAreas
 pub mod Values

@@ -15,8 +15,7 @@ use Rattle.sheet_model.specs.declared.value.Value.TheVariants.{Error}
 use Rattle.recalculation.specs.Entries.{Book, Entry, Overriding, entry}
 use Rattle.recalculation.specs.Walks.{has_walk, is_formula, refers, steps_to, is_circular, unfolded}
 use Rattle.recalculation.specs.Recalculation.{entry_value, number_or, recalculated, bounded_val, val}
-use Rattle.recalculation.specs.Ordered.{AreInOrder, HasAreasInOrder}
-use Rattle.recalculation.specs.Laws.{AreAlikeIn}
+use Rattle.recalculation.specs.Laws.{AreAlikeIn, DependsOnReached}
 use Rattle.recalculation.proofs.Lists.{both, first_true, second_true, either_second}
 use Rattle.recalculation.proofs.Circles.{found_text, entry_there, circular_is_endless}
 use Rattle.recalculation.proofs.Values.{entry_alike, val_enough}
@@ -69,11 +68,11 @@ both_ways false true f g = g refl
 both_ways false false f g = refl
 
 -- a cell over values that are alike where it refers to them
-layer_over : (f g : Cell → Value) (o : Option ℚ) (w : Bool) (e : Option Entry) → AreInOrder e → ((b : Cell) → refers e b ≡ true → f b ≡ g b)
+layer_over : (f g : Cell → Value) (o : Option ℚ) (w : Bool) (e : Option Entry) → ((b : Cell) → refers e b ≡ true → f b ≡ g b)
     → number_or o (if w then Error kind.Circular else entry_value f e) ≡ number_or o (if w then Error kind.Circular else entry_value g e)
-layer_over f g o w e order h = ap (λ v. number_or o (if w then Error kind.Circular else v)) (entry_alike f g e order h)
+layer_over f g o w e h = ap (λ v. number_or o (if w then Error kind.Circular else v)) (entry_alike f g e h)
 
-module _ (P : Cell → Type 0) (book other : Book) (over under : Overriding) (ordered : HasAreasInOrder book) (alike : AreAlikeIn P book other over under) where
+module _ (P : Cell → Type 0) (book other : Book) (over under : Overriding) (alike : AreAlikeIn P book other over under) where
   -- the values are alike at each bound
   bounded_over : (n : ℕ) (a : Cell) → P a → bounded_val book over n a ≡ bounded_val other under n a
   unfolding bounded_val
@@ -83,11 +82,15 @@ module _ (P : Cell → Type 0) (book other : Book) (over under : Overriding) (or
       let g = unfolded (recalculated other under) (Error kind.Circular) n in
       let w = both_ways (is_circular book (given over) a) (is_circular other (given under) a) (circular_over P book other over under alike a h)
       (circular_over P other book under over (turned P book other over under alike) a h) in
-      layer_over f g (over a) (is_circular book (given over) a) (entry book a) (ordered a) (λ b r. bounded_over n b (alike.leads a b h r))
+      layer_over f g (over a) (is_circular book (given over) a) (entry book a) (λ b r. bounded_over n b (alike.leads a b h r))
       ∙ (λ i. number_or (alike.numbers a h i) (if (w i) then Error kind.Circular else entry_value g (alike.entries a h i)))
 
   -- and so are the values
-  pub reached_over : HasAreasInOrder other → (a : Cell) → P a → val book over a ≡ val other under a
-  reached_over order a h =
+  pub reached_over : (a : Cell) → P a → val book over a ≡ val other under a
+  reached_over a h =
       let n : ℕ = length (keys book.texts) + length (keys other.texts) + 1 in
-      sym (val_enough book over ordered n a (omega arith)) ∙ bounded_over n a h ∙ val_enough other under order n a (omega arith)
+      sym (val_enough book over n a (omega arith)) ∙ bounded_over n a h ∙ val_enough other under n a (omega arith)
+
+-- so the value of a cell depends on the cells alone that are reached from it
+pub depends_on_reached : DependsOnReached
+depends_on_reached reached book other over under alike a h = reached_over (λ b. reached b ≡ true) book other over under alike a h

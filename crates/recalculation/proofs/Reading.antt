@@ -1,34 +1,29 @@
 -- The cells of the references of a formula: its value depends on them alone, and it looks at no other.
-use Rattle.std.proofs.Common.{◌≡◌, ℕ, Bool, true, false, if◌then◌else◌, List, [], ◌∷◌, ◌++◌, refl, ap, Option, Some, None, Result, Ok, Err}
-use Rattle.std.specs.Prelude.{map, flat_map, filter, zip, slice_get, option_to_list, ℤ, pos, zero, suc, negsuc, is_some, ⊤}
+use Rattle.std.proofs.Common.{◌≡◌, ℕ, zero, suc, Bool, true, false, if◌then◌else◌, List, [], ◌∷◌, ◌++◌, refl, ap, Option, Some, None, Result, Ok, Err}
+use Rattle.std.specs.Prelude.{map, flat_map, filter, zip, slice_get, option_to_list, is_some, ⊤}
 use Rattle.std.specs.List.{AllByRecursion}
 use Rattle.calculations.specs.Calculation.{done, followed_by}
 use Rattle.cell_refs.specs.declared.cell.Cell.{Cell}
-use Rattle.cell_refs.specs.declared.cell.Area.{Area}
 use Rattle.cell_refs.specs.declared.error_kind.ErrorKind.{ErrorKind}
-use Rattle.cell_refs.specs.Areas.{cells_of}
+use Rattle.cell_refs.specs.Areas.{Area, cells_of}
 use Rattle.formula_ast.specs.Tree.{Tree, Trees, none, more}
 use Rattle.formula_ast.specs.Tree as tree
 use Rattle.formula_ast.specs.Measures.{references_of, all_references_of, listed}
 use Rattle.formula_ast.specs.declared.func.Func.{Func}
 use Rattle.formula_ast.specs.declared.func.Func.TheVariants as func
-use Rattle.sheet_model.specs.Conversions.{logical_in}
-use Rattle.sheet_model.specs.Operators.{infix_of, minus_of, percent_of, single}
+use Rattle.sheet_model.specs.Operators.{infix_of, minus_of, percent_of}
 use Rattle.sheet_model.specs.declared.value.Value.{Value}
-use Rattle.sheet_model.specs.declared.value.Value.TheVariants.{Number, Text, Logical, Empty, Error}
 use Rattle.sheet_model.specs.declared.grid.Arg.{Arg}
-use Rattle.sheet_model.specs.declared.grid.Arg.TheVariants.{One, Area as Elements}
+use Rattle.sheet_model.specs.declared.grid.Arg.TheVariants.{Area as Elements}
 use Rattle.sheet_funcs.specs.Arguments.{value_of, no_error, grid_of, below}
-use Rattle.sheet_funcs.specs.Rounding.{place_of}
 use Rattle.sheet_funcs.specs.Products.{places_of}
-use Rattle.sheet_funcs.specs.Picks.{pick_of, from_to}
-use Rattle.sheet_funcs.specs.Lookups.{found, is_sorted}
+use Rattle.sheet_funcs.specs.Picks.{from_to}
 use Rattle.sheet_funcs.specs.Criteria.{meets}
 use Rattle.sheet_funcs.specs.declared.pick.Pick.{Pick}
 use Rattle.sheet_funcs.specs.declared.pick.Pick.TheVariants.{Part as Picked, Fault}
-use Rattle.sheet_funcs.specs.declared.lookups.MatchKind.TheVariants.{Equal, Rising}
 use Rattle.recalculation.specs.Evaluation.{CellGrid, grid_of_areas, values_in, call_of, evaluated, all_evaluated}
-use Rattle.recalculation.specs.Looking.{Argument, all_looks, outcomes, then_cells, looks_of, branch, if_looks, on_error, iferror_looks, at_chosen, choose_looks, cell_in, picked_cells, index_looks, index_args, column_cells, exchanged, found_cell, looked_up_cell, by_values, lookup_looks, lookup_in, table_looks, met_cells, by_criterion, summed_looks, sumif_looks, size_looks, call_looks, reference_in, looked_at, arguments, are_known, known_or_empty}
+use Rattle.recalculation.specs.Looks.{Argument, Deciding, all_looks, outcomes, elements, then_cells, decided, looks_of, undecided_looks, chosen_looks, choosing_looks, cell_in, picked_cells, index_of_looks, index_looks, column_cells, exchanged, record_looks, table_looks, lookup_looks, summed_looks, sum_looks, sumif_looks, size_looks, call_looks}
+use Rattle.recalculation.specs.Looking.{met_cells, by_value, reference_in, looked_at, arguments}
 use Rattle.recalculation.proofs.Lists.{each_append, each_left, each_right, each_alike}
 
 -- what holds of each cell of some areas
@@ -36,7 +31,7 @@ abbrev pub EachOf : (Cell → Type 0) → List Area → Type 0
 EachOf P areas = AllByRecursion (λ (a : Area). AllByRecursion P (cells_of a)) areas
 
 -- it holds of each cell of their grid
-joined : (P : Cell → Type 0) (areas : List Area) → EachOf P areas → AllByRecursion P (flat_map cells_of areas)
+pub joined : (P : Cell → Type 0) (areas : List Area) → EachOf P areas → AllByRecursion P (flat_map cells_of areas)
 joined P [] h = tt
 joined P (a ∷ areas) h = each_append P (cells_of a) (flat_map cells_of areas) h.0 (joined P areas h.1)
 
@@ -89,7 +84,7 @@ OfReference P None = ⊤
 OfReference P (Some g) = AllByRecursion P g.cells
 
 -- what holds of each cell at which an argument looks, and of each cell of its reference
-abbrev pub OfArgument : (Cell → Type 0) → Argument → Type 0
+abbrev pub OfArgument : {A : Type 0} → (Cell → Type 0) → Argument A → Type 0
 OfArgument P a = AllByRecursion P a.looks × OfReference P a.reference
 
 module _ (P : Cell → Type 0) where
@@ -98,74 +93,28 @@ module _ (P : Cell → Type 0) where
   joined_lists f [] h = tt
   joined_lists f (x ∷ xs) h = each_append P (f x) (flat_map f xs) (h x) (joined_lists f xs h)
 
-  -- of all at which some arguments look
-  looks_among : (args : List Argument) → AllByRecursion (OfArgument P) args → AllByRecursion P (all_looks args)
-  looks_among [] h = tt
-  looks_among (a ∷ args) h = each_append P a.looks (all_looks args) h.0.0 (looks_among args h.1)
-
-  -- of all that follows from a value
+  -- of all that follows from what there is
   then_among : {A : Type 0} (o : Option A) (f : A → List Cell) → ((x : A) → AllByRecursion P (f x)) → AllByRecursion P (then_cells o f)
   then_among None f h = tt
   then_among (Some x) f h = h x
 
-  -- of all at which the argument at a place looks
-  at_among : (args : List Argument) (n : ℕ) → AllByRecursion (OfArgument P) args → AllByRecursion P (looks_of (slice_get args n))
-  at_among [] n h = tt
-  at_among (a ∷ args) zero h = h.0.0
-  at_among (a ∷ args) (suc n) h = at_among args n h.1
-
-  -- functions that choose
-  branch_among : (a : Argument) (others : List Argument) (r : Result Bool ErrorKind) → AllByRecursion P a.looks → AllByRecursion (OfArgument P) others → AllByRecursion P (branch a others r)
-  branch_among a others (Ok true) h k = h
-  branch_among a others (Ok false) h k = at_among others 0 k
-  branch_among a others (Err e) h k = tt
-
-  -- IF
-  if_among : (args : List Argument) → AllByRecursion (OfArgument P) args → AllByRecursion P (if_looks args)
-  if_among [] h = tt
-  if_among (a ∷ []) h = looks_among (a ∷ []) h
-  if_among (test ∷ a ∷ others) h = each_append P test.looks _ h.0.0 (then_among test.outcome _ (λ v. branch_among a others (logical_in (value_of v)) h.1.0.0 h.1.1))
-
-  -- the other argument in the place of an error
-  on_error_among : (a : Argument) (v : Arg) → AllByRecursion P a.looks → AllByRecursion P (on_error a v)
-  on_error_among a (One (Number x)) h = tt
-  on_error_among a (One (Text t)) h = tt
-  on_error_among a (One (Logical b)) h = tt
-  on_error_among a (One Empty) h = tt
-  on_error_among a (One (Error k)) h = h
-  on_error_among a (Elements g) h = tt
-
-  -- IFERROR
-  iferror_among : (args : List Argument) → AllByRecursion (OfArgument P) args → AllByRecursion P (iferror_looks args)
-  iferror_among [] h = tt
-  iferror_among (a ∷ []) h = looks_among (a ∷ []) h
-  iferror_among (a ∷ other ∷ []) h = each_append P a.looks _ h.0.0 (then_among a.outcome _ (λ v. on_error_among other (single v) h.1.0.0))
-  iferror_among (a ∷ b ∷ c ∷ args) h = looks_among (a ∷ b ∷ c ∷ args) h
-
-  -- the argument at a place
-  chosen_among : (others : List Argument) (r : Result ℤ ErrorKind) → AllByRecursion (OfArgument P) others → AllByRecursion P (at_chosen others r)
-  chosen_among others (Ok (pos zero)) h = tt
-  chosen_among others (Ok (pos (suc n))) h = at_among others n h
-  chosen_among others (Ok (negsuc n)) h = tt
-  chosen_among others (Err k) h = tt
-
-  -- CHOOSE
-  choose_among : (args : List Argument) → AllByRecursion (OfArgument P) args → AllByRecursion P (choose_looks args)
-  choose_among [] h = tt
-  choose_among (place ∷ others) h = each_append P place.looks _ h.0.0 (then_among place.outcome _ (λ v. chosen_among others (place_of v) h.1))
-
-  -- functions that pick from a reference
+  -- of the cell at a place
   got_among : (cells : List Cell) (n : ℕ) → AllByRecursion P cells → AllByRecursion P (option_to_list (slice_get cells n))
   got_among [] n h = tt
   got_among (b ∷ cells) zero h = (h.0, tt)
   got_among (b ∷ cells) (suc n) h = got_among cells n h.1
 
+  -- of cells or none, by a test
+  in_size_among : (b : Bool) (cells : List Cell) → AllByRecursion P cells → AllByRecursion P (if b then cells else [])
+  in_size_among true cells h = h
+  in_size_among false cells h = tt
+
   module _ (g : CellGrid) (all : AllByRecursion P g.cells) where
-    -- a cell in a row and a column
+    -- the cell at a row and a column
     cell_among : (row column : ℕ) → AllByRecursion P (cell_in g row column)
     cell_among row column = got_among g.cells _ all
 
-    -- the cells that INDEX picks
+    -- the cells that are picked
     picked_among : (p : Pick) → AllByRecursion P (picked_cells g p)
     picked_among (Picked top left bottom right) = joined_lists _ (from_to top bottom) (λ row. joined_lists _ (from_to left right) (cell_among row))
     picked_among (Fault k) = tt
@@ -178,109 +127,121 @@ module _ (P : Cell → Type 0) where
     pub exchanged_among : AllByRecursion P (exchanged g).cells
     exchanged_among = joined_lists _ (places_of g.columns g.rows) (λ p. cell_among p.1 p.0)
 
-    -- the cell of the row whose key is found
-    found_among : (column : ℤ) (row : Option ℕ) → AllByRecursion P (found_cell g column row)
-    found_among (pos n) (Some row) = cell_among row _
-    found_among (pos n) None = tt
-    found_among (negsuc n) row = tt
+  module _ {A : Type 0} where
+    -- of all at which some arguments look
+    looks_among : (args : List (Argument A)) → AllByRecursion (OfArgument P) args → AllByRecursion P (all_looks args)
+    looks_among [] h = tt
+    looks_among (a ∷ args) h = each_append P a.looks (all_looks args) h.0.0 (looks_among args h.1)
 
-    -- cells or none, by a test
-    in_size_among : (b : Bool) (cells : List Cell) → AllByRecursion P cells → AllByRecursion P (if b then cells else [])
-    in_size_among true cells h = h
-    in_size_among false cells h = tt
+    -- of all at which the argument at a place looks
+    at_among : (args : List (Argument A)) (n : ℕ) → AllByRecursion (OfArgument P) args → AllByRecursion P (looks_of (slice_get args n))
+    at_among [] n h = tt
+    at_among (a ∷ args) zero h = h.0.0
+    at_among (a ∷ args) (suc n) h = at_among args n h.1
 
-    -- the cell that a lookup finds
-    looked_up_among : (keys : List Value) (key : Result Value ErrorKind) (column : Result ℤ ErrorKind) (sorted : Result Bool ErrorKind) → AllByRecursion P (looked_up_cell g keys key column sorted)
-    looked_up_among keys (Ok key) (Ok column) (Ok sorted) =
-        in_size_among _ _ (found_among column (found (if sorted then Rising else Equal) key keys))
-    looked_up_among keys (Ok key) (Ok column) (Err k) = tt
-    looked_up_among keys (Ok key) (Err k) sorted = tt
-    looked_up_among keys (Err k) column sorted = tt
+    -- functions that choose, where it isn't decided which argument
+    undecided_among : (f : Func) (others : List (Argument A)) → AllByRecursion (OfArgument P) others → AllByRecursion P (undecided_looks f others)
+    undecided_among func.If others h = looks_among others h
+    undecided_among _ others h = tt
 
-    -- the same, by the values of its arguments
-    by_values_among : (keys : List Value) (args : List Arg) → AllByRecursion P (by_values g keys args)
-    by_values_among keys [] = tt
-    by_values_among keys (key ∷ []) = tt
-    by_values_among keys (key ∷ column ∷ rest) = looked_up_among keys (no_error (value_of key)) (place_of column) (is_sorted rest)
+    -- and where it is
+    chosen_among : (f : Func) (others : List (Argument A)) (o : Option (Option ℕ)) → AllByRecursion (OfArgument P) others → AllByRecursion P (chosen_looks f others o)
+    chosen_among f others (Some (Some n)) h = at_among others n h
+    chosen_among f others (Some None) h = tt
+    chosen_among f others None h = undecided_among f others h
 
-    -- a lookup in a grid
-    lookup_among : (known : Cell → Option Value) (args : List Argument) → AllByRecursion (OfArgument P) args → AllByRecursion P (lookup_looks known g args)
-    lookup_among known args h =
-        each_append P (all_looks args ++ column_cells g 0) _ (each_append P (all_looks args) _ (looks_among args h) (column_among 0))
-        (in_size_among (are_known known (column_cells g 0)) _ (then_among (outcomes args) _ (by_values_among (map (known_or_empty known) (column_cells g 0)))))
+    -- ROWS and COLUMNS
+    size_among : (args : List (Argument A)) → AllByRecursion (OfArgument P) args → AllByRecursion P (size_looks args)
+    size_among [] h = tt
+    size_among (a ∷ []) h = elim (is_some a.reference) as (λ b. AllByRecursion P (if b then [] else a.looks)) [ true ↦ tt | false ↦ h.0.0 ]
+    size_among (a ∷ b ∷ args) h = looks_among (a ∷ b ∷ args) h
 
-    -- the cells in the places where a test is met
-    met_among : (test : Value → Bool) (items : List Value) (cells : List Cell) → AllByRecursion P cells
-        → AllByRecursion P (map (λ (p : Value × Cell). p.1) (filter (λ (p : Value × Cell). test p.0) (zip items cells)))
-    met_among test [] cells h = tt
-    met_among test (v ∷ items) [] h = tt
-    met_among test (v ∷ items) (b ∷ cells) h =
-        elim (test v) as (λ w. AllByRecursion P (map (λ (p : Value × Cell). p.1) (if w then (v, b) ∷ filter (λ (p : Value × Cell). test p.0) (zip items cells) else filter (λ (p : Value × Cell). test p.0) (zip items cells)))) [
-          | true ↦ (h.0, met_among test items cells h.1)
-          | false ↦ met_among test items cells h.1
-        ]
+    module _ {E : Type 0} (d : Deciding A E) where
+      -- IF, IFERROR and CHOOSE
+      choosing_among : (f : Func) (args : List (Argument A)) → AllByRecursion (OfArgument P) args → AllByRecursion P (choosing_looks d f args)
+      choosing_among f [] h = tt
+      choosing_among f (a ∷ others) h = each_append P a.looks _ h.0.0 (then_among a.outcome _ (λ v. chosen_among f others (decided d f v) h.1))
 
-    -- the cells that SUMIF sums
-    criterion_among : (args : List Arg) → AllByRecursion P (by_criterion g args)
-    criterion_among [] = tt
-    criterion_among (a ∷ []) = tt
-    criterion_among (tested ∷ criterion ∷ []) = of_result (no_error (value_of criterion))
-      where
-        of_result : (r : Result Value ErrorKind) → AllByRecursion P (met_cells g (grid_of tested) r)
-        of_result (Ok c) = in_size_among _ _ (met_among (meets c) (grid_of tested).items g.cells all)
-        of_result (Err k) = tt
-    criterion_among (a ∷ b ∷ c ∷ args) = tt
+      -- INDEX
+      index_among : (args : List (Argument A)) → AllByRecursion (OfArgument P) args → AllByRecursion P (index_looks d args)
+      index_among [] h = tt
+      index_among (a ∷ places) h = by a.reference h.0.1
+        where
+          by : (o : Option CellGrid) → OfReference P o → AllByRecursion P (index_of_looks d a places o)
+          by None all = looks_among (a ∷ places) h
+          by (Some g) all =
+              each_append P (all_looks places) _ (looks_among places h.1)
+              (then_among (outcomes places) _ (λ vs. then_among (d.index_pick g.rows g.columns vs) _ (picked_among g all)))
 
-  -- INDEX
-  index_among : (args : List Argument) → AllByRecursion (OfArgument P) args → AllByRecursion P (index_args args)
-  index_among [] h = tt
-  index_among (a ∷ places) h = by a.reference h.0.1
+      -- a lookup in a grid
+      record_among : (known : Cell → Option E) (g : CellGrid) → AllByRecursion P g.cells → (args : List (Argument A)) → AllByRecursion (OfArgument P) args
+          → AllByRecursion P (record_looks d known g args)
+      record_among known g all args h =
+          each_append P (all_looks args ++ column_cells g 0) _ (each_append P (all_looks args) _ (looks_among args h) (column_among g all 0))
+          (then_among (elements known (column_cells g 0)) _ (λ keys. then_among (outcomes args) _ (λ vs. then_among (d.record_pick g.columns keys vs) _ (picked_among g all))))
+
+      -- VLOOKUP and HLOOKUP
+      lookup_among : (known : Cell → Option E) (turned : CellGrid → CellGrid) → ((g : CellGrid) → AllByRecursion P g.cells → AllByRecursion P (turned g).cells)
+          → (args : List (Argument A)) → AllByRecursion (OfArgument P) args → AllByRecursion P (lookup_looks d known turned args)
+      lookup_among known turned kept [] h = tt
+      lookup_among known turned kept (key ∷ []) h = looks_among (key ∷ []) h
+      lookup_among known turned kept (key ∷ table ∷ rest) h = by table.reference h.1.0.1
+        where
+          by : (o : Option CellGrid) → OfReference P o → AllByRecursion P (table_looks d known turned (key ∷ rest) table o)
+          by None all = looks_among (table ∷ key ∷ rest) (h.1.0, (h.0, h.1.1))
+          by (Some g) all = record_among known (turned g) (kept g all) (key ∷ rest) (h.0, h.1.1)
+
+      module _ (sums : (g : CellGrid) (tested criterion : A) → AllByRecursion P g.cells → AllByRecursion P (then_cells (d.summed g tested criterion) (λ cells. cells))) where
+        -- the cells that SUMIF sums
+        summed_among : (g : CellGrid) → AllByRecursion P g.cells → (args : List A) → AllByRecursion P (summed_looks d g args)
+        summed_among g all [] = tt
+        summed_among g all (a ∷ []) = tt
+        summed_among g all (tested ∷ criterion ∷ []) = sums g tested criterion all
+        summed_among g all (a ∷ b ∷ c ∷ args) = tt
+
+        -- SUMIF
+        sumif_among : (args : List (Argument A)) → AllByRecursion (OfArgument P) args → AllByRecursion P (sumif_looks d args)
+        sumif_among [] h = tt
+        sumif_among (a ∷ []) h = looks_among (a ∷ []) h
+        sumif_among (a ∷ b ∷ []) h = looks_among (a ∷ b ∷ []) h
+        sumif_among (tested ∷ criterion ∷ summed ∷ []) h = by summed.reference h.1.1.0.1
+          where
+            by : (o : Option CellGrid) → OfReference P o → AllByRecursion P (sum_looks d (tested ∷ criterion ∷ []) summed o)
+            by None all = each_append P _ summed.looks (looks_among (tested ∷ criterion ∷ []) (h.0, (h.1.0, tt))) h.1.1.0.0
+            by (Some g) all = each_append P _ _ (looks_among (tested ∷ criterion ∷ []) (h.0, (h.1.0, tt))) (then_among (outcomes (tested ∷ criterion ∷ [])) _ (summed_among g all))
+        sumif_among (a ∷ b ∷ c ∷ e ∷ args) h = looks_among (a ∷ b ∷ c ∷ e ∷ args) h
+
+        -- a function looks at cells of its arguments alone
+        pub call_among : (known : Cell → Option E) (f : Func) (args : List (Argument A)) → AllByRecursion (OfArgument P) args → AllByRecursion P (call_looks d known f args)
+        call_among known func.If args h = choosing_among func.If args h
+        call_among known func.IfError args h = choosing_among func.IfError args h
+        call_among known func.Choose args h = choosing_among func.Choose args h
+        call_among known func.Index args h = index_among args h
+        call_among known func.VLookup args h = lookup_among known (λ g. g) (λ g all. all) args h
+        call_among known func.HLookup args h = lookup_among known exchanged exchanged_among args h
+        call_among known func.SumIf args h = sumif_among args h
+        call_among known func.Rows args h = size_among args h
+        call_among known func.Columns args h = size_among args h
+        call_among known _ args h = looks_among args h
+
+  -- the cells beside elements that pass a test
+  tested_among : (test : Value → Bool) (items : List Value) (cells : List Cell) → AllByRecursion P cells
+      → AllByRecursion P (map (λ (p : Value × Cell). p.1) (filter (λ (p : Value × Cell). test p.0) (zip items cells)))
+  tested_among test [] cells h = tt
+  tested_among test (v ∷ items) [] h = tt
+  tested_among test (v ∷ items) (b ∷ cells) h =
+      elim (test v) as (λ w. AllByRecursion P (map (λ (p : Value × Cell). p.1) (if w then (v, b) ∷ filter (λ (p : Value × Cell). test p.0) (zip items cells) else filter (λ (p : Value × Cell). test p.0) (zip items cells)))) [
+        | true ↦ (h.0, tested_among test items cells h.1)
+        | false ↦ tested_among test items cells h.1
+      ]
+
+  -- the cells that SUMIF sums by values are some of the grid
+  sums_by_value : (g : CellGrid) (tested criterion : Arg) → AllByRecursion P g.cells → AllByRecursion P (then_cells (by_value.summed g tested criterion) (λ cells. cells))
+  sums_by_value g tested criterion all = of_result (no_error (value_of criterion))
     where
-      by : (o : Option CellGrid) → OfReference P o → AllByRecursion P (index_looks a places o)
-      by None all = looks_among (a ∷ places) h
-      by (Some g) all = each_append P (all_looks places) _ (looks_among places h.1) (then_among (outcomes places) _ (λ vs. picked_among g all (pick_of g.rows g.columns vs)))
-
-  -- VLOOKUP and HLOOKUP
-  table_among : (known : Cell → Option Value) (turned : CellGrid → CellGrid) → ((g : CellGrid) → AllByRecursion P g.cells → AllByRecursion P (turned g).cells)
-      → (args : List Argument) → AllByRecursion (OfArgument P) args → AllByRecursion P (table_looks known turned args)
-  table_among known turned kept [] h = tt
-  table_among known turned kept (key ∷ []) h = looks_among (key ∷ []) h
-  table_among known turned kept (key ∷ table ∷ rest) h = by table.reference h.1.0.1
-    where
-      by : (o : Option CellGrid) → OfReference P o → AllByRecursion P (lookup_in known turned (key ∷ rest) table o)
-      by None all = looks_among (table ∷ key ∷ rest) (h.1.0, (h.0, h.1.1))
-      by (Some g) all = lookup_among (turned g) (kept g all) known (key ∷ rest) (h.0, h.1.1)
-
-  -- SUMIF
-  sumif_among : (args : List Argument) → AllByRecursion (OfArgument P) args → AllByRecursion P (sumif_looks args)
-  sumif_among [] h = tt
-  sumif_among (a ∷ []) h = looks_among (a ∷ []) h
-  sumif_among (a ∷ b ∷ []) h = looks_among (a ∷ b ∷ []) h
-  sumif_among (tested ∷ criterion ∷ summed ∷ []) h = by summed.reference h.1.1.0.1
-    where
-      by : (o : Option CellGrid) → OfReference P o → AllByRecursion P (summed_looks (tested ∷ criterion ∷ []) summed o)
-      by None all = each_append P _ summed.looks (looks_among (tested ∷ criterion ∷ []) (h.0, (h.1.0, tt))) h.1.1.0.0
-      by (Some g) all = each_append P _ _ (looks_among (tested ∷ criterion ∷ []) (h.0, (h.1.0, tt))) (then_among (outcomes (tested ∷ criterion ∷ [])) _ (criterion_among g all))
-  sumif_among (a ∷ b ∷ c ∷ d ∷ args) h = looks_among (a ∷ b ∷ c ∷ d ∷ args) h
-
-  -- ROWS and COLUMNS
-  size_among : (args : List Argument) → AllByRecursion (OfArgument P) args → AllByRecursion P (size_looks args)
-  size_among [] h = tt
-  size_among (a ∷ []) h = elim (is_some a.reference) as (λ b. AllByRecursion P (if b then [] else a.looks)) [ true ↦ tt | false ↦ h.0.0 ]
-  size_among (a ∷ b ∷ args) h = looks_among (a ∷ b ∷ args) h
-
-  -- a function looks at cells of its arguments alone
-  call_among : (known : Cell → Option Value) (f : Func) (args : List Argument) → AllByRecursion (OfArgument P) args → AllByRecursion P (call_looks known f args)
-  call_among known func.If args h = if_among args h
-  call_among known func.IfError args h = iferror_among args h
-  call_among known func.Choose args h = choose_among args h
-  call_among known func.Index args h = index_among args h
-  call_among known func.VLookup args h = table_among known (λ g. g) (λ g all. all) args h
-  call_among known func.HLookup args h = table_among known exchanged exchanged_among args h
-  call_among known func.SumIf args h = sumif_among args h
-  call_among known func.Rows args h = size_among args h
-  call_among known func.Columns args h = size_among args h
-  call_among known _ args h = looks_among args h
+      of_result : (r : Result Value ErrorKind) → AllByRecursion P (met_cells g (grid_of tested) r)
+      of_result (Ok c) = in_size_among _ _ (tested_among (meets c) (grid_of tested).items g.cells all)
+      of_result (Err k) = tt
 
   -- the cells of a reference are those of its areas
   pub reference_among : (t : Tree) → EachOf P (references_of t) → OfReference P (reference_in t)
@@ -304,7 +265,7 @@ module _ (P : Cell → Type 0) where
     -- a formula looks at cells of its references alone
     pub looked_among : (known : Cell → Option Value) (t : Tree) → EachOf P (references_of t) → AllByRecursion P (looked_at known t)
     looked_among known (tree.Reference s areas) h = grid_cells P (listed areas) h
-    looked_among known (tree.Call s name args) h = call_among known name (arguments known args) (arguments_among known args h)
+    looked_among known (tree.Call s name args) h = call_among by_value sums_by_value known name (arguments known args) (arguments_among known args h)
     looked_among known (tree.Plus s x) h = looked_among known x h
     looked_among known (tree.Minus s x) h = looked_among known x h
     looked_among known (tree.Percent s x) h = looked_among known x h

@@ -1,8 +1,7 @@
 -- What functions find in a grid whose cells, as far as they look at them, are known: the same over the values and over what is known.
-use Rattle.std.proofs.Common.{◌≡◌, ℕ, zero, suc, ◌+◌, ◌-◌, ◌*◌, ◌<◌, Bool, true, false, ◌&&◌, if◌then◌else◌, List, [], ◌∷◌, ◌++◌, refl, sym, ap, subst, ◌∙◌, arith, Option, Some, None, Result, Ok, Err, inl, inr}
-use Rattle.std.proofs.lemmas.Bool.{leb-true, le-leb}
-use Rattle.std.proofs.lemmas.Bool.Decides.{leb_tells}
-use Rattle.std.specs.Prelude.{map, flat_map, filter, zip, slice_get, slice_index_or, option_to_list, ℤ, pos, negsuc, int_le, is_some}
+use Rattle.std.proofs.Common.{◌≡◌, ℕ, zero, suc, ◌+◌, ◌-◌, ◌*◌, ◌<◌, Bool, true, false, ◌&&◌, if◌then◌else◌, List, [], ◌∷◌, ◌++◌, refl, sym, ap, ◌∙◌, arith, Option, Some, Result, Ok, Err}
+use Rattle.std.proofs.lemmas.Bool.{leb-true}
+use Rattle.std.specs.Prelude.{map, flat_map, filter, zip, slice_get, slice_index_or, option_to_list, ℤ, pos, negsuc, nat_le, is_some}
 use Rattle.std.specs.List.{AllByRecursion}
 use Rattle.cell_refs.specs.declared.cell.Cell.{Cell}
 use Rattle.cell_refs.specs.declared.error_kind.ErrorKind.{ErrorKind}
@@ -11,33 +10,50 @@ use Rattle.sheet_model.specs.Grids.{Rectangle}
 use Rattle.sheet_model.specs.Operators.{single}
 use Rattle.sheet_model.specs.declared.value.Value.{Value}
 use Rattle.sheet_model.specs.declared.value.Value.TheVariants.{Empty, Error}
+use Rattle.sheet_model.specs.declared.grid.Arg.{Arg}
 use Rattle.sheet_model.specs.declared.grid.Arg.TheVariants.{Area as Elements}
-use Rattle.sheet_funcs.specs.Arguments.{at, below, column_of, answered, counted, on_ok}
+use Rattle.sheet_funcs.specs.Arguments.{at, column_of, answered, counted, no_error, on_ok, value_of}
 use Rattle.sheet_funcs.specs.Items.{numbers_among}
+use Rattle.sheet_funcs.specs.Rounding.{place_of}
 use Rattle.sheet_funcs.specs.Sums.{total}
 use Rattle.sheet_funcs.specs.Picks.{from_to, taken_from}
-use Rattle.sheet_funcs.specs.Lookups.{found, element_or, looked_up}
+use Rattle.sheet_funcs.specs.Lookups.{field_at, field_of, found, is_sorted, kind_where, or_fault, record_pick}
 use Rattle.sheet_funcs.specs.Criteria.{meets, met, sum_where}
 use Rattle.sheet_funcs.specs.declared.pick.Pick.{Pick}
 use Rattle.sheet_funcs.specs.declared.pick.Pick.TheVariants.{Part as Picked, Fault}
-use Rattle.sheet_funcs.specs.declared.lookups.MatchKind.TheVariants.{Equal, Rising}
 use Rattle.recalculation.specs.Evaluation.{CellGrid, values_in}
-use Rattle.recalculation.specs.Looking.{or_empty, known_or_empty, are_known, cell_in, picked_cells, column_cells, found_cell, looked_up_cell, met_cells}
+use Rattle.recalculation.specs.Looks.{both, elements, cell_in, picked_cells, column_cells}
+use Rattle.recalculation.specs.Looking.{or_empty, known_or_empty, are_known, met_cells}
 use Rattle.recalculation.proofs.Lists.{each_left, each_right, each_alike, each_weaker}
 use Rattle.recalculation.proofs.GridCells.{IsWhole, first_column}
 
--- a column above 0 is one at least
-positive : (n : ℕ) → int_le (pos n) (pos 0) ≡ false → 0 < n
-positive n h =
-    elim (leb_tells n 0) as (λ _. 0 < n) [
-      | inl w ↦ let e : true ≡ false = sym w.0 ∙ h in cc
-      | inr w ↦ w.1
-    ]
+-- a pick by keys that count only where there is a field
+pub keys_alike : (fields : ℕ) (keys others : List Value) (args : List Arg) → (0 < fields → keys ≡ others) → record_pick fields keys args ≡ record_pick fields others args
+keys_alike fields keys others [] h = refl
+keys_alike fields keys others (a ∷ []) h = refl
+keys_alike fields keys others (key ∷ place ∷ rest) h = of_three (no_error (value_of key)) (place_of place) (is_sorted rest)
+  where
+    field_found : (k : Value) (s : Bool) (n : ℕ) (b : Bool) → nat_le (n + 1) fields ≡ b
+        → or_fault (if b then Ok n else Err kind.Ref) (λ field. field_of field (found (kind_where s) k keys)) ≡ or_fault (if b then Ok n else Err kind.Ref) (λ field. field_of field (found (kind_where s) k others))
+    field_found k s n true e =
+        let least = leb-true (n + 1) fields e in
+        let some : 0 < fields = omega (arith, least) in
+        ap (λ vs. field_of n (found (kind_where s) k vs)) (h some)
+    field_found k s n false e = refl
 
--- the same of any column
-one_at_least : (column : ℤ) → int_le column (pos 0) ≡ false → int_le (pos 1) column ≡ true
-one_at_least (pos n) h = let some = positive n h in le-leb 1 n (omega (arith, some))
-one_at_least (negsuc n) h = cc
+    at_field : (k : Value) (s : Bool) (n : ℤ)
+        → or_fault (field_at fields n) (λ field. field_of field (found (kind_where s) k keys)) ≡ or_fault (field_at fields n) (λ field. field_of field (found (kind_where s) k others))
+    at_field k s (pos zero) = refl
+    at_field k s (pos (suc n)) = field_found k s n (nat_le (n + 1) fields) refl
+    at_field k s (negsuc n) = refl
+
+    of_three : (key : Result Value ErrorKind) (place : Result ℤ ErrorKind) (sorted : Result Bool ErrorKind)
+        → or_fault key (λ k. or_fault place (λ n. or_fault sorted (λ s. or_fault (field_at fields n) (λ field. field_of field (found (kind_where s) k keys)))))
+        ≡ or_fault key (λ k. or_fault place (λ n. or_fault sorted (λ s. or_fault (field_at fields n) (λ field. field_of field (found (kind_where s) k others)))))
+    of_three (Ok k) (Ok n) (Ok s) = at_field k s n
+    of_three (Ok k) (Ok n) (Err e) = refl
+    of_three (Ok k) (Err e) sorted = refl
+    of_three (Err e) place sorted = refl
 
 module _ (known : Cell → Option Value) (value : Cell → Value) where
   -- the value of a cell is known
@@ -56,6 +72,11 @@ module _ (known : Cell → Option Value) (value : Cell → Value) where
   pub seen_known : (cells : List Cell) → AllByRecursion Seen cells → are_known known cells ≡ true
   seen_known [] h = refl
   seen_known (b ∷ cells) h = ap (λ o. is_some o && are_known known cells) h.0 ∙ seen_known cells h.1
+
+  -- these are their values
+  pub seen_elements : (cells : List Cell) → AllByRecursion Seen cells → elements known cells ≡ Some (map value cells)
+  seen_elements [] h = refl
+  seen_elements (b ∷ cells) h = let others = seen_elements cells h.1 in λ i. both (h.0 i) (others i)
 
   -- the values of such cells
   seen_values : (cells : List Cell) → AllByRecursion Seen cells → map value cells ≡ map filled_in cells
@@ -102,53 +123,25 @@ module _ (known : Cell → Option Value) (value : Cell → Value) where
 
   -- ---- lookups
   module _ (g : CellGrid) (whole : IsWhole g) (seen : AllSeen (column_cells g 0)) where
-    -- the keys, over the values and over what is known of them
+    -- the keys
     abbrev keys : List Value
-    keys = map filled_in (column_cells g 0)
+    keys = map value (column_cells g 0)
 
-    -- the keys of the values are the keys
-    keys_here : 0 < g.columns → column_of (values_in value g) 0 ≡ keys
-    keys_here some = sym (first_column value g whole some) ∙ seen_values (column_cells g 0) seen
+    -- a pick by the first column of the values, and of what is known of them, is one by the keys
+    pick_here : (args : List Arg) → record_pick g.columns (column_of (values_in value g) 0) args ≡ record_pick g.columns keys args
+    pick_here args = keys_alike g.columns (column_of (values_in value g) 0) keys args (λ some. sym (first_column value g whole some))
 
-    -- and so are those of what is known
-    keys_there : 0 < g.columns → column_of (values_in filled_in g) 0 ≡ keys
-    keys_there some = sym (first_column filled_in g whole some)
+    pick_there : (args : List Arg) → record_pick g.columns (column_of (values_in filled_in g) 0) args ≡ record_pick g.columns keys args
+    pick_there args =
+        keys_alike g.columns (column_of (values_in filled_in g) 0) keys args (λ some. sym (first_column filled_in g whole some) ∙ sym (seen_values (column_cells g 0) seen))
 
-    -- the element of the row whose key is found
-    element_same : (n : ℕ) (row : Option ℕ) → AllSeen (found_cell g (pos n) row) → element_or (values_in value g) (pos n) row ≡ element_or (values_in filled_in g) (pos n) row
-    element_same n None h = refl
-    element_same n (Some row) h = cell_same g row (n - 1) h
-
-    -- the element in a column of the grid
-    in_column_same : (match : List Value → Option ℕ) (column : ℤ) → int_le column (pos 0) ≡ false → int_le column (pos g.columns) ≡ true → AllSeen (found_cell g column (match keys))
-        → element_or (values_in value g) column (match (column_of (values_in value g) 0)) ≡ element_or (values_in filled_in g) column (match (column_of (values_in filled_in g) 0))
-    in_column_same match (pos n) low high h =
-        let some : 0 < g.columns = let above = positive n low in let within = leb-true n g.columns high in omega (arith, above, within) in
-        ap (λ vs. element_or (values_in value g) (pos n) (match vs)) (keys_here some) ∙ element_same n (match keys) h
-        ∙ sym (ap (λ vs. element_or (values_in filled_in g) (pos n) (match vs)) (keys_there some))
-    in_column_same match (negsuc n) low high h = cc
-
-    -- a column that is too low or too high, or else what is found
-    by_tests : (low high least : Bool) (cells : List Cell) (below above v w : Value) → (low ≡ false → least ≡ true) → (low ≡ false → high ≡ true → AllSeen cells → v ≡ w)
-        → AllSeen (if least && high then cells else []) → (if low then below else if high then v else above) ≡ (if low then below else if high then w else above)
-    by_tests true high least cells below above v w t f h = refl
-    by_tests false false least cells below above v w t f h = refl
-    by_tests false true least cells below above v w t f h = f refl refl (subst (λ b. AllSeen (if b && true then cells else [])) (t refl) h)
-
-    -- what a lookup finds of a key
-    looked_up_same : (key : Value) (column : ℤ) (sorted : Bool) → AllSeen (looked_up_cell g keys (Ok key) (Ok column) (Ok sorted))
-        → looked_up (values_in value g) key column sorted ≡ looked_up (values_in filled_in g) key column sorted
-    looked_up_same key column sorted h =
-        by_tests (int_le column (pos 0)) (int_le column (pos g.columns)) (int_le (pos 1) column) (found_cell g column (found (if sorted then Rising else Equal) key keys)) _ _ _ _
-        (one_at_least column) (in_column_same (found (if sorted then Rising else Equal) key) column) h
-
-    -- or the error of one of its arguments
-    pub lookup_same : (key : Result Value ErrorKind) (column : Result ℤ ErrorKind) (sorted : Result Bool ErrorKind) → AllSeen (looked_up_cell g keys key column sorted)
-        → on_ok key (λ k. on_ok column (λ c. on_ok sorted (λ s. answered (looked_up (values_in value g) k c s)))) ≡ on_ok key (λ k. on_ok column (λ c. on_ok sorted (λ s. answered (looked_up (values_in filled_in g) k c s))))
-    lookup_same (Ok key) (Ok column) (Ok sorted) h = ap answered (looked_up_same key column sorted h)
-    lookup_same (Ok key) (Ok column) (Err k) h = refl
-    lookup_same (Ok key) (Err k) sorted h = refl
-    lookup_same (Err k) column sorted h = refl
+    -- so what a lookup picks is the same
+    pub lookup_same : (args : List Arg) → AllSeen (picked_cells g (record_pick g.columns keys args))
+        → taken_from (values_in value g) (record_pick g.columns (column_of (values_in value g) 0) args)
+        ≡ taken_from (values_in filled_in g) (record_pick g.columns (column_of (values_in filled_in g) 0) args)
+    lookup_same args h =
+        ap (taken_from (values_in value g)) (pick_here args) ∙ picked_same g (record_pick g.columns keys args) h
+        ∙ sym (ap (taken_from (values_in filled_in g)) (pick_there args))
 
   -- ---- sums by a criterion
   -- the values of the cells that are summed
@@ -175,7 +168,7 @@ module _ (known : Cell → Option Value) (value : Cell → Value) where
   pub summed_same : (g : CellGrid) (tested : Rectangle) (criterion : Result Value ErrorKind) → AllSeen (met_cells g tested criterion)
       → on_ok criterion (λ c. sum_where tested c (values_in value g)) ≡ on_ok criterion (λ c. sum_where tested c (values_in filled_in g))
   summed_same g tested (Ok c) h =
-      let cells = map (λ (p : Value × Cell). p.1) (filter (λ (p : Value × Cell). meets c p.0) (zip tested.items g.cells)) in
-      summed_of_size _ cells (met c tested (values_in value g)) (met c tested (values_in filled_in g))
+      let cells = met c tested.items g.cells in
+      summed_of_size _ cells (met c tested.items (map value g.cells)) (met c tested.items (map filled_in g.cells))
       (λ seen. met_values value (meets c) tested.items g.cells ∙ seen_values cells seen ∙ sym (met_values filled_in (meets c) tested.items g.cells)) h
   summed_same g tested (Err k) h = refl

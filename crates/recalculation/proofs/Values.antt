@@ -12,8 +12,7 @@ use Rattle.recalculation.specs.Entries.{Book, Entry, Constant, Formula, Malforme
 use Rattle.recalculation.specs.Walks.{is_formula, refers, steps_to, is_circular, unfolded}
 use Rattle.recalculation.specs.Evaluation.{cell_value}
 use Rattle.recalculation.specs.Recalculation.{entry_value, number_or, recalculated, bounded_val, val}
-use Rattle.recalculation.specs.Ordered.{AreInOrder, HasAreasInOrder}
-use Rattle.recalculation.specs.Laws.{OverriddenHasItsNumber, CircularIsAnError}
+use Rattle.recalculation.specs.Laws.{OverriddenHasItsNumber, CircularIsAnError, EqualNumbersGiveEqualValues}
 use Rattle.recalculation.proofs.Lists.{first_true, second_true}
 use Rattle.recalculation.proofs.Walking.{all_enough, fixed}
 use Rattle.recalculation.proofs.Circles.{found_text, no_step}
@@ -21,17 +20,17 @@ use Rattle.recalculation.proofs.Reading.{evaluated_alike}
 use Rattle.recalculation.proofs.WithinAreas.{of_referred}
 
 -- what a cell says depends on the values of the cells to which it refers
-pub entry_alike : (f g : Cell → Value) (e : Option Entry) → AreInOrder e → ((b : Cell) → refers e b ≡ true → f b ≡ g b) → entry_value f e ≡ entry_value g e
-entry_alike f g None order h = refl
-entry_alike f g (Some (Constant v)) order h = refl
-entry_alike f g (Some (Formula t)) order h = ap (λ c. cell_value (exact c)) (evaluated_alike f g t (of_referred (λ b. f b ≡ g b) t order h))
-entry_alike f g (Some Malformed) order h = refl
+pub entry_alike : (f g : Cell → Value) (e : Option Entry) → ((b : Cell) → refers e b ≡ true → f b ≡ g b) → entry_value f e ≡ entry_value g e
+entry_alike f g None h = refl
+entry_alike f g (Some (Constant v)) h = refl
+entry_alike f g (Some (Formula t)) h = ap (λ c. cell_value (exact c)) (evaluated_alike f g t (of_referred (λ b. f b ≡ g b) t h))
+entry_alike f g (Some Malformed) h = refl
 
 -- so does its value
-layer_alike : (f g : Cell → Value) (o : Option ℚ) (circular : Bool) (e : Option Entry) → AreInOrder e → ((b : Cell) → (not (is_some o) && refers e b) ≡ true → f b ≡ g b)
+layer_alike : (f g : Cell → Value) (o : Option ℚ) (circular : Bool) (e : Option Entry) → ((b : Cell) → (not (is_some o) && refers e b) ≡ true → f b ≡ g b)
     → number_or o (if circular then Error kind.Circular else entry_value f e) ≡ number_or o (if circular then Error kind.Circular else entry_value g e)
-layer_alike f g (Some x) circular e order h = refl
-layer_alike f g None circular e order h = ap (λ v. if circular then Error kind.Circular else v) (entry_alike f g e order h)
+layer_alike f g (Some x) circular e h = refl
+layer_alike f g None circular e h = ap (λ v. if circular then Error kind.Circular else v) (entry_alike f g e h)
 
 -- a formula of which it is known that walks start at it
 either_value : (f g : Cell → Value) (w : Bool) (e : Option Entry) → w ≡ true
@@ -48,7 +47,7 @@ layer_looped : (f g : Cell → Value) (o : Option ℚ) (w : Bool) (e : Option En
 layer_looped f g (Some x) w e h = refl
 layer_looped f g None w e h = either_value f g w e h
 
-module _ (book : Book) (over : Overriding) (order : HasAreasInOrder book) where
+module _ (book : Book) (over : Overriding) where
   abbrev is_leaf : Cell → Bool
   is_leaf b = is_some (over b)
 
@@ -58,7 +57,7 @@ module _ (book : Book) (over : Overriding) (order : HasAreasInOrder book) where
   val_enough zero a h = absurd (omega arith)
   val_enough (suc m) a h =
       all_enough (keys book.texts) (steps_to book is_leaf) (contains_key book.texts) (found_text book) (no_step book is_leaf) (recalculated book over)
-      (λ f g b s. layer_alike f g (over b) (is_circular book is_leaf b) (entry book b) (order b) s) (Error kind.Circular)
+      (λ f g b s. layer_alike f g (over b) (is_circular book is_leaf b) (entry book b) s) (Error kind.Circular)
       (λ f g b w. layer_looped f g (over b) _ (entry book b) w) m a (omega arith)
 
   -- the value of a cell is what its text makes of the values of the others
@@ -66,7 +65,7 @@ module _ (book : Book) (over : Overriding) (order : HasAreasInOrder book) where
   unfolding bounded_val val
   val_is a =
       fixed (keys book.texts) (steps_to book is_leaf) (contains_key book.texts) (found_text book) (no_step book is_leaf) (recalculated book over)
-      (λ f g b s. layer_alike f g (over b) (is_circular book is_leaf b) (entry book b) (order b) s) (Error kind.Circular)
+      (λ f g b s. layer_alike f g (over b) (is_circular book is_leaf b) (entry book b) s) (Error kind.Circular)
       (λ f g b w. layer_looped f g (over b) _ (entry book b) w) a
 
 -- the values of the others, of which the value of a cell is made
@@ -89,3 +88,7 @@ unfolding bounded_val val
 val_circular book over a h =
     no_number (over a) _ (first_true (not (is_some (over a))) _ (second_true (is_formula (entry book a)) _ h))
     ∙ ap (λ w. if w then Error kind.Circular else entry_value (others book over) (entry book a)) h
+
+-- overriding by equal numbers gives equal values
+pub val_equal : EqualNumbersGiveEqualValues
+val_equal book over under h a = ap (λ o. val book o a) (λ i b. h b i)

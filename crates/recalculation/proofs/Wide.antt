@@ -17,7 +17,6 @@ use Rattle.recalculation.specs.Walks.{has_walk, is_formula, refers, steps_to, is
 use Rattle.recalculation.specs.Evaluation.{cell_value}
 use Rattle.recalculation.specs.Looking.{are_known, outcome_of, looked_at}
 use Rattle.recalculation.specs.Narrow.{entry_known, number_or, known, entry_is_wide, is_wide, Among, LooksFrom, LooksAt, Looked, itself, further}
-use Rattle.recalculation.specs.Ordered.{AreInOrder, HasAreasInOrder}
 use Rattle.recalculation.proofs.Lists.{both}
 use Rattle.recalculation.proofs.Circles.{walks_get_shorter, entry_there}
 use Rattle.recalculation.proofs.Reading.{looked_among}
@@ -25,22 +24,22 @@ use Rattle.recalculation.proofs.Knowns.{known_is}
 use Rattle.recalculation.proofs.WithinAreas.{each_referred}
 
 -- ---- what is looked at is referred to
-among_referred : (f : Cell → Option Value) (e : Option Entry) (b : Cell) → AreInOrder e → Among f e b → refers e b ≡ true
-among_referred f None b order h = absurd h
-among_referred f (Some (Constant v)) b order h = absurd h
-among_referred f (Some (Formula t)) b order h =
+among_referred : (f : Cell → Option Value) (e : Option Entry) (b : Cell) → Among f e b → refers e b ≡ true
+among_referred f None b h = absurd h
+among_referred f (Some (Constant v)) b h = absurd h
+among_referred f (Some (Formula t)) b h =
     All-contains (λ b. refers (Some (Formula t)) b ≡ true) (looked_at f t) b
-    (All-from_recursion (λ b. refers (Some (Formula t)) b ≡ true) (looked_at f t) (looked_among (λ b. refers (Some (Formula t)) b ≡ true) f t (each_referred t order))) h
-among_referred f (Some Malformed) b order h = absurd h
+    (All-from_recursion (λ b. refers (Some (Formula t)) b ≡ true) (looked_at f t) (looked_among (λ b. refers (Some (Formula t)) b ≡ true) f t (each_referred t))) h
+among_referred f (Some Malformed) b h = absurd h
 
 -- what a cell looks at, circular or not
-looks_referred : (circular : Bool) (f : Cell → Option Value) (e : Option Entry) (b : Cell) → AreInOrder e → LooksFrom circular f e b → refers e b ≡ true
-looks_referred true f e b order h = h
-looks_referred false f e b order h = among_referred f e b order h
+looks_referred : (circular : Bool) (f : Cell → Option Value) (e : Option Entry) (b : Cell) → LooksFrom circular f e b → refers e b ≡ true
+looks_referred true f e b h = h
+looks_referred false f e b h = among_referred f e b h
 
 -- a cell refers to what it looks at
-pub looked_referred : (book : Book) (over : Overriding) → HasAreasInOrder book → (a b : Cell) → LooksAt book over a b → refers (entry book a) b ≡ true
-looked_referred book over order a b h = looks_referred (is_circular book (λ c. is_some (over c)) a) (known book over) (entry book a) b (order a) h.1
+pub looked_referred : (book : Book) (over : Overriding) (a b : Cell) → LooksAt book over a b → refers (entry book a) b ≡ true
+looked_referred book over a b h = looks_referred (is_circular book (λ c. is_some (over c)) a) (known book over) (entry book a) b h.2
 
 -- ---- wide cells
 -- one look, and then others
@@ -95,44 +94,43 @@ module _ (book : Book) (over : Overriding) where
   layer_text None false None h = cc h
   layer_text None false (Some e) h = refl
 
-  module _ (order : HasAreasInOrder book) where
-    -- a cell without a narrow value, by what makes it
-    is_unknown : (a : Cell) → known book over a ≡ None → number_or (over a) (if is_circular book is_leaf a then Some (Error kind.Circular) else entry_known (known book over) (entry book a)) ≡ None
-    is_unknown a h = sym (known_is book over order a) ∙ h
+  -- a cell without a narrow value, by what makes it
+  is_unknown : (a : Cell) → known book over a ≡ None → number_or (over a) (if is_circular book is_leaf a then Some (Error kind.Circular) else entry_known (known book over) (entry book a)) ≡ None
+  is_unknown a h = sym (known_is book over a) ∙ h
 
-    -- so it is a cell with a text
-    has_text : (a : Cell) → known book over a ≡ None → contains_key book.texts a ≡ true
-    has_text a h =
-        sym (entry_there book a) ∙ layer_text (over a) (is_circular book is_leaf a) (entry book a) (is_unknown a h)
+  -- so it is a cell with a text
+  has_text : (a : Cell) → known book over a ≡ None → contains_key book.texts a ≡ true
+  has_text a h =
+      sym (entry_there book a) ∙ layer_text (over a) (is_circular book is_leaf a) (entry book a) (is_unknown a h)
 
-    -- a wide cell that is looked at
-    abbrev Wide : Cell → Type 0
-    Wide a = (b : Cell) × Looked book over a b × (is_wide book over b ≡ true)
+  -- a wide cell that is looked at
+  abbrev Wide : Cell → Type 0
+  Wide a = (b : Cell) × Looked book over a b × (is_wide book over b ≡ true)
 
-    -- a wide cell is found within so many steps as no walk has
-    within_steps : (k : ℕ) (a : Cell) → has_walk (keys book.texts) (steps_to book is_leaf) k a ≡ false → known book over a ≡ None → Wide a
-    within_steps zero a none h = cc none
-    within_steps (suc k) a none h =
-        elim (layer_finds (over a) (is_circular book is_leaf a) (entry book a) (is_unknown a h)) as (λ _. Wide a) [
-          | inl wide ↦ (a, itself, wide)
-          | inr next ↦
-              let look : LooksAt book over a next.0 = (next.1, next.2) in
-              let step : steps_to book is_leaf a next.0 ≡ true = both _ _ (ap (λ o. not (is_some o)) next.1) (looked_referred book over order a next.0 look) in
-              let rest = within_steps k next.0 (walks_get_shorter book is_leaf k a next.0 none step (has_text next.0 next.3)) next.3 in
-              (rest.0, in_front book over a next.0 rest.0 look rest.1, rest.2)
-        ]
+  -- a wide cell is found within so many steps as no walk has
+  within_steps : (k : ℕ) (a : Cell) → has_walk (keys book.texts) (steps_to book is_leaf) k a ≡ false → known book over a ≡ None → Wide a
+  within_steps zero a none h = cc none
+  within_steps (suc k) a none h =
+      elim (layer_finds (over a) (is_circular book is_leaf a) (entry book a) (is_unknown a h)) as (λ _. Wide a) [
+        | inl wide ↦ (a, itself, wide)
+        | inr next ↦
+            let look : LooksAt book over a next.0 = (next.1, has_text next.0 next.3, next.2) in
+            let step : steps_to book is_leaf a next.0 ≡ true = both _ _ (ap (λ o. not (is_some o)) next.1) (looked_referred book over a next.0 look) in
+            let rest = within_steps k next.0 (walks_get_shorter book is_leaf k a next.0 none step (has_text next.0 next.3)) next.3 in
+            (rest.0, in_front book over a next.0 rest.0 look rest.1, rest.2)
+      ]
 
-    -- a formula cell that isn't circular starts no walk of as many steps as there are texts
-    no_walk : (o : Option ℚ) (e : Option Entry) (walk : Bool) → number_or o (if is_formula e && (not (is_some o) && walk) then Some (Error kind.Circular) else entry_known (known book over) e) ≡ None → walk ≡ false
-    no_walk (Some x) e walk h = cc h
-    no_walk None None walk h = cc h
-    no_walk None (Some (Constant v)) walk h = cc h
-    no_walk None (Some (Formula t)) true h = cc h
-    no_walk None (Some (Formula t)) false h = refl
-    no_walk None (Some Malformed) walk h = cc h
+  -- a formula cell that isn't circular starts no walk of as many steps as there are texts
+  no_walk : (o : Option ℚ) (e : Option Entry) (walk : Bool) → number_or o (if is_formula e && (not (is_some o) && walk) then Some (Error kind.Circular) else entry_known (known book over) e) ≡ None → walk ≡ false
+  no_walk (Some x) e walk h = cc h
+  no_walk None None walk h = cc h
+  no_walk None (Some (Constant v)) walk h = cc h
+  no_walk None (Some (Formula t)) true h = cc h
+  no_walk None (Some (Formula t)) false h = refl
+  no_walk None (Some Malformed) walk h = cc h
 
-    -- a cell without a narrow value looks, itself or by others, at a wide one
-    pub wide_looked_at : (a : Cell) → known book over a ≡ None → Wide a
-    wide_looked_at a h =
-        within_steps (length (keys book.texts)) a
-        (no_walk (over a) (entry book a) (has_walk (keys book.texts) (steps_to book is_leaf) (length (keys book.texts)) a) (is_unknown a h)) h
+  -- a cell without a narrow value looks, itself or by others, at a wide one
+  pub wide_looked_at : (a : Cell) → known book over a ≡ None → Wide a
+  wide_looked_at a h =
+      within_steps (length (keys book.texts)) a
+      (no_walk (over a) (entry book a) (has_walk (keys book.texts) (steps_to book is_leaf) (length (keys book.texts)) a) (is_unknown a h)) h

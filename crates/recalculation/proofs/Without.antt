@@ -1,11 +1,10 @@
 -- A wide cell has no narrow value, and neither has what looks at a cell without one.
-use Rattle.std.proofs.Common.{◌≡◌, ℕ, zero, suc, Bool, true, false, ◌&&◌, if◌then◌else◌, List, [], ◌∷◌, refl, sym, ap, ◌∙◌, arith}
+use Rattle.std.proofs.Common.{◌≡◌, zero, suc, Bool, true, false, ◌&&◌, if◌then◌else◌, List, [], ◌∷◌, refl, ap, ◌∙◌, arith}
 use Rattle.std.specs.Prelude.{not, Option, Some, None, is_some, is_none, option_map}
 use Rattle.std.specs.List.{Contains}
 use Rattle.fractions.specs.Rational.{ℚ}
 use Rattle.cell_refs.specs.declared.cell.Cell.{Cell}
 use Rattle.cell_refs.specs.declared.error_kind.ErrorKind.TheVariants as kind
-use Rattle.formula_ast.specs.Tree.{Tree}
 use Rattle.sheet_model.specs.declared.value.Value.{Value}
 use Rattle.sheet_model.specs.declared.value.Value.TheVariants.{Error}
 use Rattle.sheet_model.specs.declared.grid.Arg.{Arg}
@@ -15,7 +14,6 @@ use Rattle.recalculation.specs.Walks.{is_circular, steps_to}
 use Rattle.recalculation.specs.Evaluation.{cell_value, evaluated}
 use Rattle.recalculation.specs.Looking.{are_known, known_or_empty, outcome_of, looked_at}
 use Rattle.recalculation.specs.Narrow.{entry_known, number_or, known, entry_is_wide, is_wide, Among, LooksFrom, LooksAt, Looked, itself, further, NoneIsWide}
-use Rattle.recalculation.specs.Ordered.{HasAreasInOrder}
 use Rattle.recalculation.proofs.Lists.{both, second_true}
 use Rattle.recalculation.proofs.Circles.{free_refers_to_free}
 use Rattle.recalculation.proofs.Knowns.{known_is}
@@ -55,15 +53,15 @@ module _ (f : Cell → Option Value) where
       ap (λ k. option_map cell_value (if k then narrow (evaluated (known_or_empty f) t) else None)) (unknown_among (looked_at f t) b there h)
   entry_blocked (Some Malformed) b there h = absurd there
 
-module _ (book : Book) (over : Overriding) (order : HasAreasInOrder book) where
+module _ (book : Book) (over : Overriding) where
   pub wide_without : (a : Cell) → is_wide book over a ≡ true → known book over a ≡ None
   wide_without a h =
-      known_is book over order a ∙ layer_without (known book over) (over a) (is_circular book (λ b. is_some (over b)) a) (entry book a) h
+      known_is book over a ∙ layer_without (known book over) (over a) (is_circular book (λ b. is_some (over b)) a) (entry book a) h
 
   pub blocked : (a b : Cell) → is_circular book (λ c. is_some (over c)) a ≡ false → LooksAt book over a b → known book over b ≡ None → known book over a ≡ None
   blocked a b free look h =
-      known_is book over order a
-      ∙ by (over a) (is_circular book (λ c. is_some (over c)) a) look.0 free look.1
+      known_is book over a
+      ∙ by (over a) (is_circular book (λ c. is_some (over c)) a) look.0 free look.2
     where
       by : (o : Option ℚ) (circular : Bool) → o ≡ None → circular ≡ false → LooksFrom circular (known book over) (entry book a) b
           → number_or o (if circular then Some (Error kind.Circular) else entry_known (known book over) (entry book a)) ≡ None
@@ -80,7 +78,7 @@ module _ (book : Book) (over : Overriding) (order : HasAreasInOrder book) where
   all_known a v free e b itself = (free, (v, e))
   all_known a v free e c (further b _ before look) =
       let there = all_known a v free e b before in
-      let step : steps_to book (λ d. is_some (over d)) b c ≡ true = both _ _ (ap (λ o. not (is_some o)) look.0) (looked_referred book over order b c look) in (
+      let step : steps_to book (λ d. is_some (over d)) b c ≡ true = both _ _ (ap (λ o. not (is_some o)) look.0) (looked_referred book over b c look) in (
         free_refers_to_free book (λ d. is_some (over d)) b c there.0 step,
         elim (known book over c) as (λ o. known book over c ≡ o → (w : Value) × (o ≡ Some w)) [
           | Some w ↦ λ h. (w, refl)

@@ -1,12 +1,12 @@
 -- The value of a formula over those of the cells (OpenDocument 1.2 part 2, sections 3.2 and 6.14.3, 6.15.4, 6.15.5), as a
 -- calculation: operands from left to right, then the operator; of IF, IFERROR and CHOOSE the chosen argument alone.
-use Rattle.std.specs.Prelude.{ℕ, zero, suc, ◌+◌, ◌-◌, false, if◌then◌else◌, List, [], ◌∷◌, map, flat_map, length, slice_get, slice_index_or, ℤ, pos, negsuc, Option, Some, None}
+use Rattle.std.specs.Prelude.{ℕ, suc, Bool, true, false, List, [], ◌∷◌, map, flat_map, length, slice_get, slice_index_or, ℤ, pos, Option, Some, None, Result, Ok, Err}
 use Rattle.fractions.specs.Rational.{zero_ℚ}
 use Rattle.calculations.specs.Calculation.{Calculation, done, followed_by, turned_into, for_each}
 use Rattle.cell_refs.specs.declared.cell.Cell.{Cell}
-use Rattle.cell_refs.specs.declared.cell.Area.{Area}
+use Rattle.cell_refs.specs.declared.error_kind.ErrorKind.{ErrorKind}
 use Rattle.cell_refs.specs.declared.error_kind.ErrorKind.TheVariants as kind
-use Rattle.cell_refs.specs.Areas.{area_width, cells_of}
+use Rattle.cell_refs.specs.Areas.{Area, area_height, area_width, cells_of}
 use Rattle.formula_ast.specs.Tree.{Tree, Trees, none, more}
 use Rattle.formula_ast.specs.Tree as tree
 use Rattle.formula_ast.specs.Measures.{listed}
@@ -19,8 +19,9 @@ use Rattle.sheet_model.specs.declared.value.Value.{Value}
 use Rattle.sheet_model.specs.declared.value.Value.TheVariants.{Number, Text, Logical, Empty, Error}
 use Rattle.sheet_model.specs.declared.grid.Arg.{Arg}
 use Rattle.sheet_model.specs.declared.grid.Arg.TheVariants.{One, Area as Elements}
-use Rattle.sheet_funcs.specs.Arguments.{value_of, answered, on_ok}
+use Rattle.sheet_funcs.specs.Arguments.{value_of, answered}
 use Rattle.sheet_funcs.specs.Rounding.{place_of}
+use Rattle.sheet_funcs.specs.Criteria.{is_error}
 use Rattle.sheet_funcs.specs.Table.{called}
 
 -- ---- references
@@ -32,7 +33,7 @@ pub record CellGrid : Type 0 where
 
 -- an area has its rows and columns; the cells of several areas are one column, one area behind the other
 abbrev pub grid_of_areas : List Area → CellGrid
-grid_of_areas (a ∷ []) = record { rows = a.bottom + 1 - a.top; columns = area_width a; cells = cells_of a }
+grid_of_areas (a ∷ []) = record { rows = area_height a; columns = area_width a; cells = cells_of a }
 grid_of_areas areas = let cells = flat_map cells_of areas in record { rows = length cells; columns = 1; cells = cells }
 
 -- their values
@@ -50,47 +51,66 @@ abbrev pub literals : Trees → List Value
 literals none = []
 literals (more t ts) = literal t ∷ literals ts
 
--- ---- functions that choose among their arguments; what is chosen counts as a single value where it has one element
-abbrev pub chosen : Calculation Arg → Calculation Arg
-chosen c = turned_into single c
+-- ---- functions that choose one of the arguments behind the first
+-- IF chooses the second argument where the first is TRUE, and else the third, which is FALSE where it is left out
+abbrev pub if_place : Result Bool ErrorKind → Option ℕ
+if_place (Ok true) = Some 0
+if_place (Ok false) = Some 1
+if_place (Err k) = None
 
--- the second argument where the first is TRUE, and else the third, which is FALSE where it is left out
-abbrev pub otherwise : List (Calculation Arg) → Calculation Arg
-otherwise [] = answered (Logical false)
-otherwise (c ∷ _) = chosen c
+abbrev pub if_without : Result Bool ErrorKind → Value
+if_without (Ok b) = Logical false
+if_without (Err k) = Error k
 
-abbrev pub if_of : List (Calculation Arg) → Calculation Arg
-if_of (test ∷ c ∷ others) = followed_by test (λ a. on_ok (logical_in (value_of a)) (λ b. if b then chosen c else otherwise others))
-if_of _ = answered (Error kind.Value)
+-- IFERROR chooses the second argument where the first is an error, and else keeps the first
+abbrev pub iferror_place : Bool → Option ℕ
+iferror_place true = Some 0
+iferror_place false = None
 
--- the first argument, or the second where that is an error
-abbrev pub or_else : Arg → Calculation Arg → Calculation Arg
-or_else (One (Error k)) other = chosen other
-or_else a other = done a
+abbrev pub is_one_error : Arg → Bool
+is_one_error (One v) = is_error v
+is_one_error (Elements g) = false
 
-abbrev pub iferror_of : List (Calculation Arg) → Calculation Arg
-iferror_of (c ∷ other ∷ []) = followed_by c (λ a. or_else (single a) other)
-iferror_of _ = answered (Error kind.Value)
+-- CHOOSE chooses the argument at the place that the first says, counted from 1
+abbrev pub choose_place : Result ℤ ErrorKind → Option ℕ
+choose_place (Ok (pos (suc n))) = Some n
+choose_place _ = None
 
--- the argument at a place, counted from 1
-abbrev pub at_place : {A : Type 0} → List A → ℤ → Option A
-at_place xs (pos zero) = None
-at_place xs (pos (suc n)) = slice_get xs n
-at_place xs (negsuc n) = None
+abbrev pub choose_without : Result ℤ ErrorKind → Value
+choose_without (Ok n) = Error kind.Value
+choose_without (Err k) = Error k
 
-abbrev pub chosen_at : Option (Calculation Arg) → Calculation Arg
-chosen_at (Some c) = chosen c
-chosen_at None = answered (Error kind.Value)
+-- which of the arguments behind the first one is chosen, counted from 0, or none
+abbrev pub chosen_place : Func → Arg → Option ℕ
+chosen_place func.If a = if_place (logical_in (value_of a))
+chosen_place func.IfError a = iferror_place (is_one_error (single a))
+chosen_place _ a = choose_place (place_of a)
 
-abbrev pub choose_of : List (Calculation Arg) → Calculation Arg
-choose_of (place ∷ others) = followed_by place (λ a. on_ok (place_of a) (λ n. chosen_at (at_place others n)))
-choose_of _ = answered (Error kind.Value)
+-- what the result is where none is there
+abbrev pub without_choice : Func → Arg → Arg
+without_choice func.If a = One (if_without (logical_in (value_of a)))
+without_choice func.IfError a = single a
+without_choice _ a = One (choose_without (place_of a))
+
+-- the argument at such a place
+abbrev pub at_chosen : {A : Type 0} → List A → Option ℕ → Option A
+at_chosen others (Some n) = slice_get others n
+at_chosen others None = None
+
+-- what is chosen counts as a single value where it has one element
+abbrev pub chosen_or : Arg → Option (Calculation Arg) → Calculation Arg
+chosen_or a (Some c) = turned_into single c
+chosen_or a None = done a
+
+abbrev pub choosing : Func → List (Calculation Arg) → Calculation Arg
+choosing f [] = answered (Error kind.Value)
+choosing f (c ∷ others) = followed_by c (λ a. chosen_or (without_choice f a) (at_chosen others (chosen_place f a)))
 
 -- a function of its arguments
 abbrev pub call_of : Func → List (Calculation Arg) → Calculation Arg
-call_of func.If cs = if_of cs
-call_of func.IfError cs = iferror_of cs
-call_of func.Choose cs = choose_of cs
+call_of func.If cs = choosing func.If cs
+call_of func.IfError cs = choosing func.IfError cs
+call_of func.Choose cs = choosing func.Choose cs
 call_of f cs = followed_by (for_each (λ c. c) cs) (called f)
 
 -- ---- formulas

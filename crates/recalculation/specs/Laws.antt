@@ -1,15 +1,26 @@
 -- Laws of recalculation.
-use Rattle.std.specs.Prelude.{◌≡◌, ◌<◌, ℕ, suc, Bool, true, false, length, Some, None, is_some}
+use Rattle.std.specs.Prelude.{◌≡◌, ◌<◌, ◌↔◌, ℕ, suc, Bool, true, false, List, ◌∷◌, flat_map, length, Option, Some, None, is_some, Contains}
 use Rattle.std.specs.FinMap.{keys, contains_key}
 use Rattle.fractions.specs.Rational.{ℚ}
 use Rattle.cell_refs.specs.declared.cell.Cell.{Cell}
+use Rattle.cell_refs.specs.Areas.{cells_of}
 use Rattle.cell_refs.specs.declared.error_kind.ErrorKind.TheVariants as kind
+use Rattle.formula_ast.specs.Tree.{Tree}
+use Rattle.formula_ast.specs.Measures.{references_of}
+use Rattle.formula_ast.specs.declared.func.Func.TheVariants as func
 use Rattle.sheet_model.specs.declared.value.Value.{Value}
 use Rattle.sheet_model.specs.declared.value.Value.TheVariants.{Number, Error}
-use Rattle.recalculation.specs.Entries.{Book, Overriding, entry}
+use Rattle.recalculation.specs.Entries.{Book, Formula, Overriding, entry}
 use Rattle.recalculation.specs.Walks.{has_walk, steps_to, is_circular, refers}
 use Rattle.recalculation.specs.Recalculation.{recalculated, bounded_val, val}
-use Rattle.recalculation.specs.Narrow.{known, known_over, bounded_known, is_wide, LooksAt, Looked}
+use Rattle.sheet_model.specs.declared.grid.Arg.{Arg}
+use Rattle.recalculation.specs.Looks.{Argument, Deciding, all_looks, call_looks}
+use Rattle.recalculation.specs.Narrow.{known, known_over, bounded_known, is_wide, LooksAt, Looked, NoneIsWide}
+
+-- ---- references
+-- a formula refers to the cells of its references, and to no others
+abbrev pub ReferredAreCells : Type 0
+ReferredAreCells = (t : Tree) (b : Cell) → refers (Some (Formula t)) b ≡ true ↔ Contains (flat_map cells_of (references_of t)) b
 
 -- ---- circular cells
 -- where no walk of n + 1 references starts at a cell, none of n starts at a cell with a text to which it refers
@@ -44,6 +55,10 @@ OverriddenHasItsNumber = (book : Book) (over : Overriding) (a : Cell) (x : ℚ) 
 abbrev pub CircularIsAnError : Type 0
 CircularIsAnError = (book : Book) (over : Overriding) (a : Cell) → is_circular book (λ b. is_some (over b)) a ≡ true → val book over a ≡ Error kind.Circular
 
+-- equal numbers at every cell give equal values
+abbrev pub EqualNumbersGiveEqualValues : Type 0
+EqualNumbersGiveEqualValues = (book : Book) (over under : Overriding) → ((b : Cell) → over b ≡ under b) → (a : Cell) → val book over a ≡ val book under a
+
 -- P holds of a cell to which one in P refers, and two workbooks and overridings are alike in P
 pub record AreAlikeIn (P : Cell → Type 0) (book other : Book) (over under : Overriding) : Type 0 where
   pub leads : (a b : Cell) → P a → refers (entry book a) b ≡ true → P b
@@ -70,6 +85,31 @@ KnownIsTheValue = (book : Book) (over : Overriding) (a : Cell) (v : Value) → k
 abbrev pub WideIsLookedAt : Type 0
 WideIsLookedAt = (book : Book) (over : Overriding) (a : Cell) → known book over a ≡ None → (b : Cell) × Looked book over a b × (is_wide book over b ≡ true)
 
--- what is looked at is referred to
+-- a wide cell has no narrow value
+abbrev pub WideHasNoValue : Type 0
+WideHasNoValue = (book : Book) (over : Overriding) (a : Cell) → is_wide book over a ≡ true → known book over a ≡ None
+
+-- and neither has a cell, other than a circular one, that looks at a cell without one
+abbrev pub Blocked : Type 0
+Blocked = (book : Book) (over : Overriding) (a b : Cell) → is_circular book (λ c. is_some (over c)) a ≡ false → LooksAt book over a b → known book over b ≡ None
+    → known book over a ≡ None
+
+-- where a cell that isn't circular has a narrow value, nothing at which it looks, itself or by others, is wide
+abbrev pub KnownLooksAtNoneWide : Type 0
+KnownLooksAtNoneWide = (book : Book) (over : Overriding) (a : Cell) (v : Value) → is_circular book (λ c. is_some (over c)) a ≡ false → known book over a ≡ Some v
+    → NoneIsWide book over a
+
+-- what is looked at has a text and is referred to
 abbrev pub LookedIsReferred : Type 0
-LookedIsReferred = (book : Book) (over : Overriding) (a b : Cell) → LooksAt book over a b → refers (entry book a) b ≡ true
+LookedIsReferred = (book : Book) (over : Overriding) (a b : Cell) → LooksAt book over a b → (contains_key book.texts b ≡ true) × (refers (entry book a) b ≡ true)
+
+-- ---- what isn't decided
+-- where the first argument of IF doesn't decide, IF looks at all of its arguments
+abbrev pub UndecidedIfLooksAtAll : Type 0
+UndecidedIfLooksAtAll = (d : Deciding Arg Value) (known : Cell → Option Value) (a : Argument Arg) (others : List (Argument Arg)) (v : Arg) → a.outcome ≡ Some v → d.truth v ≡ None
+    → call_looks d known func.If (a ∷ others) ≡ all_looks (a ∷ others)
+
+-- where that of IFERROR or CHOOSE doesn't, they look at it alone
+abbrev pub UndecidedLooksAtItself : Type 0
+UndecidedLooksAtItself = (d : Deciding Arg Value) (known : Cell → Option Value) (a : Argument Arg) (others : List (Argument Arg)) (v : Arg) → a.outcome ≡ Some v
+    → (d.is_error v ≡ None → call_looks d known func.IfError (a ∷ others) ≡ a.looks) × (d.place v ≡ None → call_looks d known func.Choose (a ∷ others) ≡ a.looks)

@@ -1,6 +1,6 @@
 -- Recalculation on narrow numbers: the value of a cell where it has one, the wide cells, and what is looked at.
 use Rattle.std.specs.Prelude.{◌≡◌, ◌≢◌, ℕ, suc, Bool, true, false, not, ◌&&◌, if◌then◌else◌, length, Option, Some, None, is_some, is_none, option_map, Contains}
-use Rattle.std.specs.FinMap.{keys}
+use Rattle.std.specs.FinMap.{keys, contains_key}
 use Rattle.std.specs.declared.cmp.Ordering.TheVariants.{Greater}
 use Rattle.fractions.specs.Rational.{ℚ}
 use Rattle.cell_refs.specs.declared.cell.Cell.{Cell}
@@ -57,9 +57,10 @@ abbrev pub LooksFrom : Bool → (Cell → Option Value) → Option Entry → Cel
 LooksFrom true others e b = refers e b ≡ true
 LooksFrom false others e b = Among others e b
 
--- whether a cell, which isn't overridden, looks at the cell b
+-- whether a cell, which isn't overridden, looks at the cell b, which has a text
 abbrev pub LooksAt : Book → Overriding → Cell → Cell → Type 0
-LooksAt book over a b = (over a ≡ None) × LooksFrom (is_circular book (λ c. is_some (over c)) a) (known book over) (entry book a) b
+LooksAt book over a b =
+    (over a ≡ None) × (contains_key book.texts b ≡ true) × LooksFrom (is_circular book (λ c. is_some (over c)) a) (known book over) (entry book a) b
 
 -- a cell itself, what it looks at, what that looks at, and so on
 pub data Looked (book : Book) (over : Overriding) (a : Cell) : Cell → Type 0 where

@@ -2,11 +2,11 @@
 //! wide on narrow numbers, and what a formula looks at. This crate has the definitions and their laws.
 #![tactic(auto)]
 
-ghost use Rattle.recalculation.specs.Laws.{CircularIsAnError, CircularIsEndless, FreeRefersToFree, KnownIsTheValue, OverriddenHasItsNumber, WalksGetShorter};
-ghost use Rattle.recalculation.specs.Ordered.{BlockedInOrder, BoundIsEnoughInOrder, DependsOnReachedInOrder, KnownBoundIsEnoughInOrder, KnownEquationInOrder, KnownLooksAtNoneWideInOrder, LookedIsReferredInOrder, RecalculationEquationInOrder, WideHasNoValueInOrder, WideIsLookedAtInOrder};
+ghost use Rattle.recalculation.specs.Laws.{Blocked, BoundIsEnough, CircularIsAnError, CircularIsEndless, DependsOnReached, EqualNumbersGiveEqualValues, FreeRefersToFree, KnownBoundIsEnough, KnownEquation, KnownIsTheValue, KnownLooksAtNoneWide, LookedIsReferred, OverriddenHasItsNumber, RecalculationEquation, ReferredAreCells, UndecidedIfLooksAtAll, UndecidedLooksAtItself, WalksGetShorter, WideHasNoValue, WideIsLookedAt};
 
-/// Which cells are circular, by walks along references.
+/// Which cells a formula refers to, and which are circular, by walks along references.
 pub fn walk_laws()
+    ensures referred { ReferredAreCells }
     ensures shorter { WalksGetShorter }
     ensures free { FreeRefersToFree }
     ensures endless { CircularIsEndless }
@@ -14,30 +14,32 @@ pub fn walk_laws()
 
 /// The value of a cell, over fractions of any size.
 pub fn value_laws()
+    ensures bound { BoundIsEnough }
+    ensures equation { RecalculationEquation }
     ensures overridden { OverriddenHasItsNumber }
     ensures circular { CircularIsAnError }
-{}
-
-/// The value of a cell where all areas of the workbook are in order.
-pub fn ordered_value_laws()
-    ensures bound { BoundIsEnoughInOrder }
-    ensures equation { RecalculationEquationInOrder }
-    ensures reached { DependsOnReachedInOrder }
+    ensures equal { EqualNumbersGiveEqualValues }
+    ensures reached { DependsOnReached }
 {}
 
 /// The value of a cell on narrow numbers: where there is one it is the value.
 pub fn narrow_laws()
+    ensures bound { KnownBoundIsEnough }
+    ensures equation { KnownEquation }
     ensures value { KnownIsTheValue }
 {}
 
-/// The value of a cell on narrow numbers where all areas of the workbook are in order: where there is none a wide
-/// cell is looked at, and only there.
-pub fn ordered_narrow_laws()
-    ensures bound { KnownBoundIsEnoughInOrder }
-    ensures equation { KnownEquationInOrder }
-    ensures wide { WideIsLookedAtInOrder }
-    ensures none { WideHasNoValueInOrder }
-    ensures blocked { BlockedInOrder }
-    ensures known { KnownLooksAtNoneWideInOrder }
-    ensures referred { LookedIsReferredInOrder }
+/// What a cell looks at on narrow numbers: where it has no narrow value a wide cell, and only there.
+pub fn looking_laws()
+    ensures wide { WideIsLookedAt }
+    ensures none { WideHasNoValue }
+    ensures blocked { Blocked }
+    ensures known { KnownLooksAtNoneWide }
+    ensures referred { LookedIsReferred }
+{}
+
+/// What IF, IFERROR and CHOOSE look at where their first argument doesn't decide which of the others is chosen.
+pub fn undecided_laws()
+    ensures test { UndecidedIfLooksAtAll }
+    ensures other { UndecidedLooksAtItself }
 {}

@@ -1,6 +1,6 @@
 // What arguments look at, and their values.
 ghost use Rattle.std.specs.Prelude.{◌≡◌, ◌++◌, IfOk, IfSome, OnOk, length, option_map};
-ghost use Rattle.recalculation.specs.Looking.{all_looks, outcomes};
+ghost use Rattle.recalculation.specs.Looks.{all_looks, outcomes};
 
 use crate::copy::copy_of;
 use crate::part::Part;

@@ -1,12 +1,11 @@
 // What SUMIF looks at.
-ghost use Rattle.std.specs.Prelude.{[], ◌∷◌, ◌≡◌, ◌≢◌, ◌++◌, IfOk, OnOk, filter, length, map, zip};
-ghost use Rattle.cell_refs.specs.declared.cell.Cell.{Cell};
+ghost use Rattle.std.specs.Prelude.{[], ◌∷◌, ◌≡◌, ◌≢◌, ◌++◌, IfOk, OnOk, length};
 ghost use Rattle.cell_refs.specs.declared.error_kind.ErrorKind.{ErrorKind};
-ghost use Rattle.recalculation.specs.Looking.{by_criterion, met_cells, outcomes, sumif_looks, then_cells};
+ghost use Rattle.recalculation.specs.Looking.{by_value, met_cells};
+ghost use Rattle.recalculation.specs.Looks.{outcomes, summed_looks, sumif_looks, then_cells};
 ghost use Rattle.sheet_funcs.specs.Arguments.{elements_of, grid_of, no_error, value_of};
-ghost use Rattle.sheet_funcs.specs.Criteria.{meets};
+ghost use Rattle.sheet_funcs.specs.Criteria.{met};
 ghost use Rattle.sheet_model.specs.Grids.{IsFull};
-ghost use Rattle.sheet_model.specs.declared.value.Value.{Value};
 ghost use Rattle.sheet_model.specs.declared.value.Value.TheVariants.{Error};
 
 use crate::looks::arguments::{all_looks, copied, push_all};
@@ -19,7 +18,7 @@ use std::alloc::Global;
 
 /// What SUMIF looks at: the tested grid and the criterion, and then of a reference the cells that are summed.
 pub(crate) fn sumif_looks(alloc: Global, args: &[Part]) -> Result<Vec<Cell>, Memory>
-    ensures { IfOk result (λ looks. looks.items ≡ sumif_looks args.now) }
+    ensures { IfOk result (λ looks. looks.items ≡ sumif_looks by_value args.now) }
 {
     let [tested, criterion, summed] = args else {
         return all_looks(alloc, args);
@@ -40,7 +39,7 @@ fn push_summed(
     criterion: &Part,
     to: &mut Vec<Cell>,
 ) -> Result<(), Memory>
-    ensures { OnOk result (to.new.items ≡ to.old.items ++ then_cells (outcomes (tested.now ∷ criterion.now ∷ [])) (by_criterion grid.now)) }
+    ensures { OnOk result (to.new.items ≡ to.old.items ++ then_cells (outcomes (tested.now ∷ criterion.now ∷ [])) (summed_looks by_value grid.now)) }
 {
     let Some(tested) = &tested.outcome else {
         return Ok(());
@@ -79,7 +78,7 @@ fn push_met_among(
 ) -> Result<(), Memory>
     requires count { length tested.now ≡ length cells.now }
     requires criterion { (k : ErrorKind) → criterion.now ≢ Error k }
-    ensures { OnOk result (to.new.items ≡ to.old.items ++ map (λ (p : Value × Cell). p.1) (filter (λ (p : Value × Cell). meets criterion.now p.0) (zip tested.now cells.now))) }
+    ensures { OnOk result (to.new.items ≡ to.old.items ++ met criterion.now tested.now cells.now) }
 {
     for (place, value) in tested.iter().enumerate() {
         if meets(value, criterion) {

@@ -1,45 +1,61 @@
-// What VLOOKUP and HLOOKUP look at.
-ghost use Rattle.std.specs.Prelude.{◌≡◌, ◌<◌, ◌++◌, ◌∷◌, IfOk, IfSome, OnOk, if◌then◌else◌, length, option_map};
-ghost use Rattle.std.specs.Result.{result_map_both};
-ghost use Rattle.evaluation.specs.FoundRows.{IsKeysOf, found_row, kind_where};
-ghost use Rattle.recalculation.specs.Looking.{all_looks, by_values, column_cells, exchanged, lookup_looks, outcomes, table_looks, then_cells};
-ghost use Rattle.sheet_funcs.specs.Arguments.{grid_of, no_error, value_of};
-ghost use Rattle.sheet_funcs.specs.Lookups.{is_sorted, kind_of};
-ghost use Rattle.sheet_funcs.specs.Rounding.{number_of};
-ghost use Rattle.sheet_model.specs.declared.grid.Arg.TheVariants.{Area};
+// What VLOOKUP and HLOOKUP look at, and their values.
+ghost use Rattle.std.specs.Prelude.{◌≡◌, ◌<◌, ◌++◌, ◌∷◌, IfOk, None, OnOk, if◌then◌else◌, length};
+ghost use Rattle.std.specs.Option.{option_and_then};
+ghost use Rattle.evaluation.specs.Composed.{lookup_outcome, narrow_called, picked_outcome, record_outcome};
+ghost use Rattle.formula_ast.specs.Functions.{Takes};
+ghost use Rattle.formula_ast.specs.declared.func.Func.TheVariants as func;
+ghost use Rattle.recalculation.specs.Looking.{by_value};
+ghost use Rattle.recalculation.specs.Looks.{all_looks, column_cells, exchanged, lookup_looks, outcomes, picked_cells, record_looks, then_cells};
+ghost use Rattle.sheet_funcs.specs.Lookups.{record_pick};
+ghost use Rattle.sheet_funcs.specs.Within.{IsWithin};
 
+use crate::calls::{narrow_called, whole_part};
 use crate::cells::Cells;
-use crate::looks::arguments::{all_looks, copied, outcomes, push_all, push_looks};
-use crate::looks::picks::cell_at;
+use crate::looks::arguments::{copied, outcomes, push_all, push_looks};
+use crate::looks::picks::{cell_at, picked_part};
 use crate::part::Part;
 use crate::reference::Reference;
 use crate::values::values_of;
 use cell_refs::{Cell, ErrorKind};
-use frac128::Frac;
-use sheet_funcs::{Pick, logical_of, lookup_at, place_of};
-use sheet_model::{Arg, Grid, Memory, Value};
+use formula_ast::Func;
+use sheet_funcs::{Pick, record_at};
+use sheet_model::{Arg, Memory, Value};
 use std::alloc::Global;
 
-/// What a lookup looks at, with rows and columns exchanged for HLOOKUP: of a reference the keys and the other arguments, and then
-/// the cell that is found.
-pub(crate) fn table_looks<C: Cells>(
+/// A call of VLOOKUP, or of HLOOKUP, with rows and columns exchanged: of a reference it looks at its other arguments and the keys,
+/// and then at the cell that is found.
+pub(crate) fn lookup_part<C: Cells>(
     alloc: Global,
     cells: &C,
     args: &[Part],
     across: bool,
-) -> Result<Vec<Cell>, Memory>
-    ensures { IfOk result (λ looks. looks.items ≡ table_looks (C.known cells.now) (if across then exchanged else (λ g. g)) args.now) }
+) -> Result<Part, Memory>
+    requires { Takes (if across then func.HLookup else func.VLookup) (length args.now) }
+    ensures { IfOk result (λ part. part ≡ record { looks = lookup_looks by_value (C.known cells.now) (if across then exchanged else (λ g. g)) args.now; outcome = lookup_outcome (C.known cells.now) (if across then func.HLookup else func.VLookup) (if across then exchanged else (λ g. g)) args.now; reference = None }) }
 {
     let [key, table, rest @ ..] = args else {
-        return all_looks(alloc, args);
+        return whole_part(alloc, lookup(across), args);
     };
     let Some(grid) = &table.reference else {
-        return looks_of_all(alloc, table, key, rest);
+        let looks = looks_of_all(alloc, table, key, rest)?;
+        let outcome = narrow_called(alloc, lookup(across), outcomes(alloc, args)?)?;
+        return Ok(Part {
+            looks,
+            outcome,
+            reference: None,
+        });
     };
     if across {
-        return lookup_looks(alloc, cells, &exchanged(alloc, grid)?, key, rest);
+        return record_part(alloc, cells, &exchanged(alloc, grid)?, key, rest);
     }
-    lookup_looks(alloc, cells, grid, key, rest)
+    record_part(alloc, cells, grid, key, rest)
+}
+
+// The function.
+fn lookup(across: bool) -> Func
+    ensures { result ≡ (if across then func.HLookup else func.VLookup) }
+{
+    if across { Func::HLookup } else { Func::VLookup }
 }
 
 // All that a table, a key and further arguments look at, in this order.
@@ -52,26 +68,59 @@ fn looks_of_all(alloc: Global, table: &Part, key: &Part, rest: &[Part]) -> Resul
     Ok(looks)
 }
 
-// What a lookup of a key in the rows of a reference looks at.
-fn lookup_looks<C: Cells>(
+// A lookup of a key in the rows of a reference.
+fn record_part<C: Cells>(
     alloc: Global,
     cells: &C,
     grid: &Reference,
     key: &Part,
     rest: &[Part],
-) -> Result<Vec<Cell>, Memory>
-    ensures { IfOk result (λ looks. looks.items ≡ lookup_looks (C.known cells.now) grid.now (key.now ∷ rest.now)) }
+) -> Result<Part, Memory>
+    ensures { IfOk result (λ part. part ≡ record { looks = record_looks by_value (C.known cells.now) grid.now (key.now ∷ rest.now); outcome = record_outcome (C.known cells.now) grid.now (key.now ∷ rest.now); reference = None }) }
 {
     let mut looks = copied(alloc, &key.looks)?;
     push_looks(rest, &mut looks)?;
     let keys = first_column(alloc, grid)?;
     push_all(&keys, &mut looks)?;
     let Some(values) = values_of(alloc, cells, &keys)? else {
-        return Ok(looks);
+        return Ok(Part::without(looks));
     };
-    let keys = as_column(grid.rows, values);
-    push_found(alloc, grid, &keys, key, rest, &mut looks)?;
-    Ok(looks)
+    found_part(alloc, cells, grid, looks, &values, key, rest)
+}
+
+// The same of the values of the keys.
+fn found_part<C: Cells>(
+    alloc: Global,
+    cells: &C,
+    grid: &Reference,
+    looks: Vec<Cell>,
+    keys: &[Value],
+    key: &Part,
+    rest: &[Part],
+) -> Result<Part, Memory>
+    requires { length keys.now ≡ grid.now.rows }
+    ensures { IfOk result (λ part. part ≡ record { looks = looks.items ++ then_cells (outcomes (key.now ∷ rest.now)) (λ args. picked_cells grid.now (record_pick grid.now.columns keys.now args)); outcome = option_and_then (λ args. picked_outcome (C.known cells.now) grid.now (record_pick grid.now.columns keys.now args)) (outcomes (key.now ∷ rest.now)); reference = None }) }
+{
+    let Some(key) = &key.outcome else {
+        return Ok(Part::without(looks));
+    };
+    let Some(others) = outcomes(alloc, rest)? else {
+        return Ok(Part::without(looks));
+    };
+    picked_part(alloc, cells, grid, looks, found(grid, keys, key, &others))
+}
+
+// What is found by a key and further arguments.
+fn found(grid: &Reference, keys: &[Value], key: &Arg, others: &[Arg]) -> Pick
+    requires { length keys.now ≡ grid.now.rows }
+    ensures pick { result ≡ record_pick grid.now.columns keys.now (key.now ∷ others.now) }
+    ensures within { IsWithin grid.now.rows grid.now.columns result }
+{
+    prove!(grid.rows <= u32::MAX);
+    let [place, rest @ ..] = others else {
+        return Pick::Fault(ErrorKind::Value);
+    };
+    record_at(keys, grid.cols, key, place, rest)
 }
 
 // The cells of the first column.
@@ -117,97 +166,4 @@ fn exchanged_cells(alloc: Global, grid: &Reference) -> Result<Vec<Cell>, Memory>
         push_column(grid, column, &mut cells)?;
     }
     Ok(cells)
-}
-
-// Values as a grid of one column.
-fn as_column(rows: u32, values: Vec<Value>) -> Arg
-    requires some { 0 < rows }
-    requires count { length values.items ≡ rows }
-    ensures { result ≡ Area (record { rows = rows; columns = 1; items = values.items }) }
-{
-    let Some(grid) = Grid::new(rows, 1, values) else {
-        unreachable!();
-    };
-    Arg::Area(grid)
-}
-
-// Puts behind other cells the one that is found, where the key and the further arguments have values.
-fn push_found(
-    alloc: Global,
-    grid: &Reference,
-    keys: &Arg,
-    key: &Part,
-    rest: &[Part],
-    to: &mut Vec<Cell>,
-) -> Result<(), Memory>
-    requires { IsKeysOf grid.now (grid_of keys.now) }
-    ensures { OnOk result (to.new.items ≡ to.old.items ++ then_cells (outcomes (key.now ∷ rest.now)) (by_values grid.now (grid_of keys.now).items)) }
-{
-    let Some(key) = &key.outcome else {
-        return Ok(());
-    };
-    let Some(others) = outcomes(alloc, rest)? else {
-        return Ok(());
-    };
-    push_by_values(grid, keys, key, &others, to)
-}
-
-// The same of the values of these arguments.
-fn push_by_values(
-    grid: &Reference,
-    keys: &Arg,
-    key: &Arg,
-    others: &[Arg],
-    to: &mut Vec<Cell>,
-) -> Result<(), Memory>
-    requires { IsKeysOf grid.now (grid_of keys.now) }
-    ensures { OnOk result (to.new.items ≡ to.old.items ++ by_values grid.now (grid_of keys.now).items (key.now ∷ others.now)) }
-{
-    let [column, rest @ ..] = others else {
-        return Ok(());
-    };
-    let (Ok(column), Ok(sorted)) = (place_of(column), is_sorted(rest)) else {
-        return Ok(());
-    };
-    if column < 1 || column > grid.cols as i128 {
-        return Ok(());
-    }
-    let Some(row) = found_row(key, keys, sorted) else {
-        return Ok(());
-    };
-    to.push(cell_at(grid, row, (column - 1) as u32))?;
-    Ok(())
-}
-
-// Whether the keys are taken as sorted, which they are where nothing is said.
-fn is_sorted(rest: &[Arg]) -> Result<bool, ErrorKind>
-    ensures { result ≡ is_sorted rest.now }
-{
-    match rest {
-        [] => Ok(true),
-        [sorted, ..] => logical_of(sorted),
-    }
-}
-
-// The row whose key is found in a column.
-fn found_row(key: &Arg, keys: &Arg, sorted: bool) -> Option<u32>
-    requires { (grid_of keys.now).columns ≡ 1 }
-    ensures place { result ≡ found_row (no_error (value_of key.now)) sorted (grid_of keys.now).items }
-    ensures within { IfSome result (λ row. row < (grid_of keys.now).rows) }
-{
-    match lookup_at(key, keys, &kind(sorted)) {
-        Pick::Part(top, left, _, _) => Some(top + left),
-        Pick::Fault(_) => None,
-    }
-}
-
-// The number that asks for rising keys, or for an equal one.
-fn kind(sorted: bool) -> Arg
-    ensures { result_map_both kind_of (λ k. k) (number_of result) ≡ Ok (kind_where sorted) }
-{
-    if sorted {
-        Arg::One(Value::Number(Frac::one()))
-    } else {
-        Arg::One(Value::Number(Frac::zero()))
-    }
 }

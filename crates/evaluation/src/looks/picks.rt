@@ -1,55 +1,116 @@
-// What INDEX looks at.
-ghost use Rattle.std.specs.Prelude.{[], ◌∷◌, ◌≡◌, ◌<◌, ◌≤◌, ◌++◌, IfOk, OnOk, flat_map};
-ghost use Rattle.recalculation.specs.Looking.{cell_in, index_args, outcomes, picked_cells, then_cells};
+// What INDEX looks at, and its value.
+ghost use Rattle.std.specs.Prelude.{[], ◌∷◌, ◌≡◌, ◌<◌, ◌≤◌, ◌++◌, IfOk, None, OnOk, flat_map, length};
+ghost use Rattle.evaluation.specs.Composed.{index_outcome, picked_outcome};
+ghost use Rattle.formula_ast.specs.Functions.{Takes};
+ghost use Rattle.formula_ast.specs.declared.func.Func.TheVariants as func;
+ghost use Rattle.recalculation.specs.Looking.{by_value};
+ghost use Rattle.recalculation.specs.Looks.{cell_in, index_looks, picked_cells};
 ghost use Rattle.sheet_funcs.specs.Picks.{from_to, pick_of};
 ghost use Rattle.sheet_funcs.specs.Within.{IsWithin};
+ghost use Rattle.sheet_funcs.specs.declared.pick.Pick.TheVariants.{Part as Picked};
 
-use crate::looks::arguments::{all_looks, outcomes};
+use crate::calls::whole_part;
+use crate::cells::Cells;
+use crate::looks::arguments::{all_looks, outcomes, push_all};
 use crate::part::Part;
 use crate::reference::Reference;
-use cell_refs::Cell;
+use crate::values::{single_grid, values_of};
+use cell_refs::{Cell, ErrorKind};
+use formula_ast::Func;
 use sheet_funcs::{Pick, index_at};
-use sheet_model::{Arg, Memory};
+use sheet_model::{Arg, Memory, Value};
 use std::alloc::Global;
 
-/// What INDEX looks at: of a reference its places, and then the cells that they pick.
-pub(crate) fn index_looks(alloc: Global, args: &[Part]) -> Result<Vec<Cell>, Memory>
-    ensures { IfOk result (λ looks. looks.items ≡ index_args args.now) }
+/// A call of INDEX: of a reference it looks at its places, and then at the cells that they pick.
+pub(crate) fn index_part<C: Cells>(alloc: Global, cells: &C, args: &[Part]) -> Result<Part, Memory>
+    requires { Takes func.Index (length args.now) }
+    ensures { IfOk result (λ part. part ≡ record { looks = index_looks by_value args.now; outcome = index_outcome (C.known cells.now) args.now; reference = None }) }
 {
     let [source, places @ ..] = args else {
-        return Ok(Vec::new(alloc));
+        return whole_part(alloc, Func::Index, args);
     };
     let Some(grid) = &source.reference else {
-        return all_looks(alloc, args);
+        return whole_part(alloc, Func::Index, args);
     };
-    let mut looks = all_looks(alloc, places)?;
-    push_at_places(alloc, grid, places, &mut looks)?;
-    Ok(looks)
-}
-
-// Puts behind other cells those at some places, where all places have a value.
-fn push_at_places(
-    alloc: Global,
-    grid: &Reference,
-    places: &[Part],
-    to: &mut Vec<Cell>,
-) -> Result<(), Memory>
-    ensures { OnOk result (to.new.items ≡ to.old.items ++ then_cells (outcomes places.now) (λ at. picked_cells grid.now (pick_of grid.now.rows grid.now.columns at))) }
-{
+    let looks = all_looks(alloc, places)?;
     let Some(at) = outcomes(alloc, places)? else {
-        return Ok(());
+        return Ok(Part::without(looks));
     };
-    push_at(grid, &at, to)
+    picked_part(alloc, cells, grid, looks, pick_at(grid, &at))
 }
 
-// The same of the values of the places; other than one or two pick nothing.
-fn push_at(grid: &Reference, at: &[Arg], to: &mut Vec<Cell>) -> Result<(), Memory>
-    ensures { OnOk result (to.new.items ≡ to.old.items ++ picked_cells grid.now (pick_of grid.now.rows grid.now.columns at.now)) }
+// What these places pick; other than one or two pick nothing.
+fn pick_at(grid: &Reference, at: &[Arg]) -> Pick
+    ensures pick { result ≡ pick_of grid.now.rows grid.now.columns at.now }
+    ensures within { IsWithin grid.now.rows grid.now.columns result }
 {
     if at.len() != 1 && at.len() != 2 {
-        return Ok(());
+        return Pick::Fault(ErrorKind::Value);
     }
-    push_picked(grid, index_at(grid.rows, grid.cols, at), to)
+    index_at(grid.rows, grid.cols, at)
+}
+
+/// A call that looks at some cells and then at those that it picks.
+pub(crate) fn picked_part<C: Cells>(
+    alloc: Global,
+    cells: &C,
+    grid: &Reference,
+    looks: Vec<Cell>,
+    pick: Pick,
+) -> Result<Part, Memory>
+    requires { IsWithin grid.now.rows grid.now.columns pick }
+    ensures { IfOk result (λ part. part ≡ record { looks = looks.items ++ picked_cells grid.now pick; outcome = picked_outcome (C.known cells.now) grid.now pick; reference = None }) }
+{
+    let mut looks = looks;
+    let mut picked = Vec::new(alloc);
+    push_picked(grid, pick, &mut picked)?;
+    let outcome = picked_outcome(alloc, cells, grid, pick, &picked)?;
+    push_all(&picked, &mut looks)?;
+    Ok(Part {
+        looks,
+        outcome,
+        reference: None,
+    })
+}
+
+// The value of what is picked.
+fn picked_outcome<C: Cells>(
+    alloc: Global,
+    cells: &C,
+    grid: &Reference,
+    pick: Pick,
+    picked: &[Cell],
+) -> Result<Option<Arg>, Memory>
+    requires within { IsWithin grid.now.rows grid.now.columns pick }
+    requires cells { picked.now ≡ picked_cells grid.now pick }
+    ensures { IfOk result (λ outcome. outcome ≡ picked_outcome (C.known cells.now) grid.now pick) }
+{
+    match pick {
+        Pick::Part(top, left, bottom, right) => {
+            part_outcome(alloc, cells, grid, top, left, bottom, right, picked)
+        }
+        Pick::Fault(kind) => Ok(Some(Arg::One(Value::Error(kind)))),
+    }
+}
+
+// The value of a part of a reference.
+fn part_outcome<C: Cells>(
+    alloc: Global,
+    cells: &C,
+    grid: &Reference,
+    top: u32,
+    left: u32,
+    bottom: u32,
+    right: u32,
+    picked: &[Cell],
+) -> Result<Option<Arg>, Memory>
+    requires within { IsWithin grid.now.rows grid.now.columns (Picked top left bottom right) }
+    requires cells { picked.now ≡ picked_cells grid.now (Picked top left bottom right) }
+    ensures { IfOk result (λ outcome. outcome ≡ picked_outcome (C.known cells.now) grid.now (Picked top left bottom right)) }
+{
+    prove!(bottom < grid.rows && right < grid.cols);
+    let values = values_of(alloc, cells, picked)?;
+    Ok(single_grid(bottom + 1 - top, right + 1 - left, values))
 }
 
 // Puts behind other cells those of a part of a reference.

@@ -1,5 +1,5 @@
 -- Each part of an expression, and the arguments one by one.
-use Rattle.std.proofs.Common.{arith, ap, sym, subst, ◌∙◌, ◌≡◌, IfOk, length}
+use Rattle.std.proofs.Common.{arith, ap, sym, subst, ◌∙◌, ◌≡◌, IfOk, None, Some, length}
 use Rattle.formula_ast.proofs.Parts.{node_count-le, listed-map}
 use Rattle.formula_ast.specs.Functions.{Takes}
 use Rattle.formula_ast.specs.Sound.{IsSound}
@@ -10,23 +10,31 @@ use Rattle.recalculation.specs.Looking.{arguments}
 use Rattle.sheet_model.specs.Operators.{minus_of, percent_of}
 use Rattle.evaluation.specs.Composed.{call_part, joined, referred, turned}
 use Rattle.evaluation.specs.Parts.{part_of}
-use Rattle.evaluation.proofs.Composing.{minus_part, percent_part, infix_part, call_part_is}
-use Rattle.evaluation.proofs.Nodes.{in_order, arguments_go, arguments-count, of_node}
+use Rattle.evaluation.proofs.Composing.{minus_part, percent_part, infix_part}
+use Rattle.evaluation.proofs.Picking.{call_part_is}
+use Rattle.evaluation.specs.Tables.{read_at, table_place, unread, unread_at}
+use Rattle.evaluation.proofs.Nodes.{unread_go, arguments-count, of_node}
+use Rattle.evaluation.proofs.Unread.{call_unread, unread_length}
 use Rattle.evaluation.proofs.formula.+evaluating.Goals as goal
 
-pub arguments-evaluate-requires : goal.arguments-evaluate-requires
-arguments-evaluate-requires g t c κs within =
-    (omega (arith, node_count-le c.args.exprs.now c.loop-expr.expr-index c.expr-item.result c.loop-expr-test.true c.expr-item.is), within)
+pub arguments-argument-requires : goal.arguments-argument-requires
+arguments-argument-requires g t c κs within =
+    (omega (arith, node_count-le c.args.exprs.now c.loop-index.index c.index-exprs-index.result c.loop-index-test.true c.index-exprs-index.is), within)
 
-pub arguments-loop-expr-preserved : goal.arguments-loop-expr-preserved
-arguments-loop-expr-preserved g t c =
-    arguments_go (g.C.Cells.known c.args.cells.now) c.args.exprs.now c.loop-expr.expr-index c.expr-item.result c.loop-expr.parts.items _ _ c.loop-expr-test.true c.expr-item.is c.loop-expr.invariant c.in_ok-evaluate.ensures
-    c.in_ok-push.ensures.items
+pub arguments-loop-index-preserved : goal.arguments-loop-index-preserved
+arguments-loop-index-preserved g t c =
+    let known = g.C.Cells.known c.args.cells.now in
+    unread_go known (table_place c.args.function) c.args.exprs.now c.loop-index.index c.index-exprs-index.result c.loop-index.parts.items _ _ c.loop-index-test.true c.index-exprs-index.is c.loop-index.invariant
+    (c.in_ok-argument.ensures ∙ ap (λ b. read_at b (part_of known c.index-exprs-index.result)) c.is_table.ensures) c.in_ok-push.ensures.items
 
-pub evaluate-reference_part-requires-clause-order : goal.evaluate-reference_part-requires-clause-order
-evaluate-reference_part-requires-clause-order g t c =
-    rw c.deref-in-Reference.ensures.value
-    (in_order c.in-Reference.areas.items (subst (λ n. IsSound (tree_of c.expr.inside.span n)) c.in-Reference.is c.expr.invariant).2)
+pub argument-returns-in-Reference : goal.argument-returns-in-Reference
+argument-returns-in-Reference g t c =
+    let known = g.C.Cells.known c.args.cells.now in
+    subst (λ part. IfOk c.table_part.result (λ p. p ≡ part))
+    (ap (λ areas. record { looks = (grid_of_areas areas).cells; outcome = None; reference = Some (grid_of_areas areas) }) (c.deref.ensures.value ∙ sym (listed-map c.in-Reference.areas.items))
+    ∙ sym (ap unread (of_node known c.args.expr.now c.expr.inside.span c.expr.inside.node _ c.expr.view_is c.in-Reference.is))
+    ∙ ap (λ b. read_at b (part_of known c.args.expr.now)) (sym c.if-is_table.true))
+    c.table_part.ensures
 
 pub evaluate-returns-in-Reference : goal.evaluate-returns-in-Reference
 evaluate-returns-in-Reference g t c =
@@ -42,7 +50,8 @@ evaluate-call_part-requires g t c =
     let known = g.C.Cells.known c.args.cells.now in
     let sound = subst (λ n. IsSound (tree_of c.expr.inside.span n)) c.in-Call.is c.expr.invariant in
     subst (λ n. Takes c.in-Call.function n)
-    (sym (ap length (c.deref-in-Call-2.ensures.value ∙ c.in_ok-args-in-Call.ensures ∙ ap (λ xs. arguments known (trees xs)) c.deref-in-Call.ensures.value)
+    (sym (ap length (c.in_ok-args-in-Call.ensures ∙ ap (λ xs. unread_at (table_place c.in-Call.function) (arguments known (trees xs))) c.deref-in-Call.ensures.value)
+    ∙ unread_length (table_place c.in-Call.function) (arguments known (trees c.in-Call.args.items))
     ∙ arguments-count known (trees c.in-Call.args.items)))
     sound.1
 
@@ -51,8 +60,10 @@ evaluate-returns-in_ok-args-in-Call g t c =
     let known = g.C.Cells.known c.args.cells.now in
     let sound = subst (λ n. IsSound (tree_of c.expr.inside.span n)) c.in-Call.is c.expr.invariant in
     subst (λ part. IfOk c.call_part.result (λ p. p ≡ part))
-    (ap (call_part known c.in-Call.function) (c.deref-in-Call-2.ensures.value ∙ c.in_ok-args-in-Call.ensures ∙ ap (λ xs. arguments known (trees xs)) c.deref-in-Call.ensures.value)
-    ∙ sym (call_part_is known c.expr.inside.span c.in-Call.function (trees c.in-Call.args.items) sound.1)
+    (ap (call_part known c.in-Call.function) (c.in_ok-args-in-Call.ensures ∙ ap (λ xs. unread_at (table_place c.in-Call.function) (arguments known (trees xs))) c.deref-in-Call.ensures.value)
+    ∙ call_unread known c.in-Call.function (arguments known (trees c.in-Call.args.items))
+    (subst (Takes c.in-Call.function) (sym (arguments-count known (trees c.in-Call.args.items))) sound.1)
+    ∙ sym (call_part_is known c.expr.inside.span c.in-Call.function (trees c.in-Call.args.items))
     ∙ sym (of_node known c.args.expr.now c.expr.inside.span c.expr.inside.node _ c.expr.view_is c.in-Call.is))
     c.call_part.ensures
 

@@ -1,6 +1,6 @@
 use Rattle.std.proofs.Common.{◌≡◌, drop, length}
 use Rattle.calculations.proofs.CalculationLaws.{behind_answers}
-use Rattle.recalculation.specs.Looking.{outcomes}
+use Rattle.recalculation.specs.Looks.{outcomes}
 use Rattle.evaluation.proofs.looks.arguments.outcomes.Given as goal
 
 -- the values so far, and then those of the rest

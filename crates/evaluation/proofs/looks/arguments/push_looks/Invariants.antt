@@ -1,5 +1,5 @@
 use Rattle.std.proofs.Common.{◌≡◌, ◌++◌, take}
-use Rattle.recalculation.specs.Looking.{all_looks}
+use Rattle.recalculation.specs.Looks.{all_looks}
 use Rattle.evaluation.proofs.looks.arguments.push_looks.Given as goal
 
 -- what the arguments so far look at, behind what was there

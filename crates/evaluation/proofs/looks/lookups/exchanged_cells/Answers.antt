@@ -1,7 +1,7 @@
 use Rattle.std.proofs.Common.{◌≡◌, ◌∙◌, ap, sym, refl, [], arith, flat_map}
 use Rattle.sheet_funcs.specs.Arguments.{below}
 use Rattle.recalculation.specs.Evaluation.{CellGrid}
-use Rattle.recalculation.specs.Looking.{column_cells}
+use Rattle.recalculation.specs.Looks.{column_cells}
 use Rattle.evaluation.proofs.LookRows.{below_more, exchanged_columns}
 use Rattle.evaluation.proofs.looks.lookups.exchanged_cells.Goals as goal
 

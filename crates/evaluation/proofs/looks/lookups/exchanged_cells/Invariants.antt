@@ -1,6 +1,6 @@
 use Rattle.std.proofs.Common.{◌≡◌, flat_map}
 use Rattle.sheet_funcs.specs.Arguments.{below}
-use Rattle.recalculation.specs.Looking.{column_cells}
+use Rattle.recalculation.specs.Looks.{column_cells}
 use Rattle.evaluation.proofs.looks.lookups.exchanged_cells.Given as goal
 
 -- the columns so far

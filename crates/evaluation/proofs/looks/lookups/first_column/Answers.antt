@@ -1,6 +1,6 @@
 use Rattle.std.proofs.Common.{◌<◌, ◌++◌, ◌∙◌, ap, length, subst}
 use Rattle.recalculation.specs.Evaluation.{CellGrid}
-use Rattle.recalculation.specs.Looking.{column_cells}
+use Rattle.recalculation.specs.Looks.{column_cells}
 use Rattle.evaluation.specs.Parts.{IsFullGrid}
 use Rattle.evaluation.proofs.LookRows.{count_keys}
 use Rattle.evaluation.proofs.looks.lookups.first_column.Goals as goal

@@ -1,5 +1,5 @@
 use Rattle.std.proofs.Common.{sym}
-use Rattle.recalculation.specs.Looking.{cell_in}
+use Rattle.recalculation.specs.Looks.{cell_in}
 use Rattle.evaluation.proofs.LookRows.{below_more}
 use Rattle.evaluation.proofs.looks.lookups.push_column.Goals as goal
 

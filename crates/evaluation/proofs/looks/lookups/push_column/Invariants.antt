@@ -1,6 +1,6 @@
 use Rattle.std.proofs.Common.{◌≡◌, ◌++◌, flat_map}
 use Rattle.sheet_funcs.specs.Arguments.{below}
-use Rattle.recalculation.specs.Looking.{cell_in}
+use Rattle.recalculation.specs.Looks.{cell_in}
 use Rattle.evaluation.proofs.looks.lookups.push_column.Given as goal
 
 -- the cells of the rows so far

@@ -1,6 +1,6 @@
 use Rattle.std.proofs.Common.{refl, arith, flat_map}
 use Rattle.sheet_funcs.specs.Picks.{from_to}
-use Rattle.recalculation.specs.Looking.{cell_in}
+use Rattle.recalculation.specs.Looks.{cell_in}
 use Rattle.evaluation.proofs.LookRows.{range_part_more}
 use Rattle.evaluation.proofs.looks.picks.push_picked.Goals as goal
 

@@ -1,5 +1,5 @@
 use Rattle.std.proofs.Common.{sym, arith}
-use Rattle.recalculation.specs.Looking.{cell_in}
+use Rattle.recalculation.specs.Looks.{cell_in}
 use Rattle.evaluation.proofs.LookRows.{range_part_more}
 use Rattle.evaluation.proofs.looks.picks.push_row.Goals as goal
 

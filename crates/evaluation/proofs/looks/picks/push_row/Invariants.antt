@@ -1,6 +1,6 @@
 use Rattle.std.proofs.Common.{◌≡◌, ◌-◌, ◌++◌, flat_map}
 use Rattle.std.specs.List.{range_with_len}
-use Rattle.recalculation.specs.Looking.{cell_in}
+use Rattle.recalculation.specs.Looks.{cell_in}
 use Rattle.evaluation.proofs.looks.picks.push_row.Given as goal
 
 -- the cells of the columns so far
