@@ -7,7 +7,7 @@ use Rattle.std.proofs.lemmas.List.Elements.{All-pop}
 use Rattle.cell_refs.specs.declared.cell.Cell.{Cell}
 use Rattle.cell_refs.specs.Cells.{cell_cmp}
 use Rattle.recalculation.specs.Entries.{Contents}
-use Rattle.workbook.specs.declared.limits.TheConstants.{FORMULAS, TEXTS}
+use Rattle.cell_refs.specs.declared.limits.TheConstants.{FORMULAS, TEXTS}
 use Rattle.workbook.specs.Contents.{content_of}
 use Rattle.workbook.specs.Gathered.{IsFieldText}
 use Rattle.workbook.specs.Held.{put_all}

@@ -6,7 +6,7 @@ use Rattle.std.proofs.lemmas.Bool.{eqb-true}
 use Rattle.std.proofs.lemmas.Option.{get_or_from_slice_get, slice_get_within}
 use Rattle.cell_refs.specs.declared.cell.Cell.{Cell}
 use Rattle.sheet_csv.specs.Sheet.{Record}
-use Rattle.workbook.specs.declared.limits.TheConstants.{TEXTS}
+use Rattle.cell_refs.specs.declared.limits.TheConstants.{TEXTS}
 use Rattle.workbook.specs.declared.gather.Stop.{Stop}
 use Rattle.workbook.specs.declared.gather.Stop.TheVariants as stop
 use Rattle.workbook.specs.Files.{texts_in_record, texts_in_records}

@@ -15,7 +15,7 @@ use Rattle.cell_refs.specs.Cells.{cell_cmp}
 use Rattle.cell_refs.proofs.Order.{cells_total, exact_cells, get_cell, one_given}
 use Rattle.recalculation.specs.Entries.{Contents, Entry}
 use Rattle.workbook.specs.declared.held.Held.{Held}
-use Rattle.workbook.specs.declared.limits.TheConstants.{FORMULAS, TEXTS}
+use Rattle.cell_refs.specs.declared.limits.TheConstants.{FORMULAS, TEXTS}
 use Rattle.workbook.specs.Contents.{content_of}
 use Rattle.workbook.specs.Held.{IsHeld, IsKept, contents_of, entry_of, held_at, text_entry}
 use Rattle.workbook.specs.Room.{HasRoom}

@@ -3,7 +3,6 @@ pub mod Texts
 pub mod Counting
 pub mod NameLaws
 pub mod Gathering
-pub mod InOrder
 pub mod Keeping
 pub mod Filling
 pub mod Listing

@@ -13,7 +13,7 @@ use Rattle.sheet_csv.specs.declared.fault.SheetFault.{SheetFault}
 use Rattle.sheet_csv.specs.declared.fault.SheetFault.TheVariants as sheet_fault
 use Rattle.std.specs.declared.result.Result.{Result}
 use Rattle.cell_refs.specs.declared.limits.TheConstants.{COLUMNS, ROWS}
-use Rattle.workbook.specs.declared.limits.TheConstants.{FIELD}
+use Rattle.cell_refs.specs.declared.limits.TheConstants.{TEXT_BYTES}
 use Rattle.workbook.specs.declared.fault.OpenFault.{OpenFault}
 use Rattle.workbook.specs.declared.fault.OpenFault.TheVariants as fault
 use Rattle.workbook.specs.Files.{SheetFile, bad_name_row, here_or_later, is_new, name_in, names_in, stems_of, with_name}
@@ -106,11 +106,11 @@ all_listed sheet files before h listed = sym (append-nil before) ∙ ap (λ l. b
 
 -- ---- files
 pub read_as : (file : SheetFile) (r : Result (List Record) SheetFault) (rows columns : ℕ) (bytes : List ℕ) → rows ≡ ROWS → columns ≡ COLUMNS → bytes ≡ file.bytes
-    → ReadsSheet (record { rows = rows; columns = columns; field = FIELD }) bytes r → ReadsSheet sheet_limits file.bytes r
+    → ReadsSheet (record { rows = rows; columns = columns; field = TEXT_BYTES }) bytes r → ReadsSheet sheet_limits file.bytes r
 read_as file r rows columns bytes e f g h =
     subst (λ b. ReadsSheet sheet_limits b r) g
-    (subst (λ n. ReadsSheet (record { rows = ROWS; columns = n; field = FIELD }) bytes r) f
-    (subst (λ n. ReadsSheet (record { rows = n; columns = columns; field = FIELD }) bytes r) e h))
+    (subst (λ n. ReadsSheet (record { rows = ROWS; columns = n; field = TEXT_BYTES }) bytes r) f
+    (subst (λ n. ReadsSheet (record { rows = n; columns = columns; field = TEXT_BYTES }) bytes r) e h))
 
 pub is_read : (file : SheetFile) (rows : List Record) → ReadsSheet sheet_limits file.bytes (Ok rows) → IsRead sheet_limits file.bytes × (rows ≡ sheet_records file.bytes)
 is_read file rows h = ((refl, h.1, h.2, h.3, h.4), h.0)

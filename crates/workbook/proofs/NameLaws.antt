@@ -1,6 +1,7 @@
 -- Names in a map by their keys, as a list.
-use Rattle.std.proofs.Common.{◌≡◌, ◌≤◌, ℕ, suc, Bool, true, false, cond, List, [], ◌∷◌, ◌++◌, map, length, All, Option, Some, None, refl, sym, ap, ◌∙◌, arith}
-use Rattle.std.specs.Prelude.{◌&&◌, ◌||◌, ◌==◌, nat_eq, option_map, is_some, unwrap_or}
+use Rattle.std.proofs.Common.{◌≡◌, ◌≤◌, ℕ, Bool, true, false, cond, List, [], ◌∷◌, ◌++◌, map, length, All, Option, Some, None, refl, sym, ap, ◌∙◌, arith}
+use denote.Ref.{Bor}
+use Rattle.std.specs.Prelude.{IfSome, ◌&&◌, ◌||◌, ◌==◌, nat_eq, option_map, is_some, unwrap_or}
 use Rattle.std.specs.Option.{option_eq}
 use Rattle.std.specs.Char.{to_ascii_lowercase}
 use Rattle.std.specs.List.{find, list_any}
@@ -88,6 +89,14 @@ short_found t (n ∷ ns) text all e = by_case (t n) refl (short_found t ns text 
         let same : text ≡ n.text = ap (λ o. unwrap_or o text) told in
         rw same (All-head IsShort n ns all)
     by_case false h later = later (e ∙ ap (λ b. text_in (cond b (Some n) (find t ns))) h)
+
+pub short_of : (ns : List Name) (sheet : Option ℕ) (name text : List ℕ) → All IsShort ns → Some text ≡ text_of ns sheet name → length text ≤ 8192
+short_of ns sheet name text all e = short_found (is_called sheet name) ns text all e
+
+pub short_there : (ns : List Name) (sheet : Option ℕ) (name : List ℕ) (text : Option (Bor (List ℕ))) → All IsShort ns
+    → option_map (λ (t : Bor (List ℕ)). t.now) text ≡ text_of ns sheet name → IfSome text (λ t. length t.now ≤ 8192)
+short_there ns sheet name None all e = tt
+short_there ns sheet name (Some text) all e = short_of ns sheet name text.now all e
 
 pub short_for : (ns : List Name) (home : ℕ) (name text : List ℕ) → All IsShort ns → Some text ≡ text_for ns home name → length text ≤ 8192
 short_for ns home name text all e = by_case (text_of ns (Some home) name) refl

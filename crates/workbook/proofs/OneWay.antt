@@ -11,7 +11,7 @@ use Rattle.sheet_csv.specs.declared.fault.SheetFault.{SheetFault}
 use Rattle.sheet_csv.specs.declared.fault.SheetFault.TheVariants as sheet_fault
 use Rattle.workbook.specs.declared.fault.OpenFault.{OpenFault}
 use Rattle.workbook.specs.declared.fault.OpenFault.TheVariants as fault
-use Rattle.workbook.specs.declared.limits.TheConstants.{FORMULAS, NAMES, TEXTS}
+use Rattle.cell_refs.specs.declared.limits.TheConstants.{FORMULAS, NAMES, TEXTS}
 use Rattle.workbook.specs.Determined.{OneOpening}
 use Rattle.workbook.specs.Files.{SheetFile, bad_name_row, state_in, stems_of, texts_in_files}
 use Rattle.workbook.specs.Opening.{ContentsFit, IsFirstFault, IsRead, NamesAreRead, Opens, first_twin, formulas_in, name_limits, sheet_limits}

@@ -12,7 +12,7 @@ use Rattle.sheet_csv.specs.declared.fault.SheetFault.TheVariants as sheet_fault
 use Rattle.recalculation.specs.Entries.{Contents}
 use Rattle.workbook.specs.declared.fault.OpenFault.{OpenFault}
 use Rattle.workbook.specs.declared.fault.OpenFault.TheVariants as fault
-use Rattle.workbook.specs.declared.limits.TheConstants.{FORMULAS, NAMES, TEXTS}
+use Rattle.cell_refs.specs.declared.limits.TheConstants.{FORMULAS, NAMES, TEXTS}
 use Rattle.workbook.specs.Files.{SheetFile, bad_name_row, is_name, name_in, name_on, names_in, sheet_in, state_in, stems_of, with_name, texts_in_files, texts_in_record, texts_in_records}
 use Rattle.workbook.specs.Gathered.{FitsSheet, IsFieldText, records_of, texts_in_sheets}
 use Rattle.workbook.specs.Opened.{GathersTexts, ListsSheets, ReadsFiles, ReadsNames, TextsFit}

@@ -2,7 +2,7 @@
 use Rattle.std.specs.Prelude.{◌≡◌, ◌≢◌, ◌<◌, ◌≤◌, ℕ, suc, List, [], ◌∷◌, ◌++◌, length, map, All, ⊤}
 use Rattle.cell_refs.specs.declared.cell.Cell.{Cell}
 use Rattle.sheet_csv.specs.Sheet.{Record, sheet_records}
-use Rattle.workbook.specs.declared.limits.TheConstants.{TEXTS}
+use Rattle.cell_refs.specs.declared.limits.TheConstants.{TEXTS}
 use Rattle.workbook.specs.declared.gather.Stop.{Stop}
 use Rattle.workbook.specs.declared.gather.Stop.TheVariants as stop
 use Rattle.workbook.specs.Files.{SheetFile, texts_in_records}

@@ -11,7 +11,7 @@ use Rattle.recalculation.specs.Entries.{Contents, Entry, Constant, Formula, Malf
 use Rattle.workbook.specs.declared.held.Held.{Held}
 use Rattle.workbook.specs.declared.held.Said.{Said}
 use Rattle.workbook.specs.declared.held.Said.TheVariants as said
-use Rattle.workbook.specs.declared.limits.TheConstants.{FORMULAS, TEXTS}
+use Rattle.cell_refs.specs.declared.limits.TheConstants.{FORMULAS, TEXTS}
 use Rattle.workbook.specs.Kinds.{says}
 use Rattle.workbook.specs.Listed.{IsListed}
 use Rattle.workbook.specs.Scoped.{IsShort}

@@ -6,7 +6,7 @@ use Rattle.fractions.specs.Rational.{ℚ}
 use Rattle.frac128.specs.Numeral.{Numeral}
 use Rattle.frac128.specs.NumeralReading.{reading}
 use Rattle.cell_refs.specs.declared.span.Span.{Span}
-use Rattle.cell_refs.specs.declared.cell.Area.{Area}
+use Rattle.cell_refs.specs.Areas.{Area}
 use Rattle.cell_refs.specs.declared.cell.Cell.{Cell}
 use Rattle.formula_ast.specs.Tree.{Tree, Trees, none, more, Listed}
 use Rattle.formula_ast.specs.Tree as tree

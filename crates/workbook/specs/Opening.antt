@@ -10,7 +10,7 @@ use Rattle.sheet_csv.specs.Reads.{ReadsSheet}
 use Rattle.sheet_csv.specs.declared.fault.CsvLimits.{CsvLimits}
 use Rattle.sheet_csv.specs.declared.fault.SheetFault.{SheetFault}
 use Rattle.sheet_csv.specs.declared.fault.SheetFault.TheVariants as sheet_fault
-use Rattle.workbook.specs.declared.limits.TheConstants.{FIELD, FORMULAS, NAMES, TEXTS}
+use Rattle.cell_refs.specs.declared.limits.TheConstants.{TEXT_BYTES, FORMULAS, NAMES, TEXTS}
 use Rattle.workbook.specs.declared.fault.OpenFault.{OpenFault}
 use Rattle.workbook.specs.declared.fault.OpenFault.TheVariants as fault
 use Rattle.workbook.specs.State.{State, is_formula_text}
@@ -18,10 +18,10 @@ use Rattle.workbook.specs.Files.{SheetFile, bad_name_row, here_or_later, state_i
 
 -- what is allowed of a sheet's file, and of the file of names, which may have any number of records and fields
 abbrev pub sheet_limits : CsvLimits
-sheet_limits = record { rows = ROWS; columns = COLUMNS; field = FIELD }
+sheet_limits = record { rows = ROWS; columns = COLUMNS; field = TEXT_BYTES }
 
 abbrev pub name_limits : CsvLimits
-name_limits = record { rows = 4294967295; columns = 4294967295; field = FIELD }
+name_limits = record { rows = 4294967295; columns = 4294967295; field = TEXT_BYTES }
 
 -- a file is read to its end
 abbrev pub IsRead : CsvLimits → List ℕ → Type 0

@@ -3,7 +3,7 @@ use Rattle.std.specs.Prelude.{◌≤◌, ℕ, List}
 use Rattle.std.specs.FinMap.{insert}
 use Rattle.cell_refs.specs.declared.cell.Cell.{Cell}
 use Rattle.recalculation.specs.Entries.{Contents}
-use Rattle.workbook.specs.declared.limits.TheConstants.{FORMULAS, TEXTS}
+use Rattle.cell_refs.specs.declared.limits.TheConstants.{FORMULAS, TEXTS}
 use Rattle.workbook.specs.State.{formula_count, text_count}
 
 -- with the text in the cell there are not too many

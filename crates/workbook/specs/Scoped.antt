@@ -1,6 +1,6 @@
 -- What stands for names in formulas, as it is held.
 use Rattle.std.specs.Prelude.{◌≡◌, ◌≤◌, ℕ, List, length, Option, Some, None}
-use Rattle.formula_ast.specs.Sound.{IsOnSheet}
+use Rattle.cell_refs.specs.Areas.{IsOnSheet}
 use Rattle.workbook.specs.Kinds.{Meant, Amount, Cells, first_of}
 use Rattle.workbook.specs.State.{Name, text_of}
 use Rattle.workbook.specs.declared.named.Meant.TheVariants as meant
@@ -10,7 +10,7 @@ abbrev pub meant_of : declared.Meant → Meant
 meant_of (meant.Amount x) = Amount x
 meant_of (meant.Cells area) = Cells area
 
--- an area that is meant has its corners in order on a sheet
+-- an area that is meant lies on a sheet
 abbrev pub IsMeantOnSheet : declared.Meant → Type 0
 IsMeantOnSheet (meant.Amount x) = Unit {0}
 IsMeantOnSheet (meant.Cells area) = IsOnSheet area

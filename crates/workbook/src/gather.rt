@@ -5,9 +5,8 @@ ghost use Rattle.workbook.specs.Files.{texts_in_record, texts_in_records};
 ghost use Rattle.workbook.specs.Gathered.{FitsSheet, IsStop, texts_in_sheets};
 ghost use Rattle.workbook.specs.Opening.{formulas_in};
 
-use crate::limits::TEXTS;
 use crate::words::is_formula;
-use cell_refs::{Cell, SheetId};
+use cell_refs::{Cell, SheetId, TEXTS};
 use memory::Memory;
 use sheet_csv::{Record, Rows};
 use sheet_model::Text;

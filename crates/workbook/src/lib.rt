@@ -1,22 +1,27 @@
 //! Workbooks: the texts of cells, the names, and what the texts say.
 #![tactic(auto)]
 
+mod adj;
+mod asked;
 mod fault;
 mod file;
 mod gather;
 mod held;
 mod kind;
-mod limits;
 mod named;
 mod names;
 mod naming;
 mod open;
+mod place;
 mod say;
 mod words;
 mod workbook;
 
+pub use adj::{Adj, DECISIONS};
 pub use fault::{EditFault, OpenFault};
 pub use file::File;
 pub use kind::Kind;
 pub use open::files_open_in_one_way;
+pub use place::Place;
+pub use words::behind_equals;
 pub use workbook::Workbook;

@@ -1,6 +1,7 @@
 // What names in formulas stand for.
 ghost use Rattle.std.specs.Prelude.{◌≡◌, ◌≤◌, ◌<◌, All, IfOk, IfSome, length, option_map};
-ghost use Rattle.formula_ast.specs.Sound.{IsForward, IsOnSheet};
+ghost use Rattle.cell_refs.specs.Areas.{IsOnSheet};
+ghost use Rattle.formula_ast.specs.Sound.{IsForward};
 ghost use Rattle.workbook.specs.Kinds.{Amount, Cells, meant, meant_by, put_at};
 ghost use Rattle.workbook.specs.Scoped.{IsMeantOnSheet, IsShort, meant_of, text_for};
 

@@ -8,11 +8,10 @@ ghost use Rattle.workbook.specs.Held.{put_all};
 ghost use Rattle.workbook.specs.Opened.{GathersTexts, ListsSheets, PutsNames, ReadsFiles, ReadsNames, TextsFit, name_fault_of, sheet_fault_of};
 
 use crate::gather::{Stop, count_formulas, texts_in};
-use crate::limits::{FIELD, FORMULAS, NAMES};
 use crate::names::{Name, Names};
 use crate::words::is_name;
 use crate::{File, OpenFault, Workbook};
-use cell_refs::{COLUMNS, Cell, NameFault, ROWS, SheetId, SheetNames};
+use cell_refs::{COLUMNS, Cell, FORMULAS, NAMES, NameFault, ROWS, SheetId, SheetNames, TEXT_BYTES};
 use memory::Memory;
 use sheet_csv::{CsvLimits, Record, Rows, SheetFault, read_sheet};
 use sheet_model::Text;
@@ -72,7 +71,7 @@ fn read_files(alloc: Global, files: &[File]) -> Result<Vec<Rows>, OpenFault>
     let limits = CsvLimits {
         rows: u32::from(ROWS),
         columns: u32::from(COLUMNS),
-        field: FIELD,
+        field: TEXT_BYTES,
     };
     let mut sheets = Vec::new(alloc);
     for (place, file) in files.iter().enumerate() {
@@ -146,7 +145,7 @@ fn names_of(alloc: Global, sheets: &SheetNames, bytes: &[u8]) -> Result<Names, O
     let limits = CsvLimits {
         rows: u32::MAX,
         columns: u32::MAX,
-        field: FIELD,
+        field: TEXT_BYTES,
     };
     let rows = match read_sheet(alloc, bytes, &limits) {
         Ok(rows) => rows,

@@ -12,6 +12,7 @@ use crate::named::Scope;
 use crate::naming::named;
 use crate::words::{is_formula, logical};
 use cell_refs::Cell;
+use formula_ast::Expr;
 use formula_parser::{ParseFault, parse};
 use frac128::{Frac, NumeralFault};
 use memory::Memory;
@@ -41,18 +42,29 @@ fn formula(alloc: Global, scope: &Scope, text: &str) -> Result<Said, Memory>
         ≡ option_map_or Formula (formula_tree scope.now.sheets.now scope.now.names.now scope.now.home.0 text.now) Malformed) }
     ensures sound { IfOk result IsSoundly }
 {
-    let expr = match parse(alloc, text, scope.home, scope.sheets) {
-        Ok(expr) => expr,
-        Err(ParseFault::Memory) => return Err(Memory),
-        Err(_) => return Ok(Said::Malformed),
-    };
-    match named(alloc, scope, &expr)? {
+    match tree(alloc, scope, text)? {
         Some(tree) => {
             tree.soundness();
             Ok(Said::Formula(tree))
         }
         None => Ok(Said::Malformed),
     }
+}
+
+/// The tree of a formula's text, with what names stand for in their places; none where the text isn't allowed.
+pub(crate) fn tree(alloc: Global, scope: &Scope, text: &str) -> Result<Option<Expr>, Memory>
+    requires listed { scope.now.home.0 < length scope.now.sheets.now }
+    requires short { All IsShort scope.now.names.now }
+    requires length { length text.now ≤ 8193 }
+    ensures { IfOk result (λ tree. tree
+        ≡ formula_tree scope.now.sheets.now scope.now.names.now scope.now.home.0 text.now) }
+{
+    let expr = match parse(alloc, text, scope.home, scope.sheets) {
+        Ok(expr) => expr,
+        Err(ParseFault::Memory) => return Err(Memory),
+        Err(_) => return Ok(None),
+    };
+    named(alloc, scope, &expr)
 }
 
 // What another text says.

@@ -23,7 +23,7 @@ pub(crate) fn is_formula(text: &str) -> bool
 }
 
 /// What stands behind an equals sign, where there is one.
-pub(crate) fn behind_equals(text: &str) -> &str
+pub fn behind_equals(text: &str) -> &str
     ensures { result.now ≡ behind_equals text.now }
 {
     match text.strip_prefix('=') {

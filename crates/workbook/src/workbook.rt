@@ -3,7 +3,6 @@ ghost use Rattle.std.specs.Prelude.{◌≡◌, ◌&&◌, ◌<◌, ◌≤◌, ◌
 ghost use Rattle.std.specs.FinMap as finmap;
 ghost use Rattle.workbook.specs.Contents.{IsLast, IsNext, content_of, kind_of, tree_of};
 ghost use Rattle.recalculation.specs.Entries.{entry};
-ghost use Rattle.recalculation.specs.Ordered.{HasAreasInOrder};
 ghost use Rattle.workbook.specs.Edits.{Sets, after_set, is_outside, set_fault};
 ghost use Rattle.workbook.specs.Held.{put_all, text_entry};
 ghost use Rattle.workbook.specs.Kinds.{book_of};
@@ -15,13 +14,12 @@ ghost use Rattle.workbook.specs.Room.{HasRoom};
 ghost use Rattle.workbook.specs.Scoped.{IsShort};
 
 use crate::held::{Held, put_in, put_over, take_away};
-use crate::limits::{FIELD, FORMULAS, TEXTS};
 use crate::named::Scope;
 use crate::names::Names;
 use crate::say::say;
 use crate::words::{is_formula, one};
 use crate::{EditFault, Kind};
-use cell_refs::{COLUMNS, Cell, ROWS, SheetId, SheetNames};
+use cell_refs::{COLUMNS, Cell, FORMULAS, ROWS, SheetId, SheetNames, TEXT_BYTES, TEXTS};
 use formula_ast::Expr;
 use memory::Memory;
 use sheet_model::Text;
@@ -69,7 +67,8 @@ impl Workbook {
         }
     }
 
-    /// Puts a text into a cell; an empty one takes away what the cell has. After a fault nothing has changed.
+    /// Puts a text into a cell; an empty one takes away what the cell has, for which no memory is wanted. After a fault nothing has
+    /// changed.
     pub fn set(&mut self, cell: Cell, text: &str) -> Result<(), EditFault>
         requires listed { cell.sheet.0 < length self.old.sheets }
         ensures { Sets self.old cell text.now result self.new }
@@ -198,19 +197,27 @@ impl Workbook {
         ensures text { IfOk result (λ held. held.text ≡ text) }
         ensures fits { IfOk result (λ held. IsExchange self.now (cell, held)) }
     {
-        let said = say(self.alloc, &self.scope(cell), cell, text.as_str())?;
+        let said = say(self.alloc, &self.scope(cell.sheet), cell, text.as_str())?;
         Ok(Held { text, said })
     }
 
-    // The sheets and the names by which a cell's text is read.
-    fn scope(&self, cell: Cell) -> Scope<'_>
-        ensures home { result.home ≡ cell.sheet }
+    // The names, whose texts are no longer than a field.
+    pub(crate) fn names(&self) -> &Names
+        ensures names { result.now ≡ self.now.names }
+        ensures short { All IsShort self.now.names }
+    {
+        &self.names
+    }
+
+    // The sheets and the names by which the texts on a sheet are read.
+    pub(crate) fn scope(&self, home: SheetId) -> Scope<'_>
+        ensures home { result.home ≡ home }
         ensures sheets { result.sheets.now ≡ self.now.sheets }
         ensures names { result.names.now ≡ self.now.names }
         ensures short { All IsShort self.now.names }
     {
         Scope {
-            home: cell.sheet,
+            home,
             sheets: &self.sheets,
             names: &self.names,
         }
@@ -308,13 +315,6 @@ impl Workbook {
         }
     }
 
-    /// Each area to which a formula refers has its top left corner first.
-    pub fn areas_are_in_order(&self)
-        ensures { HasAreasInOrder (book_of self.now) }
-    {
-        let _formulas = self.formulas;
-    }
-
     /// Each cell with a text lies on one of the sheets.
     pub fn texts_are_listed(&self)
         ensures { TextsAreListed self.now }
@@ -353,9 +353,9 @@ pub(crate) fn is_outside(cell: Cell) -> bool
 
 // Whether a text is longer than a field.
 fn is_long(text: &str) -> bool
-    ensures { result ≡ nat_lt FIELD (length text.now) }
+    ensures { result ≡ nat_lt TEXT_BYTES (length text.now) }
 {
-    text.len() > FIELD as usize
+    text.len() > TEXT_BYTES as usize
 }
 
 // Whether it is one more than there may be.

@@ -1,5 +1,5 @@
 use Rattle.std.proofs.Common.{◌≡◌, ◌≤◌, ◌++◌, drop, length}
-use Rattle.workbook.specs.declared.limits.TheConstants.{TEXTS}
+use Rattle.cell_refs.specs.declared.limits.TheConstants.{TEXTS}
 use Rattle.workbook.specs.Gathered.{texts_in_sheets}
 use Rattle.workbook.proofs.gather.texts_in.Given as goal
 

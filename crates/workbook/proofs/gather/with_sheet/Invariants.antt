@@ -1,5 +1,5 @@
 use Rattle.std.proofs.Common.{◌≡◌, ◌≤◌, ◌++◌, drop, length}
-use Rattle.workbook.specs.declared.limits.TheConstants.{TEXTS}
+use Rattle.cell_refs.specs.declared.limits.TheConstants.{TEXTS}
 use Rattle.workbook.specs.Files.{texts_in_records}
 use Rattle.workbook.proofs.gather.with_sheet.Given as goal
 

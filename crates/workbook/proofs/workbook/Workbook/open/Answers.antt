@@ -3,7 +3,7 @@ use Rattle.std.proofs.Common.{◌≡◌, ◌≤◌, ◌∙◌, List, [], None, a
 use Rattle.std.specs.Prelude.{All}
 use Rattle.std.proofs.lemmas.Result.{err_from_is_err_and}
 use Rattle.sheet_csv.specs.Sheet.{Record, sheet_records}
-use Rattle.workbook.specs.declared.limits.TheConstants.{FORMULAS, TEXTS}
+use Rattle.cell_refs.specs.declared.limits.TheConstants.{FORMULAS, TEXTS}
 use Rattle.workbook.specs.Files.{bad_name_row}
 use Rattle.workbook.specs.Gathered.{FitsSheet, texts_in_sheets}
 use Rattle.workbook.specs.Opening.{ContentsFit, SheetsAreRead, formulas_in}

@@ -1,6 +1,6 @@
 use Rattle.std.proofs.Common.{◌∙◌, ap, length, sym}
 use Rattle.std.specs.Prelude.{◌&&◌, nat_le, nat_lt, not}
-use Rattle.workbook.specs.declared.limits.TheConstants.{TEXTS}
+use Rattle.cell_refs.specs.declared.limits.TheConstants.{TEXTS}
 use Rattle.workbook.specs.State.{text_count, with_text}
 use Rattle.workbook.proofs.Keeping.{empty_fits, text_fits}
 use Rattle.workbook.proofs.workbook.Workbook.would_be_full.Goals as goal

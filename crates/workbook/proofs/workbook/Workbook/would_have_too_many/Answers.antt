@@ -1,6 +1,6 @@
 use Rattle.std.proofs.Common.{◌∙◌, ap, sym}
 use Rattle.std.specs.Prelude.{◌&&◌, nat_le, nat_lt, not}
-use Rattle.workbook.specs.declared.limits.TheConstants.{FORMULAS}
+use Rattle.cell_refs.specs.declared.limits.TheConstants.{FORMULAS}
 use Rattle.workbook.specs.Contents.{content_of}
 use Rattle.workbook.specs.State.{formula_count, is_formula_text, with_text}
 use Rattle.workbook.proofs.Keeping.{empty_counts, text_counts}

@@ -1,0 +1,60 @@
+// The cells to be decided.
+ghost use Rattle.std.specs.Prelude.{◌≡◌, ◌≤◌, length, position};
+ghost use Rattle.cell_refs.specs.Cells.{is_same_cell};
+ghost use Rattle.workbook.specs.declared.adj.TheConstants.{DECISIONS};
+
+use cell_refs::Cell;
+use indexmap::IndexSet;
+use std::marker::Model;
+
+/// How many cells may be decided.
+pub const DECISIONS: usize = 512;
+
+/// The cells to be decided, in their order, each once.
+#[derive(Drop)]
+pub struct Adj {
+    cells: IndexSet<Cell>,
+}
+
+impl Model for Adj {
+    ghost use Rattle.std.specs.Prelude.{List, length, ◌≤◌};
+    ghost use Rattle.std.specs.Coded.{coded_list};
+    ghost use Rattle.cell_refs.specs.declared.cell.Cell.{Cell};
+    ghost use Rattle.cell_refs.specs.Cells.{coded_cell};
+    ghost use Rattle.workbook.specs.declared.adj.TheConstants.{DECISIONS};
+
+    ghost Value = { List Cell };
+
+    ghost coded = { coded_list coded_cell };
+
+    ghost view = { λ a. a.cells.keys };
+
+    ghost invariant = { λ a. length a.cells.keys ≤ DECISIONS };
+}
+
+impl Adj {
+    /// These cells, in the set's order.
+    pub fn new(cells: IndexSet<Cell>) -> Adj
+        requires { length cells.keys ≤ DECISIONS }
+        ensures { result ≡ cells.keys }
+    {
+        Adj { cells }
+    }
+
+    /// The cells in their order.
+    pub fn cells(&self) -> &[Cell]
+        ensures { result.now ≡ self.now }
+    {
+        self.cells.as_slice()
+    }
+
+    /// The number of a cell, from 0; `None` where it isn't to be decided.
+    pub fn find(&self, cell: Cell) -> Option<u16>
+        ensures { result ≡ position (is_same_cell cell) self.now }
+    {
+        match self.cells.get_index_of(&cell) {
+            Some(place) => Some(place as u16),
+            None => None,
+        }
+    }
+}
