@@ -10,3 +10,4 @@ pub mod Following
 pub mod Tables
 pub mod CircularLaws
 pub mod OpenLaws
+pub mod Spreading

@@ -8,7 +8,7 @@ use Rattle.std.specs.List.{list_any}
 use Rattle.std.specs.Ordering.{eq_by_cmp, is_eq, is_lt, ordering_reverse}
 use Rattle.std.specs.declared.cmp.Ordering.TheVariants.{Less, Equal, Greater}
 use Rattle.std.proofs.lemmas.Option.{same_Some, slice_get-map}
-use Rattle.cell_refs.specs.declared.cell.Area.{Area}
+use Rattle.cell_refs.specs.Areas.{Area}
 use Rattle.cell_refs.specs.declared.cell.Cell.{Cell}
 use Rattle.cell_refs.specs.Cells.{cell_cmp}
 use Rattle.cell_refs.proofs.Order.{cells_total, exact_cells}

@@ -6,7 +6,7 @@ use Rattle.std.specs.FinMap.{find, get-from_entries}
 use Rattle.std.specs.Ordering.{eq_by_cmp, is_eq}
 use Rattle.std.proofs.lemmas.Bool.{cases_order}
 use Rattle.std.proofs.lemmas.Option.{get_or_from_slice_get, same_Some, slice_get-map}
-use Rattle.cell_refs.specs.declared.cell.Area.{Area}
+use Rattle.cell_refs.specs.Areas.{Area}
 use Rattle.cell_refs.specs.declared.cell.Cell.{Cell}
 use Rattle.cell_refs.specs.Cells.{cell_cmp}
 use Rattle.cell_refs.proofs.Order.{cells_total, exact_cells}
@@ -51,7 +51,7 @@ there (x ∷ formulas) (suc i) f at =
     ]
 
 -- no cell stands at two places
-one_place : (formulas : List Formula) → AreSorted formulas → (i j : ℕ) (f g : Formula) → slice_get formulas i ≡ Some f → slice_get formulas j ≡ Some g
+pub one_place : (formulas : List Formula) → AreSorted formulas → (i j : ℕ) (f g : Formula) → slice_get formulas i ≡ Some f → slice_get formulas j ≡ Some g
     → f.cell ≡ g.cell → i ≡ j
 one_place formulas sorted i j f g at is same =
     elim (cases_order i j) as (λ _. i ≡ j) [

@@ -2,7 +2,7 @@
 use Rattle.std.specs.Prelude.{ℕ, refl}
 use Rattle.std.specs.Coded.{Coded, code_by, coded×, coded_list, coded_ℕ}
 use Rattle.std.specs.FinMap.{code}
-use Rattle.cell_refs.specs.declared.cell.Area.{Area}
+use Rattle.cell_refs.specs.Areas.{Area}
 use Rattle.cell_refs.specs.Cells.{coded_cell}
 use Rattle.dep_table.specs.References.{References}
 
@@ -10,8 +10,8 @@ use Rattle.dep_table.specs.References.{References}
 abbrev pub coded_area : Coded Area
 coded_area =
     code_by (ℕ × (ℕ × (ℕ × (ℕ × ℕ)))) (coded× coded_ℕ (coded× coded_ℕ (coded× coded_ℕ (coded× coded_ℕ coded_ℕ))))
-    (λ a. (a.sheet.0, (a.top, (a.left, (a.bottom, a.right)))))
-    (λ p. record { sheet = record { 0 = p.0 }; top = p.1.0; left = p.1.1.0; bottom = p.1.1.1.0; right = p.1.1.1.1 }) (λ _. refl)
+    (λ a. (a.sheet.0, (a.top, (a.left, (a.further_rows, a.further_columns)))))
+    (λ p. record { sheet = record { 0 = p.0 }; top = p.1.0; left = p.1.1.0; further_rows = p.1.1.1.0; further_columns = p.1.1.1.1 }) (λ _. refl)
 
 abbrev pub references_code : Coded References
 references_code = code coded_cell (coded_list coded_area)

@@ -1,8 +1,7 @@
 -- References between formulas, by their places.
 use Rattle.std.specs.Prelude.{ℕ, ◌+◌, ◌*◌, Bool, false, not, ◌&&◌, List, length, Option, None, Some, slice_get, slice_index_or, sum_by}
 use Rattle.std.specs.List.{list_any}
-use Rattle.cell_refs.specs.declared.cell.Area.{Area}
-use Rattle.cell_refs.specs.Areas.{within}
+use Rattle.cell_refs.specs.Areas.{Area, within}
 use Rattle.dep_table.specs.declared.find.Cursor.{Cursor}
 use Rattle.dep_table.specs.declared.formulas.Formula.{Formula}
 

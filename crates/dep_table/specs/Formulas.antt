@@ -1,8 +1,8 @@
 -- Formulas, by their cells and the areas to which they refer.
-use Rattle.std.specs.Prelude.{◌≡◌, ◌<◌, ℕ, List, [], ◌∷◌, ◌++◌, map, Option, None, Some, slice_get}
+use Rattle.std.specs.Prelude.{◌≡◌, ◌<◌, ℕ, Bool, true, false, List, [], ◌∷◌, ◌++◌, map, Option, None, Some, slice_get, slice_index_or}
 use Rattle.std.specs.FinMap.{from_entries}
 use Rattle.std.specs.declared.cmp.Ordering.TheVariants.{Less}
-use Rattle.cell_refs.specs.declared.cell.Area.{Area}
+use Rattle.cell_refs.specs.Areas.{Area}
 use Rattle.cell_refs.specs.declared.cell.Cell.{Cell}
 use Rattle.cell_refs.specs.Cells.{cell_cmp}
 use Rattle.dep_table.specs.declared.formulas.Formula.{Formula}
@@ -25,3 +25,7 @@ AreSorted formulas = (i j : ℕ) (f g : Formula) → i < j → slice_get formula
 abbrev pub with_areas : List (Cell × List Area) → Cell → Option (List Area) → List (Cell × List Area)
 with_areas pairs cell None = pairs
 with_areas pairs cell (Some areas) = pairs ++ (cell, areas) ∷ []
+
+-- the formula of a cell has a flag
+abbrev pub IsWanted : List Formula → List Bool → Cell → Type 0
+IsWanted formulas wanted a = (i : ℕ) × (f : Formula) × (slice_get formulas i ≡ Some f) × (f.cell ≡ a) × (slice_index_or wanted i false ≡ true)

@@ -4,3 +4,4 @@ pub mod Order
 pub mod Formulas
 pub mod Edges
 pub mod Tour
+pub mod Spreading

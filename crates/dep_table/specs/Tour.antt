@@ -1,5 +1,5 @@
 -- What a tour of the references keeps.
-use Rattle.std.specs.Prelude.{◌≡◌, ℕ, ◌+◌, ◌-◌, ◌*◌, ◌<◌, ◌≤◌, Bool, true, List, [], ◌∷◌, length, slice_index_or, slice_set, sum_by, ◌⊎◌}
+use Rattle.std.specs.Prelude.{◌≡◌, ℕ, ◌+◌, ◌-◌, ◌*◌, ◌<◌, ◌≤◌, Bool, true, false, List, [], ◌∷◌, length, slice_index_or, slice_set, sum_by, ◌⊎◌}
 use Rattle.dep_table.specs.declared.find.Cursor.{Cursor}
 use Rattle.dep_table.specs.declared.formulas.Formula.{Formula}
 use Rattle.dep_table.specs.declared.tour.Mark.{Mark}
@@ -60,10 +60,10 @@ IsUnderway formulas leaves = IsSound (length formulas) (edge formulas leaves) (s
 abbrev pub left_to_do : List Formula → List Mark → List Cursor → List ℕ → ℕ
 left_to_do formulas = work (length formulas) (most_slots formulas)
 
--- what holds after a tour of all n formulas
-pub record IsToured (edge : ℕ → ℕ → Bool) (n : ℕ) (marks : List Mark) (order : List ℕ) : Type 0 where
+-- what holds after a tour of those of n formulas that are wanted
+pub record IsToured (edge : ℕ → ℕ → Bool) (n : ℕ) (wanted : List Bool) (marks : List Mark) (order : List ℕ) : Type 0 where
   pub marked : length marks ≡ n
-  pub settled : (i : ℕ) → i < n → (mark_at marks i ≡ Done) ⊎ (mark_at marks i ≡ Circular)
+  pub settled : (i : ℕ) → i < n → slice_index_or wanted i false ≡ true → (mark_at marks i ≡ Done) ⊎ (mark_at marks i ≡ Circular)
   pub circular : (i : ℕ) → mark_at marks i ≡ Circular → (j : ℕ) × (edge i j ≡ true) × (mark_at marks j ≡ Circular)
   pub done : (i : ℕ) → mark_at marks i ≡ Done → (p : ℕ) × (p < length order) × (slice_index_or order p 0 ≡ i)
   pub ordered : (p : ℕ) → p < length order → (slice_index_or order p 0 < n)

@@ -1,6 +1,7 @@
 // Sets of cells.
 ghost use Rattle.std.specs.Prelude.{◌≡◌, IfOk, OnErr, OnOk};
 ghost use Rattle.std.specs.FinSet as set;
+ghost use Rattle.std.specs.List.Sorted.{IsStrictlySortedBy};
 ghost use Rattle.cell_refs.specs.Cells.{cell_cmp};
 
 use cell_refs::Cell;
@@ -54,9 +55,10 @@ impl CellSet {
         self.cells.contains(&cell)
     }
 
-    /// The cells of the set, in their order.
+    /// The cells of the set, each once, by sheet, row and column.
     pub fn cells(&self, alloc: Global) -> Result<Vec<Cell>, Memory>
-        ensures { IfOk result (λ cells. set.from_list cells.items ≡ self.now) }
+        ensures all { IfOk result (λ cells. set.from_list cells.items ≡ self.now) }
+        ensures sorted { IfOk result (λ cells. IsStrictlySortedBy cell_cmp cells.items) }
     {
         let cells = keys_of(&self.cells, alloc)?;
         Ok(cells)
@@ -65,7 +67,8 @@ impl CellSet {
 
 // The cells in a set of cells.
 fn keys_of(cells: &BTreeSet<Cell>, alloc: Global) -> Result<Vec<Cell>, Memory>
-    ensures { IfOk result (λ keys. keys.items ≡ cells.now.keys) }
+    ensures keys { IfOk result (λ keys. keys.items ≡ cells.now.keys) }
+    ensures sorted { IfOk result (λ keys. IsStrictlySortedBy cell_cmp keys.items) }
 {
     Ok(cells.iter().copied().collect(alloc)?)
 }

@@ -1,19 +1,23 @@
 // The references of the formulas of a workbook.
-ghost use Rattle.std.specs.Prelude.{◌≡◌, ◌<◌, IfOk, Some, length, map, option_map, slice_get, slice_index, true, vec_len, ℕ};
+ghost use Rattle.std.specs.Prelude.{◌≡◌, ◌≢◌, ◌<◌, Bool, IfNone, IfOk, IfSome, Some, false, length, map, option_map, slice_get, slice_index, slice_index_or, true, vec_len, ℕ, ⊤};
 ghost use Rattle.std.specs.FinSet as set;
 ghost use Rattle.cell_refs.specs.declared.cell.Cell.{Cell};
 ghost use Rattle.recalculation.specs.Entries.{Book};
 ghost use Rattle.recalculation.specs.Walks.{is_circular};
 ghost use Rattle.workbook.specs.Kinds.{book_of};
 ghost use Rattle.dep_table.specs.declared.formulas.Formula.{Formula};
-ghost use Rattle.dep_table.specs.Order.{IsOrder};
+ghost use Rattle.dep_table.specs.Edges.{edge};
+ghost use Rattle.dep_table.specs.Formulas.{AreSorted, IsWanted, references_in};
+ghost use Rattle.dep_table.specs.Order.{HasCircular, HasFree, IsOrder, Reaches};
 ghost use Rattle.dep_table.specs.References.{AreReferencesOf};
+ghost use Rattle.dep_table.specs.Spreading.{IsClosed};
 ghost use Rattle.dep_table.specs.Tour.{mark_at};
 
 use crate::CellSet;
 use crate::formulas::Formula;
 use crate::open::formulas_of;
-use crate::tour::{Mark, tour_all};
+use crate::reached::reached_from;
+use crate::tour::{Mark, tour_wanted};
 use cell_refs::Cell;
 use sheet_model::Memory;
 use std::alloc::Global;
@@ -72,14 +76,88 @@ impl Deps {
             → (a : Cell) → set.contains t.circular a ≡ is_circular book (set.contains leaves.now) a) }
         ensures order { IfOk result (λ t. (book : Book) → AreReferencesOf self.now book
             → IsOrder book (set.contains leaves.now) t.order.items) }
+        ensures all { IfOk result (λ t. (book : Book) → AreReferencesOf self.now book
+            → HasFree book (set.contains leaves.now) (λ a. ⊤) t.order.items) }
     {
         let formulas = self.formulas.as_slice();
         let flags = flags_of(alloc, formulas, leaves)?;
-        let toured = tour_all(alloc, formulas, &flags)?;
-        let circular = circular_cells(alloc, formulas, &toured.marks)?;
-        let order = cells_at(alloc, formulas, &toured.order)?;
-        Ok(Tour { circular, order })
+        let wanted = vec![in alloc; true; formulas.len()]?;
+        let tour = tour_of(alloc, formulas, &flags, &wanted)?;
+        Ok(tour)
     }
+
+    /// The same where those alone are wanted to which references lead from a cell. What else they lead to may be there as well.
+    pub fn tour_from(&self, alloc: Global, leaves: &CellSet, from: Cell) -> Result<Tour, Memory>
+        ensures circular { IfOk result (λ t. (book : Book) → AreReferencesOf self.now book
+            → HasCircular book (set.contains leaves.now) (Reaches book (set.contains leaves.now) from) (set.contains t.circular)) }
+        ensures order { IfOk result (λ t. (book : Book) → AreReferencesOf self.now book
+            → IsOrder book (set.contains leaves.now) t.order.items) }
+        ensures all { IfOk result (λ t. (book : Book) → AreReferencesOf self.now book
+            → HasFree book (set.contains leaves.now) (Reaches book (set.contains leaves.now) from) t.order.items) }
+    {
+        let formulas = self.formulas.as_slice();
+        let flags = flags_of(alloc, formulas, leaves)?;
+        let wanted = wanted_from(alloc, formulas, &flags, from)?;
+        let tour = tour_of(alloc, formulas, &flags, &wanted)?;
+        Ok(tour)
+    }
+}
+
+// A tour of the formulas that are wanted, by their cells.
+fn tour_of(
+    alloc: Global,
+    formulas: &[Formula],
+    leaves: &[bool],
+    wanted: &[bool],
+) -> Result<Tour, Memory>
+    requires sorted { AreSorted formulas.now }
+    requires leaves { length leaves.now ≡ length formulas.now }
+    requires wanted { length wanted.now ≡ length formulas.now }
+    ensures circular { IfOk result (λ t. (book : Book) (is_leaf : Cell → Bool) → AreReferencesOf (references_in formulas.now) book
+        → leaves.now ≡ map (λ (f : Formula). is_leaf f.cell) formulas.now
+        → HasCircular book is_leaf (IsWanted formulas.now wanted.now) (set.contains t.circular)) }
+    ensures order { IfOk result (λ t. (book : Book) (is_leaf : Cell → Bool) → AreReferencesOf (references_in formulas.now) book
+        → leaves.now ≡ map (λ (f : Formula). is_leaf f.cell) formulas.now
+        → IsOrder book is_leaf t.order.items × HasFree book is_leaf (IsWanted formulas.now wanted.now) t.order.items) }
+{
+    let toured = tour_wanted(alloc, formulas, leaves, wanted)?;
+    let circular = circular_cells(alloc, formulas, &toured.marks)?;
+    let order = cells_at(alloc, formulas, &toured.order)?;
+    Ok(Tour { circular, order })
+}
+
+// For each formula, whether references lead to it from a cell.
+fn wanted_from(
+    alloc: Global,
+    formulas: &[Formula],
+    leaves: &[bool],
+    from: Cell,
+) -> Result<Vec<bool>, Memory>
+    requires sorted { AreSorted formulas.now }
+    requires leaves { length leaves.now ≡ length formulas.now }
+    ensures length { IfOk result (λ wanted. length wanted.items ≡ length formulas.now) }
+    ensures from { IfOk result (λ wanted. (i : ℕ) (f : Formula) → slice_get formulas.now i ≡ Some f → f.cell ≡ from
+        → slice_index_or wanted.items i false ≡ true) }
+    ensures closed { IfOk result (λ wanted. IsClosed (edge formulas.now leaves.now) wanted.items) }
+{
+    let Some(place) = place_of(formulas, from) else {
+        return Ok(vec![in alloc; false; formulas.len()]?);
+    };
+    let wanted = reached_from(alloc, formulas, leaves, place)?;
+    Ok(wanted)
+}
+
+// The place of the formula of a cell.
+fn place_of(formulas: &[Formula], cell: Cell) -> Option<usize>
+    ensures none { IfNone result ((i : ℕ) (f : Formula) → slice_get formulas.now i ≡ Some f → f.cell ≢ cell) }
+    ensures some { IfSome result (λ i. (f : Formula) × (slice_get formulas.now i ≡ Some f) × (f.cell ≡ cell)) }
+{
+    for place in 0..formulas.len() {
+        if formulas[place].cell.cmp(&cell).is_eq() {
+            return Some(place);
+        }
+    }
+    None
 }
 
 // For each formula, whether its cell is among the leaves.

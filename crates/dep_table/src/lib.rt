@@ -8,6 +8,7 @@ mod find;
 mod formulas;
 mod open;
 mod reach;
+mod reached;
 mod tour;
 
 pub use cells::CellSet;

@@ -13,25 +13,22 @@ pub(crate) fn first_from(area: &Area, cell: Cell) -> Option<Cell>
     ensures within { IfSome result (λ t. within area.now t ≡ true) }
     ensures first { IfSome result (λ t. (b : Cell) → within area.now b ≡ true → cell_cmp b t ≡ Less → cell_cmp b cell ≡ Less) }
 {
-    if area.left > area.right || area.top > area.bottom {
+    if cell.sheet.0 < area.sheet().0 {
+        return Some(begin_of(area, area.top()));
+    }
+    if cell.sheet.0 > area.sheet().0 || cell.row > area.bottom() {
         return None;
     }
-    if cell.sheet.0 < area.sheet.0 {
-        return Some(begin_of(area, area.top));
+    if cell.row < area.top() {
+        return Some(begin_of(area, area.top()));
     }
-    if cell.sheet.0 > area.sheet.0 || cell.row > area.bottom {
-        return None;
-    }
-    if cell.row < area.top {
-        return Some(begin_of(area, area.top));
-    }
-    if cell.col < area.left {
+    if cell.col < area.left() {
         return Some(begin_of(area, cell.row));
     }
-    if cell.col <= area.right {
+    if cell.col <= area.right() {
         return Some(cell);
     }
-    if cell.row < area.bottom {
+    if cell.row < area.bottom() {
         return Some(begin_of(area, cell.row + 1));
     }
     None
@@ -42,8 +39,8 @@ fn begin_of(area: &Area, row: u16) -> Cell
     ensures { result ≡ record { sheet = area.now.sheet; row = row; col = area.now.left } }
 {
     Cell {
-        sheet: area.sheet,
+        sheet: area.sheet(),
         row,
-        col: area.left,
+        col: area.left(),
     }
 }

@@ -1,5 +1,5 @@
 // A tour of the references of formulas, with each formula after those to which it refers.
-ghost use Rattle.std.specs.Prelude.{◌≡◌, ◌≢◌, ◌+◌, ◌<◌, ◌≤◌, IfOk, OnOk, [], length, slice_index, vec_len, ℕ};
+ghost use Rattle.std.specs.Prelude.{◌≡◌, ◌≢◌, ◌+◌, ◌<◌, ◌≤◌, IfOk, OnOk, [], false, length, slice_index, slice_index_or, true, vec_len, ℕ};
 ghost use Rattle.dep_table.specs.Edges.{edge};
 ghost use Rattle.dep_table.specs.Formulas.{AreSorted};
 ghost use Rattle.dep_table.specs.Tour.{IsToured, IsUnderway, closed, left_to_do, mark_at};
@@ -18,35 +18,45 @@ pub(crate) enum Mark {
     Circular,
 }
 
-/// The marks after a tour of all formulas, and the places of those that are done, each after those to which it refers.
+/// The marks after a tour, and the places of the formulas that are done, each after those to which it refers.
 #[derive(Drop)]
 pub(crate) struct Toured {
     pub(crate) marks: Vec<Mark>,
     pub(crate) order: Vec<usize>,
 }
 
-/// A tour of all formulas.
-pub(crate) fn tour_all(
+/// A tour of the formulas that are wanted, and of all to which they lead.
+pub(crate) fn tour_wanted(
     alloc: Global,
     formulas: &[Formula],
     leaves: &[bool],
+    wanted: &[bool],
 ) -> Result<Toured, Memory>
     requires sorted { AreSorted formulas.now }
     requires leaves { length leaves.now ≡ length formulas.now }
-    ensures { IfOk result (λ t. IsToured (edge formulas.now leaves.now) (length formulas.now) t.marks.items t.order.items) }
+    requires wanted { length wanted.now ≡ length formulas.now }
+    ensures { IfOk result (λ t. IsToured (edge formulas.now leaves.now) (length formulas.now) wanted.now t.marks.items t.order.items) }
 {
     let count = formulas.len();
     let mut marks = vec![in alloc; Mark::New; count]?;
     let mut cursors = vec![in alloc; Cursor { area: 0, place: 0 }; count]?;
     let mut order = Vec::new(alloc);
-    explore_all(formulas, leaves, &mut marks, &mut cursors, &mut order)?;
+    explore_wanted(
+        formulas,
+        leaves,
+        wanted,
+        &mut marks,
+        &mut cursors,
+        &mut order,
+    )?;
     Ok(Toured { marks, order })
 }
 
-// A tour from each formula in turn.
-fn explore_all(
+// A tour from each formula that is wanted in turn.
+fn explore_wanted(
     formulas: &[Formula],
     leaves: &[bool],
+    wanted: &[bool],
     marks: &mut [Mark],
     cursors: &mut [Cursor],
     order: &mut Vec<usize>,
@@ -55,10 +65,15 @@ fn explore_all(
     requires sound { IsUnderway formulas.now leaves.now marks.old cursors.old [] order.old.items }
     requires nodes { length marks.old ≡ length formulas.now }
     requires leaves { length leaves.now ≡ length formulas.now }
+    requires wanted { length wanted.now ≡ length formulas.now }
     ensures sound { OnOk result (IsUnderway formulas.now leaves.now marks.new cursors.new [] order.new.items) }
-    ensures visited { OnOk result ((k : ℕ) → k < length formulas.now → mark_at marks.new k ≢ Mark.New) }
+    ensures visited { OnOk result ((k : ℕ) → k < length formulas.now → slice_index_or wanted.now k false ≡ true
+        → mark_at marks.new k ≢ Mark.New) }
 {
     for root in 0..formulas.len() {
+        if !wanted[root] {
+            continue;
+        }
         explore(formulas, leaves, root, marks, cursors, order)?;
     }
     Ok(())

@@ -10,8 +10,7 @@ use Rattle.std.specs.FinMap.{get, insert}
 use Rattle.fractions.specs.Whole.{whole_ℚ}
 use Rattle.cell_refs.specs.declared.cell.SheetId.{SheetId}
 use Rattle.cell_refs.specs.declared.cell.Cell.{Cell}
-use Rattle.cell_refs.specs.declared.cell.Area.{Area}
-use Rattle.cell_refs.specs.Areas.{area_len, cells_of}
+use Rattle.cell_refs.specs.Areas.{Area, area_len, cells_of}
 use Rattle.plain_sheets.proofs.AreaLaws.{length-cells_of}
 use Rattle.sheet_model.specs.Texts.{small_number_in}
 use Rattle.sheet_model.specs.Formulas.{formula_in}

@@ -5,8 +5,7 @@ use Rattle.std.proofs.lemmas.List.{take_more, take_all}
 use Rattle.std.proofs.lemmas.List.Folds.{list_all_more, list_all_at}
 use Rattle.std.proofs.lemmas.List.FromFn.{length-map-range_with_len, get_or-map-range_with_len}
 use Rattle.cell_refs.specs.declared.cell.Cell.{Cell}
-use Rattle.cell_refs.specs.declared.cell.Area.{Area}
-use Rattle.cell_refs.specs.Areas.{area_len, cell_at, cells_of}
+use Rattle.cell_refs.specs.Areas.{Area, area_len, cell_at, cells_of}
 
 pub length-cells_of : (a : Area) → length (cells_of a) ≡ area_len a
 length-cells_of a = length-map-range_with_len (cell_at a) 0 (area_len a)

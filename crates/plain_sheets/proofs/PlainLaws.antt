@@ -4,8 +4,7 @@ use Rattle.std.specs.Prelude.{IsTrue}
 use Rattle.std.specs.List.{list_all, list_any}
 use Rattle.cell_refs.specs.declared.cell.SheetId.{SheetId}
 use Rattle.cell_refs.specs.declared.cell.Cell.{Cell}
-use Rattle.cell_refs.specs.declared.cell.Area.{Area}
-use Rattle.cell_refs.specs.Areas.{cells_of}
+use Rattle.cell_refs.specs.Areas.{Area, cells_of}
 use Rattle.sheet_model.specs.Worth.{Cells}
 use Rattle.workbook.specs.State.{State}
 use Rattle.plain_sheets.specs.Names.{Naming}

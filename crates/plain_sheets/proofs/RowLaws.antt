@@ -5,8 +5,7 @@ use Rattle.std.proofs.lemmas.List.Folds.{list_all-append, list_all_at}
 use Rattle.std.proofs.lemmas.List.{take_all}
 use Rattle.std.proofs.lemmas.List.FromFn.{take-map-range_with_len, map-range_with_len_more, length-map-range_with_len, get_or-map-range_with_len}
 use Rattle.cell_refs.specs.declared.cell.Cell.{Cell}
-use Rattle.cell_refs.specs.declared.cell.Area.{Area}
-use Rattle.cell_refs.specs.Areas.{area_len, cell_at}
+use Rattle.cell_refs.specs.Areas.{Area, area_len, cell_at}
 use Rattle.sheet_model.specs.Worth.{Cells}
 use Rattle.workbook.specs.State.{State}
 use Rattle.plain_sheets.specs.Plain.{holds_plain, rows_are_plain, rows_of, rows_of_one}

@@ -3,7 +3,7 @@ use Rattle.std.proofs.Common.{◌≡◌, ℕ, suc, ◌+◌, ◌-◌, ◌<◌, ar
 use Rattle.std.specs.Prelude.{codes, option_map}
 use Rattle.std.specs.Option.{option_and_then}
 use Rattle.cell_refs.specs.declared.cell.SheetId.{SheetId}
-use Rattle.cell_refs.specs.declared.cell.Area.{Area}
+use Rattle.cell_refs.specs.Areas.{Area}
 use Rattle.plain_sheets.specs.Names.{Naming}
 use Rattle.plain_sheets.specs.Statement.{area_named, constraint_of, constraint_named, constraints_named, part_name}
 use Rattle.plain_sheets.specs.declared.statement.Constraint.{Constraint}

@@ -5,8 +5,7 @@ use Rattle.std.specs.List.{list_all, list_any, range_with_len}
 use Rattle.std.specs.FinMap.{get}
 use Rattle.cell_refs.specs.declared.cell.SheetId.{SheetId}
 use Rattle.cell_refs.specs.declared.cell.Cell.{Cell}
-use Rattle.cell_refs.specs.declared.cell.Area.{Area}
-use Rattle.cell_refs.specs.Areas.{area_len, cell_at, cells_of, within}
+use Rattle.cell_refs.specs.Areas.{Area, area_len, cell_at, cells_of, within}
 use Rattle.sheet_model.specs.Texts.{small_number_in}
 use Rattle.sheet_model.specs.Formulas.{formula_in}
 use Rattle.recalculation.specs.Entries.{entry}

@@ -1,7 +1,7 @@
 -- The settings that the names of a plain sheet give.
-use Rattle.std.specs.Prelude.{◌≡◌, ◌⊎◌, ◌≤◌, Some, None, codes}
+use Rattle.std.specs.Prelude.{◌≡◌, ◌⊎◌, ◌≤◌, Some, None, codes, ⊤}
 use Rattle.cell_refs.specs.declared.cell.SheetId.{SheetId}
-use Rattle.cell_refs.specs.Areas.{IsInOrder, area_len}
+use Rattle.cell_refs.specs.Areas.{area_len}
 use Rattle.plain_sheets.specs.Names.{Naming}
 use Rattle.plain_sheets.specs.Statement.{decisions_named, objective_named, count_named}
 use Rattle.plain_sheets.specs.declared.statement.Settings.{Settings}
@@ -17,10 +17,9 @@ pub record GiveSettings (home : SheetId) (names : Naming) (set : Settings) : Typ
   pub no_value : names (codes "solver_val") ≡ None
   pub counted : count_named names ≡ Some set.constraints
   pub few : set.constraints ≤ 8
-  pub order : IsInOrder set.decisions
   pub small : area_len set.decisions ≤ 8
 
--- the corners of its areas are in order, and its sides have as many cells, or the right one has one
-abbrev pub IsConstraintInOrder : Constraint → Type 0
-IsConstraintInOrder (AtMost left right) = IsInOrder left × IsInOrder right × ((area_len right ≡ 1) ⊎ (area_len right ≡ area_len left))
-IsConstraintInOrder (Binary area) = IsInOrder area
+-- its sides have as many cells, or the right one has one
+abbrev pub HasSidesOfASize : Constraint → Type 0
+HasSidesOfASize (AtMost left right) = (area_len right ≡ 1) ⊎ (area_len right ≡ area_len left)
+HasSidesOfASize (Binary area) = ⊤

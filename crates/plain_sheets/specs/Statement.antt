@@ -4,8 +4,7 @@ use Rattle.std.specs.Option.{option_and_then}
 use Rattle.std.specs.Str.{bytes_eq}
 use Rattle.cell_refs.specs.declared.cell.SheetId.{SheetId}
 use Rattle.cell_refs.specs.declared.cell.Cell.{Cell}
-use Rattle.cell_refs.specs.declared.cell.Area.{Area}
-use Rattle.cell_refs.specs.Areas.{area_len, cell_at}
+use Rattle.cell_refs.specs.Areas.{Area, area_len, cell_at}
 use Rattle.sheet_model.specs.Texts.{area_in}
 use Rattle.plain_sheets.specs.Names.{Naming}
 use Rattle.plain_sheets.specs.declared.statement.Constraint.{Constraint}

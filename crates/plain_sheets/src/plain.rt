@@ -1,9 +1,8 @@
 // Reading a plain sheet.
 ghost use Rattle.std.specs.Prelude.{◌≡◌, ◌≤◌, ◌&&◌, ℕ, IfOk, IfSome, All, MatchOption, OnErr, is_some, length};
 ghost use Rattle.std.specs.List.{list_all, list_any};
-ghost use Rattle.cell_refs.specs.Areas.{IsInOrder, cells_of, within};
+ghost use Rattle.cell_refs.specs.Areas.{cells_of, within};
 ghost use Rattle.plain_sheets.specs.Names.{names_of};
-ghost use Rattle.plain_sheets.specs.Settings.{IsConstraintInOrder};
 ghost use Rattle.plain_sheets.specs.Statement.{Statement};
 ghost use Rattle.plain_sheets.specs.Plain.{IsPlain, binary_within, holds_number, holds_plain, makes_binary};
 ghost use Rattle.plain_sheets.specs.Model.{IsModelOf, StandsForCell};
@@ -51,7 +50,6 @@ pub(crate) fn plain_model(
 
 // The cells of an area.
 fn cells(alloc: Global, area: Area) -> Result<Vec<Cell>, AllocError>
-    requires { IsInOrder area }
     ensures { IfOk result (λ v. v.items ≡ cells_of area) }
 {
     let mut all = Vec::new(alloc);
@@ -68,7 +66,6 @@ fn has_plain_decisions(
     cells: &[Cell],
     constraints: &[Constraint],
 ) -> bool
-    requires { All IsConstraintInOrder constraints.now }
     ensures { result ≡ (list_all (holds_number book.now.contents) cells.now
         && (list_all (binary_within area) constraints.now && list_all (λ cell. list_any (makes_binary cell) constraints.now) cells.now)) }
 {
@@ -89,7 +86,6 @@ fn all_small(book: &Workbook, cells: &[Cell]) -> bool
 
 // Whether the binary constraints stand on cells of the area alone.
 fn all_stay_within(constraints: &[Constraint], decisions: Area) -> bool
-    requires { All IsConstraintInOrder constraints.now }
     ensures { result ≡ list_all (binary_within decisions) constraints.now }
 {
     for one in constraints {
@@ -102,7 +98,6 @@ fn all_stay_within(constraints: &[Constraint], decisions: Area) -> bool
 
 // Whether a constraint is none that is binary on a cell outside the area.
 fn stays_within(constraint: Constraint, decisions: Area) -> bool
-    requires { IsConstraintInOrder constraint }
     ensures { result ≡ binary_within decisions constraint }
 {
     match constraint {
@@ -113,7 +108,6 @@ fn stays_within(constraint: Constraint, decisions: Area) -> bool
 
 // Whether the other area has all cells of this one.
 fn all_within(area: Area, decisions: Area) -> bool
-    requires { IsInOrder area }
     ensures { result ≡ list_all (within decisions) (cells_of area) }
 {
     for place in 0..area.len() {

@@ -1,8 +1,8 @@
 // The rows of a plain sheet.
 ghost use Rattle.std.specs.Prelude.{◌≡◌, ◌≤◌, ◌&&◌, ◌++◌, ◌⊎◌, ◌<◌, ◌==◌, if◌then◌else◌, IfOk, IfSome, IsTrue, All, MatchBool, MatchOption, is_some, length, true};
 ghost use Rattle.std.specs.List.{list_all};
-ghost use Rattle.cell_refs.specs.Areas.{IsInOrder, area_len, cell_at};
-ghost use Rattle.plain_sheets.specs.Settings.{IsConstraintInOrder};
+ghost use Rattle.cell_refs.specs.Areas.{area_len, cell_at};
+ghost use Rattle.plain_sheets.specs.Settings.{HasSidesOfASize};
 ghost use Rattle.plain_sheets.specs.Plain.{holds_number, holds_plain, rows_are_plain, rows_of, rows_of_one};
 ghost use Rattle.plain_sheets.specs.Model.{PushesRows, StandForRows, StandsForRow};
 ghost use Rattle.plain_sheets.specs.declared.statement.Constraint.{Constraint};
@@ -23,7 +23,7 @@ pub(crate) fn rows(
 ) -> Result<Option<Vec<Sides>>, AllocError>
     requires few { length decisions.now ≤ 8 }
     requires small { list_all (holds_number book.now.contents) decisions.now ≡ true }
-    requires order { All IsConstraintInOrder constraints.now }
+    requires sizes { All HasSidesOfASize constraints.now }
     ensures plain { IfOk result (λ found. is_some found ≡ rows_are_plain book.now (rows_of constraints.now)) }
     ensures stand { IfOk result (λ found. IfSome found (λ v. StandForRows book.now.contents decisions.now v.items (rows_of constraints.now))) }
 {
@@ -46,7 +46,7 @@ fn push_constraint(
 ) -> Result<bool, AllocError>
     requires few { length decisions.now ≤ 8 }
     requires small { list_all (holds_number book.now.contents) decisions.now ≡ true }
-    requires order { IsConstraintInOrder constraint }
+    requires sizes { HasSidesOfASize constraint }
     ensures { IfOk result (PushesRows book.now decisions.now all.old.items all.new.items (rows_of_one constraint)) }
 {
     match constraint {
@@ -65,8 +65,6 @@ fn push_rows(
 ) -> Result<bool, AllocError>
     requires few { length decisions.now ≤ 8 }
     requires small { list_all (holds_number book.now.contents) decisions.now ≡ true }
-    requires left { IsInOrder areas.0 }
-    requires right { IsInOrder areas.1 }
     requires sizes { (area_len areas.1 ≡ 1) ⊎ (area_len areas.1 ≡ area_len areas.0) }
     ensures { IfOk result (PushesRows book.now decisions.now all.old.items all.new.items (rows_of_one (Constraint.AtMost areas.0 areas.1))) }
 {
@@ -83,7 +81,6 @@ fn push_rows(
 
 // The cell of the right area that stands beside the left cell at a place: the only one, or the one at that place.
 fn opposite_cell(right: Area, place: u32) -> Cell
-    requires order { IsInOrder right }
     requires sizes { (area_len right ≡ 1) ⊎ (place < area_len right) }
     ensures { result ≡ cell_at right (if area_len right == 1 then 0 else place) }
 {

@@ -1,9 +1,8 @@
 // What the names of a plain sheet say.
 ghost use Rattle.std.specs.Prelude.{◌≡◌, ◌<◌, All, ◌≤◌, IfOk, IfSome, MatchOption, option_map, string_bytes};
-ghost use Rattle.cell_refs.specs.Areas.{IsInOrder};
 ghost use Rattle.plain_sheets.specs.Names.{names_of};
 ghost use Rattle.plain_sheets.specs.Statement.{NamesGive, Statement, area_named, beside, constraint_named, constraint_of, constraints_named, digit_in, part_name};
-ghost use Rattle.plain_sheets.specs.Settings.{GiveSettings, IsConstraintInOrder};
+ghost use Rattle.plain_sheets.specs.Settings.{GiveSettings, HasSidesOfASize};
 
 use cell_refs::{Area, Cell, SheetId};
 use sheet_model::area;
@@ -73,7 +72,7 @@ pub(crate) fn read_constraints(
 ) -> Result<Option<Vec<Constraint>>, AllocError>
     requires { count ≤ 8 }
     ensures value { IfOk result (λ found. option_map (λ v. v.items) found ≡ constraints_named home (names_of book.now home) 0 count) }
-    ensures order { IfOk result (λ found. IfSome found (λ v. All IsConstraintInOrder v.items)) }
+    ensures sizes { IfOk result (λ found. IfSome found (λ v. All HasSidesOfASize v.items)) }
 {
     let mut all = Vec::new(alloc);
     for k in 0..count {
@@ -94,7 +93,7 @@ fn read_constraint(
 ) -> Result<Option<Constraint>, AllocError>
     requires { number < 10 }
     ensures value { IfOk result (λ found. found ≡ constraint_named home (names_of book.now home) number) }
-    ensures order { IfOk result (λ found. IfSome found IsConstraintInOrder) }
+    ensures sizes { IfOk result (λ found. IfSome found HasSidesOfASize) }
 {
     let left_name = part_name(alloc, "solver_lhs", number)?;
     let relation_name = part_name(alloc, "solver_rel", number)?;
@@ -111,10 +110,8 @@ fn read_constraint(
 
 // The constraint of a left side, a code, which is 1 or 5, and a right side.
 fn constraint_of(left: Area, code: &str, right: Option<Area>) -> Option<Constraint>
-    requires left { IsInOrder left }
-    requires right { IfSome right IsInOrder }
     ensures value { result ≡ constraint_of left code.now right }
-    ensures order { IfSome result IsConstraintInOrder }
+    ensures sizes { IfSome result HasSidesOfASize }
 {
     if code == "5" {
         return Some(Constraint::Binary(left));
@@ -127,10 +124,8 @@ fn constraint_of(left: Area, code: &str, right: Option<Area>) -> Option<Constrai
 
 // A constraint of two areas, where the right one has as many cells as the left one, or one.
 fn beside(left: Area, right: Area) -> Option<Constraint>
-    requires left { IsInOrder left }
-    requires right { IsInOrder right }
     ensures value { result ≡ beside left right }
-    ensures order { IfSome result IsConstraintInOrder }
+    ensures sizes { IfSome result HasSidesOfASize }
 {
     let count = right.len();
     if count == 1 {
@@ -144,8 +139,7 @@ fn beside(left: Area, right: Area) -> Option<Constraint>
 
 // The area that a name's text is, where there is such a name.
 fn area_named(book: &Workbook, home: SheetId, name: &str) -> Option<Area>
-    ensures value { result ≡ area_named home (names_of book.now home) name.now }
-    ensures order { IfSome result IsInOrder }
+    ensures { result ≡ area_named home (names_of book.now home) name.now }
 {
     area(book.text_of(Some(home), name)?.as_bytes(), home)
 }

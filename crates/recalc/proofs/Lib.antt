@@ -1,6 +1,5 @@
 pub mod Walking
 pub mod Saying
-pub mod Within
 pub mod Right
 pub mod Answering
 pub mod Members

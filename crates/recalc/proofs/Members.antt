@@ -2,7 +2,7 @@
 use Rattle.std.proofs.Common.{◌≡◌, ℕ, zero, suc, ◌+◌, ◌<◌, ◌≤◌, Bool, true, false, List, [], ◌∷◌, ◌++◌, flat_map, length, nat_eq, take, Option, Some, None, refl, sym, ap, subst, ◌∙◌, arith}
 use Rattle.std.specs.Prelude.{◌||◌, slice_get, slice_index_or}
 use Rattle.std.specs.FinSet as set
-use Rattle.std.specs.List.{AllByRecursion, list_any}
+use Rattle.std.specs.List.{list_any}
 use Rattle.std.proofs.lemmas.Bool.{eqb-true}
 use Rattle.std.proofs.lemmas.Bool.Decides.{nat_tests}
 use Rattle.std.proofs.lemmas.List.{append-nil, append_assoc}
@@ -11,9 +11,7 @@ use Rattle.std.specs.Cmp.{eq_by_cmp_equiv}
 use Rattle.cell_refs.specs.declared.cell.Cell.{Cell}
 use Rattle.cell_refs.specs.Cells.{cell_cmp}
 use Rattle.cell_refs.proofs.Order.{cells_total, exact_cells}
-use Rattle.cell_refs.specs.declared.cell.Area.{Area}
-use Rattle.cell_refs.specs.Areas.{IsInOrder, cells_of}
-use Rattle.formula_ast.specs.Sound.{IsOnSheet}
+use Rattle.cell_refs.specs.Areas.{Area, cells_of}
 use Rattle.recalculation.proofs.Lists.{either_first, either_second}
 use Rattle.recalculation.specs.Entries.{Book}
 use Rattle.recalc.specs.declared.rows.Row.{Row}
@@ -87,8 +85,3 @@ all_taken [] zero h = refl
 all_taken [] (suc i) h = refl
 all_taken (a ∷ areas) zero h = absurd (omega (arith, h))
 all_taken (a ∷ areas) (suc i) h = ap (λ l. a ∷ l) (all_taken areas i (omega (arith, h)))
-
-pub sheet_order : (areas : List Area) (i : ℕ) (d : Area) → AllByRecursion IsOnSheet areas → i < length areas → IsInOrder (slice_index_or areas i d)
-sheet_order [] i d h less = absurd (omega (arith, less))
-sheet_order (a ∷ areas) zero d h less = record { rows = h.0.rows; columns = h.0.columns; last_row = let k = h.0.last_row in omega (arith, k); last_column = let k = h.0.last_column in omega (arith, k) }
-sheet_order (a ∷ areas) (suc i) d h less = sheet_order areas i d h.1 (omega (arith, less))

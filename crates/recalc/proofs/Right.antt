@@ -1,5 +1,5 @@
 -- Rows are right: each is that of its cell.
-use Rattle.std.proofs.Common.{◌≡◌, ℕ, Bool, true, false, cond, if◌then◌else◌, List, [], ◌∷◌, map, flat_map, Option, Some, None, refl, sym, ap, subst, ◌∙◌}
+use Rattle.std.proofs.Common.{◌≡◌, Bool, true, false, cond, if◌then◌else◌, List, [], ◌∷◌, flat_map, Option, Some, None, refl, sym, ap, subst, ◌∙◌}
 use Rattle.std.specs.Prelude.{◌&&◌, not, is_some, is_none, option_map, Contains}
 use Rattle.std.specs.BTreeMap.{is_at}
 use Rattle.std.specs.List.{AllByRecursion}
@@ -12,21 +12,19 @@ use Rattle.formula_ast.specs.Measures.{references_of}
 use Rattle.formula_ast.specs.Tree.{Tree}
 use Rattle.sheet_model.specs.declared.value.Value.{Value}
 use Rattle.sheet_model.specs.declared.value.Value.TheVariants as value
-use Rattle.sheet_model.specs.declared.grid.Arg.{Arg}
 use Rattle.recalculation.specs.Entries.{Book, Entry, Constant, Formula, Malformed, entry, no_overriding, nothing}
 use Rattle.recalculation.specs.Evaluation.{cell_value}
 use Rattle.recalculation.specs.Looking.{are_known, looked_at, outcome_of}
-use Rattle.recalculation.specs.Narrow.{LooksAt, LooksFrom, entry_is_wide, entry_known, is_wide, known, known_over, number_or}
-use Rattle.recalculation.specs.Ordered.{AreInOrder, HasAreasInOrder}
+use Rattle.recalculation.specs.Narrow.{LooksFrom, entry_is_wide, entry_known, known}
 use Rattle.recalculation.specs.Walks.{is_circular, is_formula, refers}
+use Rattle.recalculation.proofs.Circles.{formula_text}
 use Rattle.recalculation.proofs.Knowing.{looked_alike, outcomes_alike}
 use Rattle.recalculation.proofs.Knowns.{known_is}
 use Rattle.recalculation.proofs.Reading.{looked_among}
-use Rattle.recalculation.proofs.WithinAreas.{of_referred}
+use Rattle.recalculation.proofs.WithinAreas.{of_referred, referred_are_cells}
 use Rattle.recalc.specs.declared.rows.Row.{Row}
 use Rattle.recalc.specs.Rows.{AreRows, HasRow, IsComputed, IsRowOf, row_at, seen_by, seen_in, value_in}
 use Rattle.recalc.proofs.Walking.{equal_of, same_row}
-use Rattle.recalc.proofs.Within.{contains_any, refers_any}
 
 -- the narrow value of a cell, by whether it is circular
 abbrev pub known_by : Book → Bool → Option Entry → Option Value
@@ -45,30 +43,28 @@ all_alike : (f g : Cell → Option Value) (cells : List Cell) → AllByRecursion
 all_alike f g [] h = refl
 all_alike f g (b ∷ cells) h = λ i. is_some (h.0 i) && all_alike f g cells h.1 i
 
-module _ (book : Book) (order : HasAreasInOrder book) where
+module _ (book : Book) where
   -- ---- a formula that isn't circular
   module _ (a : Cell) (t : Tree) (says : entry book a ≡ Some (Formula t)) (free : is_circular book nothing a ≡ false) (f : Cell → Option Value)
       (agrees : (b : Cell) → refers (Some (Formula t)) b ≡ true → f b ≡ known book no_overriding b) where
-    in_order : AreInOrder (Some (Formula t))
-    in_order = subst AreInOrder says (order a)
-
     looks_alike : looked_at f t ≡ looked_at (known book no_overriding) t
-    looks_alike = looked_alike f (known book no_overriding) t (of_referred (λ b. f b ≡ known book no_overriding b) t in_order agrees)
+    looks_alike = looked_alike f (known book no_overriding) t (of_referred (λ b. f b ≡ known book no_overriding b) t agrees)
 
     known_list : are_known f (looked_at f t) ≡ are_known (known book no_overriding) (looked_at (known book no_overriding) t)
     known_list =
-        all_alike f (known book no_overriding) (looked_at f t) (looked_among (λ b. f b ≡ known book no_overriding b) f t (of_referred (λ b. f b ≡ known book no_overriding b) t in_order agrees))
+        all_alike f (known book no_overriding) (looked_at f t) (looked_among (λ b. f b ≡ known book no_overriding b) f t (of_referred (λ b. f b ≡ known book no_overriding b) t agrees))
         ∙ ap (are_known (known book no_overriding)) looks_alike
 
     outcome_alike : outcome_of f t (looked_at f t) ≡ outcome_of (known book no_overriding) t (looked_at (known book no_overriding) t)
-    outcome_alike = outcomes_alike f (known book no_overriding) t (of_referred (λ b. f b ≡ known book no_overriding b) t in_order agrees)
+    outcome_alike = outcomes_alike f (known book no_overriding) t (of_referred (λ b. f b ≡ known book no_overriding b) t agrees)
 
     pub computed_right : (row : Row) → IsComputed f t row → IsRowOf book a row
     computed_right row is = record {
-      value = is.value ∙ ap (option_map cell_value) outcome_alike ∙ sym (known_is book no_overriding order a ∙ ap (λ c. known_by book c (entry book a)) free ∙ ap (known_by book false) says);
+      text = formula_text book a (ap is_formula says);
+      value = is.value ∙ ap (option_map cell_value) outcome_alike ∙ sym (known_is book no_overriding a ∙ ap (λ c. known_by book c (entry book a)) free ∙ ap (known_by book false) says);
       wide = is.wide ∙ wide_alike ∙ sym (ap (λ c. wide_by book c (entry book a)) free ∙ ap (wide_by book false) says);
-      looks = λ b h. subst (λ l. Contains l b) (sym (is.looks ∙ looks_alike)) (from_looks b h.1);
-      looked = λ b h. (refl, to_looks b (subst (λ l. Contains l b) (is.looks ∙ looks_alike) h));
+      looks = λ b h. subst (λ l. Contains l b) (sym (is.looks ∙ looks_alike)) (from_looks b h.2);
+      looked = λ b text h. (refl, text, to_looks b (subst (λ l. Contains l b) (is.looks ∙ looks_alike) h));
     }
       where
         wide_alike : entry_is_wide f (Some (Formula t)) ≡ entry_is_wide (known book no_overriding) (Some (Formula t))
@@ -84,13 +80,15 @@ module _ (book : Book) (order : HasAreasInOrder book) where
   module _ (a : Cell) (t : Tree) (says : entry book a ≡ Some (Formula t)) (circular : is_circular book nothing a ≡ true) where
     pub circular_right : (row : Row) → row.value ≡ Some (value.Error error.Circular) → row.is_wide ≡ false → row.looks.items ≡ flat_map cells_of (references_of t) → IsRowOf book a row
     circular_right row is narrow looks = record {
-      value = is ∙ sym (known_is book no_overriding order a ∙ ap (λ c. known_by book c (entry book a)) circular);
+      text = formula_text book a (ap is_formula says);
+      value = is ∙ sym (known_is book no_overriding a ∙ ap (λ c. known_by book c (entry book a)) circular);
       wide = narrow ∙ sym (ap (λ c. wide_by book c (entry book a)) circular);
-      looks = λ b h. subst (λ l. Contains l b) (sym looks) (contains_any (references_of t) b (subst (λ e. refers e b ≡ true) says (subst (λ c. LooksFrom c (known book no_overriding) (entry book a) b) circular h.1)));
-      looked = λ b h. (
+      looks = λ b h. subst (λ l. Contains l b) (sym looks) ((referred_are_cells t b).0 (subst (λ e. refers e b ≡ true) says (subst (λ c. LooksFrom c (known book no_overriding) (entry book a) b) circular h.2)));
+      looked = λ b text h. (
         refl,
+        text,
         subst (λ c. LooksFrom c (known book no_overriding) (entry book a) b) (sym circular)
-            (subst (λ e. refers e b ≡ true) (sym says) (refers_any t b (subst AreInOrder says (order a)) (subst (λ l. Contains l b) looks h))),
+            (subst (λ e. refers e b ≡ true) (sym says) ((referred_are_cells t b).1 (subst (λ l. Contains l b) looks h))),
       );
     }
 
@@ -101,7 +99,7 @@ module _ (book : Book) (order : HasAreasInOrder book) where
       other : (e : Option Entry) → entry book b ≡ e → is_formula e ≡ false → seen_by e (row_at rows b) ≡ entry_known (known book no_overriding) e → seen_in book rows b ≡ known book no_overriding b
       other e says plain same =
           ap (λ d. seen_by d (row_at rows b)) says ∙ same
-          ∙ sym (known_is book no_overriding order b ∙ ap (λ c. known_by book c (entry book b)) (not_circular (entry book b) _ (ap is_formula says ∙ plain)) ∙ ap (known_by book false) says)
+          ∙ sym (known_is book no_overriding b ∙ ap (λ c. known_by book c (entry book b)) (not_circular (entry book b) _ (ap is_formula says ∙ plain)) ∙ ap (known_by book false) says)
 
       formula : (o : Option Row) → row_at rows b ≡ o → is_some o ≡ true → value_in o ≡ known book no_overriding b
       formula None e h = absurd cc

@@ -1,14 +1,14 @@
 -- Rounds over all formulas compute the values of the definition.
-use Rattle.std.proofs.Common.{◌≡◌, ℕ, zero, suc, ◌+◌, Bool, true, false, cond, if◌then◌else◌, List, [], ◌∷◌, ◌++◌, length, map, Option, Some, None, refl, sym, ap, subst, ◌∙◌, arith, inl, inr}
-use Rattle.std.specs.Prelude.{◌&&◌, ◌⊎◌, is_some, not, slice_get}
+use Rattle.std.proofs.Common.{◌≡◌, ℕ, zero, suc, Bool, true, false, cond, if◌then◌else◌, List, [], ◌∷◌, ◌++◌, length, map, Option, Some, None, refl, sym, ap, ◌∙◌, inl, inr}
+use Rattle.std.specs.Prelude.{◌⊎◌, slice_get, ⊤}
 use Rattle.std.specs.BTreeMap.{is_at}
-use Rattle.std.specs.FinMap.{entries, keys}
+use Rattle.std.specs.FinMap.{entries}
 use Rattle.std.specs.FinSet as set
 use Rattle.cell_refs.specs.declared.cell.Cell.{Cell}
 use Rattle.cell_refs.specs.declared.error_kind.ErrorKind.TheVariants as error
 use Rattle.cell_refs.specs.Cells.{cell_cmp}
 use Rattle.cell_refs.proofs.Order.{exact_cells}
-use Rattle.dep_table.specs.Order.{IsOrder}
+use Rattle.dep_table.specs.Order.{HasFree, IsOrder}
 use Rattle.sheet_model.specs.declared.value.Value.{Value}
 use Rattle.sheet_model.specs.declared.value.Value.TheVariants as value
 use Rattle.recalculation.specs.Entries.{Book, Constant, Entry, Formula, Malformed, entry, no_overriding, nothing}
@@ -19,7 +19,7 @@ use Rattle.recalc.specs.declared.rows.Row.{Row}
 use Rattle.recalc.specs.Rounds.{IsRound}
 use Rattle.recalc.specs.Rows.{row_at, seen_by, seen_in, value_in}
 use Rattle.recalc.proofs.Members.{member_place, place_member}
-use Rattle.recalc.proofs.Right.{known_by, not_circular}
+use Rattle.recalc.proofs.Right.{not_circular}
 use Rattle.recalc.proofs.Walking.{equal_of}
 
 -- ---- two lists behind each other
@@ -43,7 +43,7 @@ in_right (x ∷ xs) ys q a h = let r = in_right xs ys q a h in (suc r.0, r.1)
 
 -- ---- all formulas: the circular ones, and the others in their order
 module _ (book : Book) (circular : set.FinSet cell_cmp) (cells order : List Cell) (is : set.from_list cells ≡ circular)
-    (right : (a : Cell) → set.contains circular a ≡ is_circular book nothing a) (ordered : IsOrder book nothing order) where
+    (right : (a : Cell) → set.contains circular a ≡ is_circular book nothing a) (ordered : IsOrder book nothing order) (free : HasFree book nothing (λ a. ⊤) order) where
   pub all_formulas : (p : ℕ) (a : Cell) → slice_get (cells ++ order) p ≡ Some a → is_formula (entry book a) ≡ true
   all_formulas p a h =
       elim (either_part cells order p a h) as (λ _. is_formula (entry book a) ≡ true) [
@@ -56,7 +56,7 @@ module _ (book : Book) (circular : set.FinSet cell_cmp) (cells order : List Cell
     where
       by : (b : Bool) → is_circular book nothing a ≡ b → (p : ℕ) × (slice_get (cells ++ order) p ≡ Some a)
       by true e = let r = member_place cells a (ap (λ s. set.contains s a) is ∙ right a ∙ e) in in_left cells order r.0 a r.2
-      by false e = let r = ordered.all a formula e in in_right cells order r.0 a r.1
+      by false e = let r = free a tt formula e in in_right cells order r.0 a r.1
 
 -- ---- a row that is put
 pub kept_value : (rows after : List (Cell × Row)) (cell : Cell) (row : Row) (wanted : Cell → Option Value)

@@ -1,5 +1,5 @@
 -- What is seen of a cell, by the kind of its text.
-use Rattle.std.proofs.Common.{◌≡◌, ℕ, Bool, true, false, if◌then◌else◌, List, [], Option, Some, None, refl, sym, ap, ◌∙◌}
+use Rattle.std.proofs.Common.{◌≡◌, ℕ, Bool, true, false, if◌then◌else◌, List, [], Option, Some, None, refl, ap}
 use Rattle.std.specs.Prelude.{is_some, unwrap_or}
 use Rattle.std.specs.Option.{option_map, option_map_or}
 use Rattle.std.specs.FinMap.{get}
@@ -10,12 +10,10 @@ use Rattle.cell_refs.specs.declared.cell.Cell.{Cell}
 use Rattle.cell_refs.specs.declared.error_kind.ErrorKind.TheVariants as error
 use Rattle.formula_ast.specs.Tree.{Tree}
 use Rattle.formula_grammar.specs.Words.{logical_in}
-use Rattle.sheet_model.specs.declared.value.Value.{Value}
 use Rattle.sheet_model.specs.declared.value.Value.TheVariants as value
 use Rattle.sheet_funcs.specs.Numerals.{narrow_value}
-use Rattle.recalculation.specs.Entries.{Book, Entry, Constant, Formula, Malformed, entry}
+use Rattle.recalculation.specs.Entries.{Entry, Constant, Formula, Malformed, entry}
 use Rattle.recalculation.specs.Walks.{is_formula}
-use Rattle.workbook.specs.declared.kind.Kind.{Kind}
 use Rattle.workbook.specs.declared.kind.Kind.TheVariants as kind
 use Rattle.workbook.specs.Contents.{content_of, kind_of, tree_of}
 use Rattle.workbook.specs.Kinds.{book_of, formula_tree, logical_or_text, number_or_other, says}

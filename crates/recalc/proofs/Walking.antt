@@ -1,6 +1,6 @@
 -- A walk goes on its way, and ends with the answer.
 use Rattle.std.proofs.Common.{◌≡◌, ◌≢◌, ℕ, ◌+◌, ◌<◌, Bool, true, false, cond, List, [], ◌∷◌, ◌++◌, length, Option, Some, None, refl, sym, ap, subst, ◌∙◌, arith, inl, inr}
-use Rattle.std.specs.Prelude.{Contains, ◌⊎◌, sum_by}
+use Rattle.std.specs.Prelude.{Contains, ◌⊎◌}
 use Rattle.std.specs.Ordering.{is_eq, is_gt, ordering_reverse}
 use Rattle.std.specs.declared.cmp.Ordering.{Ordering}
 use Rattle.std.specs.declared.cmp.Ordering.TheVariants.{Less, Equal, Greater}
@@ -14,7 +14,7 @@ use Rattle.cell_refs.specs.Cells.{cell_cmp}
 use Rattle.cell_refs.proofs.Order.{cells_total, exact_cells}
 use Rattle.recalc.specs.declared.rows.Row.{Row}
 use Rattle.recalc.specs.Rows.{row_at, looks_in}
-use Rattle.recalc.specs.Walks.{HasNone, IsAnswer, IsLeast, IsLesser, IsOnItsWay, IsSoFar, Reached, further, itself, wide_in}
+use Rattle.recalc.specs.Walks.{IsAnswer, IsLesser, IsOnItsWay, IsSoFar, Reached, further, itself, wide_in}
 
 pub equal_of : (r : Ordering) → is_eq r ≡ true → r ≡ Equal
 equal_of Less e = absurd cc

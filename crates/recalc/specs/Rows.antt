@@ -1,6 +1,7 @@
 -- Rows of values: what is computed of formula cells.
-use Rattle.std.specs.Prelude.{◌≡◌, ℕ, ◌+◌, Bool, true, false, List, Option, Some, None, is_some, length, sum_by, Contains, option_map}
+use Rattle.std.specs.Prelude.{◌≡◌, ℕ, true, List, Option, Some, None, is_some, length, sum_by, Contains, option_map}
 use Rattle.std.specs.BTreeMap.{is_at}
+use Rattle.std.specs.FinMap.{contains_key}
 use Rattle.std.specs.Map.{lookup}
 use Rattle.cell_refs.specs.declared.cell.Cell.{Cell}
 use Rattle.cell_refs.specs.declared.error_kind.ErrorKind.TheVariants as kind
@@ -18,12 +19,14 @@ use Rattle.recalc.specs.declared.rows.Row.{Row}
 abbrev pub row_at : List (Cell × Row) → Cell → Option Row
 row_at rows a = lookup (is_at (cell_cmp a)) rows
 
--- a row is that of a cell: its value, where it has a narrow one, whether it is wide, and the cells at which it looks
+-- a row is that of a cell with a text: its value, where it has a narrow one, whether it is wide, and the cells at which it looks,
+-- among others that have no text
 pub record IsRowOf (book : Book) (a : Cell) (row : Row) : Type 0 where
+  pub text : contains_key book.texts a ≡ true
   pub value : row.value ≡ known book no_overriding a
   pub wide : row.is_wide ≡ is_wide book no_overriding a
   pub looks : (b : Cell) → LooksAt book no_overriding a b → Contains row.looks.items b
-  pub looked : (b : Cell) → Contains row.looks.items b → LooksAt book no_overriding a b
+  pub looked : (b : Cell) → contains_key book.texts b ≡ true → Contains row.looks.items b → LooksAt book no_overriding a b
 
 -- rows of formula cells, each that of its cell
 pub record AreRows (book : Book) (rows : List (Cell × Row)) : Type 0 where

@@ -3,7 +3,7 @@ ghost use Rattle.std.specs.Prelude.{◌≡◌, ◌++◌, IfOk, OnOk, flat_map, t
 ghost use Rattle.std.specs.FinSet as set;
 ghost use Rattle.std.specs.List.{AllByRecursion};
 ghost use Rattle.cell_refs.specs.declared.cell.Cell.{Cell};
-ghost use Rattle.cell_refs.specs.Areas.{IsInOrder, cells_of};
+ghost use Rattle.cell_refs.specs.Areas.{cells_of};
 ghost use Rattle.formula_ast.specs.Measures.{references_of};
 ghost use Rattle.recalculation.specs.Entries.{nothing};
 ghost use Rattle.recalculation.specs.Walks.{is_circular};
@@ -19,15 +19,15 @@ use std::alloc::Global;
 use std::collections::BTreeMap;
 use workbook::Workbook;
 
-/// The rows of the circular cells. Each looks at all the cells to which it refers.
+/// The rows of circular cells. Each looks at all the cells to which it refers.
 pub(crate) fn circular_rows(
     alloc: Global,
     book: &Workbook,
     circular: &CellSet,
 ) -> Result<BTreeMap<Cell, Row>, Memory>
-    requires { (a : Cell) → set.contains circular.now a ≡ is_circular (book_of book.now) nothing a }
+    requires { (a : Cell) → set.contains circular.now a ≡ true → is_circular (book_of book.now) nothing a ≡ true }
     ensures right { IfOk result (λ rows. AreRows (book_of book.now) rows.entries) }
-    ensures all { IfOk result (λ rows. (a : Cell) → is_circular (book_of book.now) nothing a ≡ true → HasRow rows.entries a) }
+    ensures all { IfOk result (λ rows. (a : Cell) → set.contains circular.now a ≡ true → HasRow rows.entries a) }
 {
     let mut rows = BTreeMap::new(alloc);
     let cells = circular.cells(alloc)?;
@@ -50,7 +50,6 @@ fn put_circular(
     ensures kept { OnOk result ((a : Cell) → HasRow rows.old.entries a → HasRow rows.new.entries a) }
     ensures put { OnOk result (HasRow rows.new.entries cell) }
 {
-    book.areas_are_in_order();
     let Some(tree) = book.tree(cell) else {
         unreachable!();
     };
@@ -68,7 +67,6 @@ fn put_circular(
 fn referred_cells(alloc: Global, tree: &Expr) -> Result<Vec<Cell>, Memory>
     ensures { IfOk result (λ cells. cells.items ≡ flat_map cells_of (references_of tree.now)) }
 {
-    tree.soundness();
     let Ok(areas) = tree.references(alloc) else {
         return Err(Memory);
     };
@@ -81,7 +79,6 @@ fn referred_cells(alloc: Global, tree: &Expr) -> Result<Vec<Cell>, Memory>
 
 // Puts the cells of an area behind others.
 fn push_cells(area: &Area, cells: &mut Vec<Cell>) -> Result<(), Memory>
-    requires { IsInOrder area.now }
     ensures { OnOk result (cells.new.items ≡ cells.old.items ++ cells_of area.now) }
 {
     for place in 0..area.len() {

@@ -1,5 +1,5 @@
 // Filling rows.
-ghost use Rattle.std.specs.Prelude.{◌≡◌, IfOk, OnOk, Some, false, true, option_map};
+ghost use Rattle.std.specs.Prelude.{◌≡◌, IfOk, OnOk, Some, false, true, option_map, slice_get, ℕ};
 ghost use Rattle.std.specs.FinSet as set;
 ghost use Rattle.cell_refs.specs.declared.cell.Cell.{Cell};
 ghost use Rattle.dep_table.specs.Order.{IsOrder};
@@ -20,7 +20,7 @@ use std::alloc::Global;
 use std::collections::BTreeMap;
 use workbook::Workbook;
 
-/// Fills in the rows of the formulas that aren't circular.
+/// Fills in the rows of formulas that aren't circular, in an order of them.
 pub(crate) fn fill(
     alloc: Global,
     book: &Workbook,
@@ -31,7 +31,7 @@ pub(crate) fn fill(
     requires right { AreRows (book_of book.now) rows.old.entries }
     ensures right { OnOk result (AreRows (book_of book.now) rows.new.entries) }
     ensures kept { OnOk result ((a : Cell) → HasRow rows.old.entries a → HasRow rows.new.entries a) }
-    ensures filled { OnOk result ((a : Cell) → is_formula (entry (book_of book.now) a) ≡ true → is_circular (book_of book.now) nothing a ≡ false → HasRow rows.new.entries a) }
+    ensures filled { OnOk result ((p : ℕ) (a : Cell) → slice_get order.now p ≡ Some a → HasRow rows.new.entries a) }
 {
     for &cell in order {
         put_row(alloc, book, cell, rows)?;
@@ -53,7 +53,6 @@ fn put_row(
     ensures kept { OnOk result ((a : Cell) → HasRow rows.old.entries a → HasRow rows.new.entries a) }
     ensures filled { OnOk result (is_formula (entry (book_of book.now) cell) ≡ true → HasRow rows.new.entries cell) }
 {
-    book.areas_are_in_order();
     let Some(tree) = book.tree(cell) else {
         return Ok(());
     };

@@ -16,14 +16,14 @@ use sheet_model::Memory;
 use std::alloc::Global;
 use workbook::Workbook;
 
-/// The value of a cell as recalculation gives it, or the least wide cell at which it looks, itself or by others.
+/// The value of a cell as recalculation gives it, or the least wide cell at which it looks, itself or by others. Only the formulas
+/// are computed to which references lead from the cell.
 pub fn value(alloc: Global, book: &Workbook, deps: &Deps, cell: Cell) -> Result<Shown, Memory>
     requires { AreReferencesOf deps.now (book_of book.now) }
     ensures { IfOk result (IsShown (book_of book.now) cell) }
 {
-    book.areas_are_in_order();
     let leaves = CellSet::new(alloc);
-    let tour = deps.tour(alloc, &leaves)?;
+    let tour = deps.tour_from(alloc, &leaves, cell)?;
     let mut rows = circular_rows(alloc, book, &tour.circular)?;
     fill(alloc, book, &tour.order, &mut rows)?;
     let value = Seen { book, rows: &rows }.value(alloc, cell)?;

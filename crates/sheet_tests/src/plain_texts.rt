@@ -61,8 +61,8 @@ fn is_at(cell: Cell, area: Area) -> Is {
 }
 
 fn is_between(area: Area) -> Is {
-    if area.sheet == HOME {
-        Is::Between(area.top, area.left, area.bottom, area.right)
+    if area.sheet() == HOME {
+        Is::Between(area.top(), area.left(), area.bottom(), area.right())
     } else {
         Is::Several
     }

@@ -1,7 +1,8 @@
-use Rattle.std.proofs.Common.{◌≡◌, ◌∙◌, ◌+◌, ◌*◌, Some, arith, ap, get_or, length, slice_get, ℕ}
+use Rattle.std.proofs.Common.{◌≡◌, ◌∙◌, ◌+◌, ◌*◌, Some, arith, ap, get_or, length, slice_get, sym, ℕ}
 use Rattle.std.proofs.lemmas.Option.{slice_get-get_or}
 use Rattle.dep_table.specs.declared.formulas.Formula.{Formula}
-use Rattle.dep_table.specs.Edges.{number}
+use Rattle.cell_refs.specs.Areas.{Area}
+use Rattle.dep_table.specs.Edges.{number, reaches}
 use Rattle.dep_table.proofs.Following.{none_left, stands, up_to}
 use Rattle.dep_table.proofs.SlotLaws.{leaf_stays, slot_number}
 use Rattle.dep_table.proofs.find.next_reference.Goals as goal
@@ -14,7 +15,8 @@ returns-in-Some-clause-slot c =
     let f : Formula = get_or c.args.formulas.now c.args.node c.index-formulas-node.result in
     let at : slice_get c.args.formulas.now c.args.node ≡ Some f = slice_get-get_or c.args.formulas.now c.args.node c.index-formulas-node.result c.requires.node in
     stands c.args.formulas.now c.args.leaves.now c.args.node f c.if-leaves-node.false at c.as_slice-areas.result.now c.as_slice-areas.ensures.value
-    c.loop-area.area _ (omega (arith, c.loop-area-test.true, c.as_slice-areas.ensures.len)) c.in-Some.found
+    c.loop-area.area c.index-areas-area.result (omega (arith, c.loop-area-test.true, c.as_slice-areas.ensures.len)) c.in-Some.found
+    ∙ ap (λ (x : Area). reaches x (slice_get c.args.formulas.now c.in-Some.found)) (sym c.index-areas-area.is)
     ∙ c.in-Some.ensures.reached
 
 pub returns-in-Some-clause-place : goal.returns-in-Some-clause-place
@@ -35,7 +37,8 @@ returns-in-Some-clause-first c =
     (number (length c.args.formulas.now) c.args.from) c.loop-area.area c.loop-area.place c.loop-area.invariant.past
     c.in-Some.found (omega (arith, c.in-Some.ensures.place.1))
     (λ k h l. stands c.args.formulas.now c.args.leaves.now c.args.node f c.if-leaves-node.false at c.as_slice-areas.result.now c.as_slice-areas.ensures.value
-    c.loop-area.area _ (omega (arith, c.loop-area-test.true)) k
+    c.loop-area.area c.index-areas-area.result (omega (arith, c.loop-area-test.true)) k
+    ∙ ap (λ (x : Area). reaches x (slice_get c.args.formulas.now k)) (sym c.index-areas-area.is)
     ∙ c.in-Some.ensures.first k h l)
 
 pub loop-area-preserved : goal.loop-area-preserved
@@ -51,7 +54,8 @@ loop-area-preserved c =
           (number (length c.args.formulas.now) c.args.from) c.loop-area.area c.loop-area.place c.loop-area.invariant.past
           n (omega arith)
           (λ k h l. stands c.args.formulas.now c.args.leaves.now c.args.node f c.if-leaves-node.false at c.as_slice-areas.result.now c.as_slice-areas.ensures.value
-          c.loop-area.area _ (omega (arith, c.loop-area-test.true)) k
+          c.loop-area.area c.index-areas-area.result (omega (arith, c.loop-area-test.true)) k
+          ∙ ap (λ (x : Area). reaches x (slice_get c.args.formulas.now k)) (sym c.index-areas-area.is)
           ∙ c.in_default.ensures.none k h)
           b k h (omega (arith, l, row));
     }

@@ -1,6 +1,6 @@
 use Rattle.std.proofs.lemmas.List.Elements.{All-push}
 use Rattle.plain_sheets.specs.Names.{names_of}
-use Rattle.plain_sheets.specs.Settings.{IsConstraintInOrder}
+use Rattle.plain_sheets.specs.Settings.{HasSidesOfASize}
 use Rattle.plain_sheets.proofs.StatementLaws.{one_more, none_there}
 use Rattle.plain_sheets.proofs.statement.read_constraints.Goals as goal
 
@@ -11,5 +11,5 @@ returns-in_default-clause-value c =
 pub loop-k-preserved : goal.loop-k-preserved
 loop-k-preserved c = record {
   value = rw c.in_ok-push.ensures.items (one_more c.args.home (names_of c.args.book.now c.args.home) _ c.loop-k.all.items c.loop-k.k c.args.count c.in-Some.one c.loop-k-test.true c.loop-k.invariant.value (rw c.in-Some.is at c.in_ok-one.ensures.value));
-  order = rw c.in_ok-push.ensures.items (All-push IsConstraintInOrder c.loop-k.all.items c.in-Some.one c.loop-k.invariant.order (rw c.in-Some.is at c.in_ok-one.ensures.order));
+  sizes = rw c.in_ok-push.ensures.items (All-push HasSidesOfASize c.loop-k.all.items c.in-Some.one c.loop-k.invariant.sizes (rw c.in-Some.is at c.in_ok-one.ensures.sizes));
 }

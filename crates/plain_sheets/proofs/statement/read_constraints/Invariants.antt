@@ -2,7 +2,7 @@ use Rattle.std.proofs.Common.{◌≡◌, ◌-◌}
 use Rattle.std.specs.Prelude.{All}
 use Rattle.plain_sheets.specs.Names.{names_of}
 use Rattle.plain_sheets.specs.Statement.{constraints_named}
-use Rattle.plain_sheets.specs.Settings.{IsConstraintInOrder}
+use Rattle.plain_sheets.specs.Settings.{HasSidesOfASize}
 use Rattle.plain_sheets.proofs.StatementLaws.{after_constraints}
 use Rattle.plain_sheets.proofs.statement.read_constraints.Given as goal
 
@@ -10,5 +10,5 @@ use Rattle.plain_sheets.proofs.statement.read_constraints.Given as goal
 abbrev pub invariant-loop-k : goal.invariant-loop-k
 invariant-loop-k l = record {
   value : constraints_named l.home (names_of l.book l.home) 0 l.count ≡ after_constraints l.all.items (constraints_named l.home (names_of l.book l.home) l.k (l.count - l.k));
-  order : All IsConstraintInOrder l.all.items;
+  sizes : All HasSidesOfASize l.all.items;
 }

@@ -1,11 +1,11 @@
-use Rattle.std.proofs.Common.{◌≡◌, ◌<◌, ◌+◌, ℕ, Some, true, false, ap, arith, refl, subst, sym, ◌∙◌}
+use Rattle.std.proofs.Common.{◌≡◌, Some, true, ap, arith, subst, sym, ◌∙◌}
 use Rattle.std.specs.FinSet as set
 use Rattle.std.specs.Prelude.{slice_get, slice_index_or}
 use Rattle.std.proofs.lemmas.Option.{slice_get-get_or}
 use Rattle.cell_refs.specs.declared.cell.Cell.{Cell}
 use Rattle.cell_refs.specs.Cells.{cell_cmp}
 use Rattle.recalc.specs.Rows.{HasRow}
-use Rattle.recalc.proofs.Members.{before_or_at, member_place, no_rows, none_before, place_member, place_within, same_cell}
+use Rattle.recalc.proofs.Members.{before_or_at, member_place, no_rows, none_before, place_member, same_cell}
 use Rattle.recalc.proofs.circular.circular_rows.Goals as goal
 
 abbrev here : Cell
@@ -17,10 +17,10 @@ loop-cell-init c = record { right = no_rows _ c.new-rows.result.entries c.new-ro
 pub put_circular-requires-clause-circular : goal.put_circular-requires-clause-circular
 put_circular-requires-clause-circular c =
     let at = slice_get-get_or c.as_slice-cell-items.result.now c.loop-cell.cell-index here c.loop-cell-test.true in
-    sym (c.requires _)
-    ∙ ap (λ s. set.contains s (slice_index_or c.as_slice-cell-items.result.now c.loop-cell.cell-index here)) (sym c.in_ok-cells.ensures)
+    c.requires _
+    (ap (λ s. set.contains s (slice_index_or c.as_slice-cell-items.result.now c.loop-cell.cell-index here)) (sym c.in_ok-cells.ensures.all)
     ∙ ap (λ l. set.contains (set.from_list {R = cell_cmp} l) (slice_index_or c.as_slice-cell-items.result.now c.loop-cell.cell-index here)) (sym c.as_slice-cell-items.ensures.value)
-    ∙ place_member c.as_slice-cell-items.result.now c.loop-cell.cell-index _ at
+    ∙ place_member c.as_slice-cell-items.result.now c.loop-cell.cell-index _ at)
 
 pub put_circular-requires-clause-right : goal.put_circular-requires-clause-right
 put_circular-requires-clause-right c = c.loop-cell.invariant.right
@@ -43,7 +43,7 @@ returns-clause-right c = c.loop-cell.invariant.right
 pub returns-clause-all : goal.returns-clause-all
 returns-clause-all c a circular =
     let has : set.contains (set.from_list {R = cell_cmp} c.as_slice-cell-items.result.now) a ≡ true =
-    ap (λ l. set.contains (set.from_list {R = cell_cmp} l) a) c.as_slice-cell-items.ensures.value ∙ ap (λ s. set.contains s a) c.in_ok-cells.ensures ∙ c.requires a ∙ circular in
+    ap (λ l. set.contains (set.from_list {R = cell_cmp} l) a) c.as_slice-cell-items.ensures.value ∙ ap (λ s. set.contains s a) c.in_ok-cells.ensures.all ∙ circular in
     let found = member_place c.as_slice-cell-items.result.now a has in
     let end = c.loop-cell-test.false in
     c.loop-cell.invariant.filled found.0 a (omega (arith, found.1, end)) found.2

@@ -1,8 +1,6 @@
 use Rattle.std.proofs.Common.{◌≡◌, ◌<◌, ℕ, Some}
-use Rattle.std.specs.FinSet as set
 use Rattle.std.specs.Prelude.{slice_get}
 use Rattle.cell_refs.specs.declared.cell.Cell.{Cell}
-use Rattle.cell_refs.specs.Cells.{cell_cmp}
 use Rattle.recalc.specs.Rows.{AreRows, HasRow}
 use Rattle.workbook.specs.Kinds.{book_of}
 use Rattle.recalc.proofs.circular.circular_rows.Given as goal

@@ -1,8 +1,8 @@
-use Rattle.std.proofs.Common.{◌≡◌, ◌++◌, ◌∷◌, [], ◌+◌, ap, arith, map, refl, sym, ◌∙◌}
+use Rattle.std.proofs.Common.{◌++◌, ◌∷◌, [], ap, arith, map, sym, ◌∙◌}
 use Rattle.std.specs.List.{range_with_len}
 use Rattle.std.proofs.lemmas.List.{append_assoc, append-nil}
 use Rattle.std.proofs.lemmas.List.FromFn.{map-range_with_len_more}
-use Rattle.cell_refs.specs.Areas.{area_len, cell_at}
+use Rattle.cell_refs.specs.Areas.{cell_at}
 use Rattle.recalc.proofs.circular.push_cells.Goals as goal
 
 pub loop-place-init : goal.loop-place-init

@@ -10,4 +10,4 @@ returns-clause-right c =
     let book = book_of c.args.book.now in
     let says = tree_entry (entry book c.args.cell) c.in-Some.tree.now c.in-Some.ensures in
     put_right book c.args.rows.now.entries c.put.new.rows.entries c.args.cell _ c.requires.right c.in_ok-put.ensures
-    (circular_right book c.areas_are_in_order.ensures c.args.cell c.in-Some.tree.now says c.requires.circular _ refl refl c.in_ok-looks.ensures)
+    (circular_right book c.args.cell c.in-Some.tree.now says c.requires.circular _ refl refl c.in_ok-looks.ensures)

@@ -1,6 +1,5 @@
 use Rattle.std.proofs.Common.{◌≡◌, flat_map, take}
 use Rattle.cell_refs.specs.Areas.{cells_of}
-use Rattle.formula_ast.specs.Measures.{references_of}
 use Rattle.recalc.proofs.circular.referred_cells.Given as goal
 
 abbrev pub invariant-loop-area : goal.invariant-loop-area

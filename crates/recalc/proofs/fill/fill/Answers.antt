@@ -1,10 +1,8 @@
-use Rattle.std.proofs.Common.{◌≡◌, ◌<◌, ◌+◌, ℕ, Some, true, false, arith, refl, subst, sym, ◌∙◌}
+use Rattle.std.proofs.Common.{◌≡◌, Some, arith, subst, sym, ◌∙◌}
 use Rattle.std.specs.Prelude.{slice_get, slice_index_or}
 use Rattle.std.proofs.lemmas.Option.{slice_get-get_or}
 use Rattle.cell_refs.specs.declared.cell.Cell.{Cell}
-use Rattle.recalculation.specs.Entries.{entry}
 use Rattle.recalc.specs.Rows.{HasRow}
-use Rattle.workbook.specs.Kinds.{book_of}
 use Rattle.recalc.proofs.Members.{before_or_at, none_before, place_within, same_cell}
 use Rattle.recalc.proofs.fill.fill.Goals as goal
 
@@ -42,8 +40,7 @@ pub returns-clause-kept : goal.returns-clause-kept
 returns-clause-kept c = c.loop-cell.invariant.kept
 
 pub returns-clause-filled : goal.returns-clause-filled
-returns-clause-filled c a formula free =
-    let found = c.requires.order.all a formula free in
-    let less = place_within c.args.order.now found.0 a found.1 in
+returns-clause-filled c p a at =
+    let less = place_within c.args.order.now p a at in
     let end = c.loop-cell-test.false in
-    c.loop-cell.invariant.filled found.0 a (omega (arith, less, end)) found.1
+    c.loop-cell.invariant.filled p a (omega (arith, less, end)) at

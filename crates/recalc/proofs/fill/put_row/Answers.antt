@@ -1,4 +1,4 @@
-use Rattle.std.proofs.Common.{ap, sym, ◌∙◌}
+use Rattle.std.proofs.Common.{ap, ◌∙◌}
 use Rattle.recalculation.specs.Entries.{entry}
 use Rattle.workbook.specs.Kinds.{book_of}
 use Rattle.recalc.specs.Rows.{seen_in}
@@ -12,6 +12,6 @@ returns-clause-right c =
     let book = book_of c.args.book.now in
     let says = tree_entry (entry book c.args.cell) c.in-Some.tree.now c.in-Some.ensures in
     put_right book c.args.rows.now.entries c.put.new.rows.entries c.args.cell c.in_ok-row.row c.requires.right c.in_ok-put.ensures
-    (computed_right book c.areas_are_in_order.ensures c.args.cell c.in-Some.tree.now says c.requires.free (seen_in book c.args.rows.now.entries)
-    (λ b h. seen_known book c.areas_are_in_order.ensures c.args.rows.now.entries c.requires.right b (c.requires.ready b (ap (λ e. refers e b) says ∙ h)))
+    (computed_right book c.args.cell c.in-Some.tree.now says c.requires.free (seen_in book c.args.rows.now.entries)
+    (λ b h. seen_known book c.args.rows.now.entries c.requires.right b (c.requires.ready b (ap (λ e. refers e b) says ∙ h)))
     c.in_ok-row.row c.in_ok-row.ensures)

@@ -1,4 +1,4 @@
-use Rattle.std.proofs.Common.{◌≡◌, ◌<◌, ◌+◌, ℕ, Some, arith, subst, sym, ◌∙◌}
+use Rattle.std.proofs.Common.{◌≡◌, Some, arith, subst, sym, ◌∙◌}
 use Rattle.std.specs.Prelude.{slice_get, slice_index_or}
 use Rattle.std.proofs.lemmas.Option.{slice_get-get_or}
 use Rattle.cell_refs.specs.declared.cell.Cell.{Cell}

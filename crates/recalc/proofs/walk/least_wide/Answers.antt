@@ -4,7 +4,7 @@ use Rattle.std.specs.Map.{remove_entry}
 use Rattle.std.proofs.lemmas.List.{length-append}
 use Rattle.cell_refs.specs.Cells.{cell_cmp}
 use Rattle.recalc.specs.Rows.{looks_in, row_at}
-use Rattle.recalc.specs.Walks.{IsAnswer, IsOnItsWay}
+use Rattle.recalc.specs.Walks.{IsOnItsWay}
 use Rattle.recalc.proofs.Walking.{begun, ended, lookup_size, none_on, skipped, taken}
 use Rattle.recalc.proofs.walk.least_wide.Goals as goal
 

@@ -1,4 +1,4 @@
-use Rattle.std.proofs.Common.{◌≡◌, Some, ap, sym, ◌∙◌}
+use Rattle.std.proofs.Common.{Some, ap, sym, ◌∙◌}
 use Rattle.recalculation.specs.Entries.{entry}
 use Rattle.sheet_model.specs.declared.value.Value.TheVariants.{Text}
 use Rattle.workbook.specs.Kinds.{book_of}
