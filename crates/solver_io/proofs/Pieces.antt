@@ -4,7 +4,7 @@ use Rattle.std.proofs.lemmas.List.{take-append-drop}
 use Rattle.std.proofs.Math.Seq.{take-append_seam}
 use Rattle.std.proofs.KnownBytes.{Appends-nil, Appends-trans}
 use Rattle.std.specs.Io.KnownBytes.{Appends, Keeps}
-use Rattle.solver_io.specs.Bytes.{AppendsSome}
+use Rattle.solver_io.specs.Moving.{AppendsSome}
 
 -- the piece but for this rest was appended
 pub record Underway (old new : Option (List ℕ)) (piece rest : List ℕ) : Type 0 where

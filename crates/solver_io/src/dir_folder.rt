@@ -1,7 +1,8 @@
 // The folder over the working directory. It tells no content.
 ghost use Rattle.std.specs.Prelude.{◌≡◌, ◌≢◌, ◌≤◌, ◌↔◌, []};
 ghost use Rattle.std.specs.IoError.{error_kind};
-ghost use Rattle.solver_io.specs.Files.{LeavesIn, PutCause, ReadCause};
+ghost use Rattle.solver_io.specs.Bytes.{PutCause};
+ghost use Rattle.solver_io.specs.Files.{LeavesIn, ReadCause};
 ghost use Rattle.solver_io.specs.Memory.{count_after_put, count_after_read};
 
 use crate::transfers::{put_all, take_all};

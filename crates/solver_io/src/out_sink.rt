@@ -1,6 +1,6 @@
 // The sink over standard output. It tells no content.
 ghost use Rattle.std.specs.Prelude.{◌≡◌, ◌≤◌};
-ghost use Rattle.solver_io.specs.Bytes.{SinkCause};
+ghost use Rattle.solver_io.specs.Bytes.{PutCause};
 ghost use Rattle.solver_io.specs.Memory.{count_after_put};
 
 use crate::transfers::put_all;
@@ -35,13 +35,13 @@ impl<R: Runtime> OutSink<R> {
 impl<R: Runtime> Sink for OutSink<R> {
     ghost use Rattle.std.specs.Prelude.{None};
 
-    ghost written = { λ _. None };
+    ghost pieces = { λ _. None };
 
     ghost faults = { λ s. s };
 
     fn write(&mut self, piece: &[u8]) -> Result<(), PutEnd>
         ensures later { self.old ≤ self.new }
-        ensures cause { SinkCause self.old self.new result }
+        ensures cause { PutCause self.old self.new result }
         ensures counted { self.new ≡ count_after_put self.old result }
     {
         if put_all(&mut io::writer(&self.rt), piece).is_err() {

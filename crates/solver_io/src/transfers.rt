@@ -1,7 +1,7 @@
 // Whole pieces and whole files, by the calls of a reader and a writer that may move less.
 ghost use Rattle.std.specs.Prelude.{◌≡◌, ◌≢◌, []};
-ghost use Rattle.solver_io.specs.Bytes.{SinkAppends};
 ghost use Rattle.solver_io.specs.Files.{LeavesIn, TakesAll};
+ghost use Rattle.solver_io.specs.Moving.{AppendsPiece};
 
 use crate::{Failed, ReadEnd};
 use std::io::{Read, Write};
@@ -10,7 +10,7 @@ const CHUNK: usize = 4096;
 
 // Writes the whole piece. A write that takes nothing is a fault.
 pub(crate) fn put_all<W: Write>(to: &mut W, piece: &[u8]) -> Result<(), Failed>
-    ensures { SinkAppends (W.contents to.old) (W.contents to.new) piece.now result }
+    ensures { AppendsPiece (W.contents to.old) (W.contents to.new) piece.now result }
 {
     let mut rest = piece;
     while !rest.is_empty() {
