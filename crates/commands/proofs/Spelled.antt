@@ -9,9 +9,10 @@ use Rattle.std.proofs.lemmas.List.{take-append-drop}
 use Rattle.std.proofs.lemmas.List.Folds.{length-prefix_len}
 use Rattle.std.proofs.lemmas.Option.{cond_some, none-some, option_and_then_some, same_Some}
 use Rattle.cell_refs.specs.Address.{behind_letters, letter_count_of, letters_of, without_dollar}
-use Rattle.cell_refs.specs.Names.{doubled, is_plain}
-use Rattle.commands.specs.Addresses.{Address, address_in, address_of, at_last_mark, behind_quote, is_mark, is_number, is_place, name_in, placed, unquoted, with_byte}
-use Rattle.commands.specs.Spelling.{IsDollar, Spells, SpellsName}
+use Rattle.cell_refs.specs.Sheets.{SpellsSheet, sheet_in}
+use Rattle.cell_refs.proofs.SheetReading.{sheets_are_spelled}
+use Rattle.commands.specs.Addresses.{Address, address_in, address_of, at_last_mark, is_mark, is_number, is_place, placed, with_byte}
+use Rattle.commands.specs.Spelling.{IsDollar, Spells}
 
 pub both : (a b : Bool) → (a && b) ≡ true → (a ≡ true) × (b ≡ true)
 both true b h = (refl, h)
@@ -46,36 +47,6 @@ dollar_of (b ∷ text) = elim (b == 36) as (λ x. (b == 36) ≡ x → (d : List 
   | false ↦ λ is. ([], inl refl, refl)
 ] refl
 
--- ---- names
-mutual
-  quoted_spelled : (text name : List ℕ) → unquoted text ≡ Some name → text ≡ doubled name ++ 39 ∷ []
-  quoted_spelled [] name e = absurd (none-some name e)
-  quoted_spelled (b ∷ text) name e =
-      elim (b == 39) as (λ x. (b == 39) ≡ x → cond x (behind_quote text) (option_map (λ n. b ∷ n) (unquoted text)) ≡ Some name → b ∷ text ≡ doubled name ++ 39 ∷ []) [
-        | true ↦ λ is h. ap (λ c. c ∷ text) (eqb-true b 39 is) ∙ behind_spelled text name h
-        | false ↦ λ is h.
-            let m = mapped (λ n. b ∷ n) (unquoted text) name h in
-            ap (λ l. b ∷ l) (quoted_spelled text m.0 m.1) ∙ sym (ap (λ x. cond x (39 ∷ 39 ∷ doubled m.0) (b ∷ doubled m.0) ++ 39 ∷ []) is) ∙ ap (λ l. doubled l ++ 39 ∷ []) m.2
-      ] refl e
-
-  behind_spelled : (text name : List ℕ) → behind_quote text ≡ Some name → 39 ∷ text ≡ doubled name ++ 39 ∷ []
-  behind_spelled [] name e = ap (λ l. doubled l ++ 39 ∷ []) (same_Some [] name e)
-  behind_spelled (b ∷ text) name e =
-      elim (b == 39) as (λ x. (b == 39) ≡ x → cond x (option_map (λ n. 39 ∷ n) (unquoted text)) None ≡ Some name → 39 ∷ b ∷ text ≡ doubled name ++ 39 ∷ []) [
-        | true ↦ λ is h.
-            let m = mapped (λ n. 39 ∷ n) (unquoted text) name h in
-            ap (λ c. 39 ∷ c ∷ text) (eqb-true b 39 is) ∙ ap (λ l. 39 ∷ 39 ∷ l) (quoted_spelled text m.0 m.1) ∙ ap (λ l. doubled l ++ 39 ∷ []) m.2
-        | false ↦ λ is h. absurd (none-some name h)
-      ] refl e
-
-name_spelled : (text name : List ℕ) → name_in text ≡ Some name → SpellsName text name
-name_spelled [] name e = absurd (none-some name e)
-name_spelled (b ∷ text) name e =
-    elim (b == 39) as (λ x. (b == 39) ≡ x → cond x (unquoted text) (cond (is_plain (b ∷ text)) (Some (b ∷ text)) None) ≡ Some name → SpellsName (b ∷ text) name) [
-      | true ↦ λ is h. inr (ap (λ c. c ∷ text) (eqb-true b 39 is) ∙ ap (λ l. 39 ∷ l) (quoted_spelled text name h))
-      | false ↦ λ is h. inl (cond_some (is_plain (b ∷ text)) (b ∷ text) name h)
-    ] refl e
-
 -- ---- letters
 letters_pass : (p : ℕ → Bool) (xs : List ℕ) → list_all p (take (prefix_len p xs) xs) ≡ true
 letters_pass p [] = refl
@@ -94,30 +65,27 @@ cond_then false o y h = absurd (none-some y h)
 pub spelled : (text : List ℕ) (a : Address) → address_in text ≡ Some a → Spells text a
 spelled text a e = option_and_then_some address_of (at_last_mark text) a e (λ p at is.
     let m = parted text p at in
-    let split = cond_then (is_place p.1) (option_map (placed p.1) (name_in (without_dollar p.0))) a is in
-    let name = mapped (placed p.1) (name_in (without_dollar p.0)) a split.1 in
+    let split = cond_then (is_place p.1) (option_map (placed p.1) (sheet_in p.0)) a is in
+    let name = mapped (placed p.1) (sheet_in p.0) a split.1 in
     let count = letter_count_of p.1 in
     let rest = drop count (without_dollar p.1) in
-    let first = dollar_of p.0 in
     let second = dollar_of p.1 in
     let third = dollar_of rest in
     let place = both (nat_lt 0 count) (is_number (behind_letters p.1)) split.0 in
     let number = both (nat_lt 0 (length (behind_letters p.1))) (all_ascii_digits (behind_letters p.1)) place.1 in
     record {
-      first = first.0;
-      name = without_dollar p.0;
+      sheet = p.0;
       mark = m.0;
-      second = second.0;
+      before = second.0;
       letters = letters_of p.1;
-      third = third.0;
+      between = third.0;
       digits = behind_letters p.1;
-      whole = m.2 ∙ ap (λ l. l ++ m.0 ∷ p.1) first.2
-          ∙ ap (λ l. (first.0 ++ without_dollar p.0) ++ m.0 ∷ l)
+      whole = m.2
+          ∙ ap (λ l. p.0 ++ m.0 ∷ l)
           (second.2 ∙ ap (λ l. second.0 ++ l) (sym (take-append-drop count (without_dollar p.1)) ∙ ap (λ l. letters_of p.1 ++ l) third.2));
-      before_name = first.1;
       before_letters = second.1;
       before_digits = third.1;
-      is_name = subst (SpellsName (without_dollar p.0)) (ap (λ (b : Address). b.name) name.2) (name_spelled (without_dollar p.0) name.0 name.1);
+      names = subst (SpellsSheet p.0) (ap (λ (b : Address). b.name) name.2) ((sheets_are_spelled p.0 name.0).0 name.1);
       is_one = m.1;
       some_letters = subst (λ n. 0 < n) (sym (length-prefix_len is_ascii_alphabetic (without_dollar p.1))) (ltb-true 0 count place.0);
       all_letters = letters_pass is_ascii_alphabetic (without_dollar p.1);

@@ -9,9 +9,10 @@ use Rattle.std.proofs.lemmas.Bool.{eqb-true, lt-ltb}
 use Rattle.std.proofs.lemmas.Bool.Decides.{nat_tests}
 use Rattle.std.proofs.Math.Seq.{take-append_seam, drop-append_seam}
 use Rattle.cell_refs.specs.Address.{behind_letters, column_number, letter_count_of, letters_of, without_dollar}
-use Rattle.cell_refs.specs.Names.{begins_word, doubled, goes_on_word, is_plain}
-use Rattle.commands.specs.Addresses.{Address, address_in, address_of, at_last_mark, behind_quote, is_mark, is_number, is_place, name_in, placed, unquoted, with_byte}
-use Rattle.commands.specs.Spelling.{IsDollar, Spells, SpellsName}
+use Rattle.cell_refs.specs.Sheets.{sheet_in}
+use Rattle.cell_refs.proofs.SheetReading.{sheets_are_spelled}
+use Rattle.commands.specs.Addresses.{Address, address_in, address_of, at_last_mark, is_mark, is_number, is_place, placed, with_byte}
+use Rattle.commands.specs.Spelling.{IsDollar, Spells}
 use Rattle.commands.proofs.Marks.{all_digits, last_at}
 use Rattle.commands.proofs.Spelled.{both}
 
@@ -30,12 +31,6 @@ digit_no_dollar b h = grind (arith, nat_tests, h)
 
 digit_no_letter : (b : ℕ) → is_ascii_digit b ≡ true → is_ascii_alphabetic b ≡ false
 digit_no_letter b h = grind (arith, nat_tests, h)
-
-word_no_dollar : (b : ℕ) → begins_word b ≡ true → (b == 36) ≡ false
-word_no_dollar b h = grind (arith, nat_tests, h)
-
-word_no_quote : (b : ℕ) → begins_word b ≡ true → (b == 39) ≡ false
-word_no_quote b h = grind (arith, nat_tests, h)
 
 -- ---- marks
 none_before : (p : ℕ → Bool) → ((b : ℕ) → p b ≡ true → is_mark b ≡ false) → (xs text : List ℕ) → list_all p xs ≡ true → at_last_mark text ≡ None → at_last_mark (xs ++ text) ≡ None
@@ -73,64 +68,35 @@ no_letters_behind : (d digits : List ℕ) → IsDollar d → prefix_len is_ascii
 no_letters_behind d digits (inl e) h = ap (λ l. prefix_len is_ascii_alphabetic (l ++ digits)) e ∙ h
 no_letters_behind d digits (inr e) h = ap (λ l. prefix_len is_ascii_alphabetic (l ++ digits)) e
 
--- ---- names
-record IsRead (text name : List ℕ) : Type 0 where
-  pub bare : without_dollar text ≡ text
-  pub name_is : name_in text ≡ Some name
-
-plain_read : (text : List ℕ) → is_plain text ≡ true → IsRead text text
-plain_read [] h = absurd (cc h)
-plain_read (b ∷ text) h =
-    let begun = (both (begins_word b) (list_all goes_on_word text) h).0 in
-    record {
-      bare = ap (λ t. cond t text (b ∷ text)) (word_no_dollar b begun);
-      name_is = ap (λ t. cond t (unquoted text) (cond (is_plain (b ∷ text)) (Some (b ∷ text)) None)) (word_no_quote b begun) ∙ ap (λ t. cond t (Some (b ∷ text)) None) h;
-    }
-
-quoted_read : (name : List ℕ) → unquoted (doubled name ++ 39 ∷ []) ≡ Some name
-quoted_read [] = refl
-quoted_read (b ∷ name) =
-    elim (b == 39) as (λ x. (b == 39) ≡ x → unquoted (cond x (39 ∷ 39 ∷ doubled name) (b ∷ doubled name) ++ 39 ∷ []) ≡ Some (b ∷ name)) [
-      | true ↦ λ is. ap (option_map (λ n. 39 ∷ n)) (quoted_read name) ∙ ap (λ c. Some (c ∷ name)) (sym (eqb-true b 39 is))
-      | false ↦ λ is.
-          ap (λ t. cond t (behind_quote (doubled name ++ 39 ∷ [])) (option_map (λ n. b ∷ n) (unquoted (doubled name ++ 39 ∷ [])))) is
-          ∙ ap (option_map (λ n. b ∷ n)) (quoted_read name)
-    ] refl
-
-name_read : (text name : List ℕ) → SpellsName text name → IsRead text name
-name_read text name (inl h) = subst (IsRead text) h.1 (plain_read text h.0)
-name_read text name (inr e) = subst (λ l. IsRead l name) (sym e) (record { bare = refl; name_is = quoted_read name })
-
 -- ---- the whole
 abbrev with_numbers : List ℕ → ℕ → ℕ → Address
 with_numbers name column row = record { name = name; column = column; row = row }
 
 pub read : (text : List ℕ) (a : Address) → Spells text a → address_in text ≡ Some a
 read text a s =
-    let tail = s.third ++ s.digits in
-    let place = s.second ++ (s.letters ++ tail) in
+    let tail = s.between ++ s.digits in
+    let place = s.before ++ (s.letters ++ tail) in
     let digits : list_all is_ascii_digit s.digits ≡ true = all_digits s.digits ∙ s.all_digits in
     let no_mark : at_last_mark s.digits ≡ None = subst (λ l. at_last_mark l ≡ None) (append-nil s.digits) (none_before is_ascii_digit digit_no_mark s.digits [] digits refl) in
     let none : at_last_mark place ≡ None =
-    none_behind s.second (s.letters ++ tail) s.before_letters
-    (none_before is_ascii_alphabetic letter_no_mark s.letters tail s.all_letters (none_behind s.third s.digits s.before_digits no_mark)) in
-    let bare : without_dollar place ≡ s.letters ++ tail = skipped s.second (s.letters ++ tail) s.before_letters (not_before is_ascii_alphabetic letter_no_dollar s.letters tail s.some_letters s.all_letters) in
+    none_behind s.before (s.letters ++ tail) s.before_letters
+    (none_before is_ascii_alphabetic letter_no_mark s.letters tail s.all_letters (none_behind s.between s.digits s.before_digits no_mark)) in
+    let bare : without_dollar place ≡ s.letters ++ tail = skipped s.before (s.letters ++ tail) s.before_letters (not_before is_ascii_alphabetic letter_no_dollar s.letters tail s.some_letters s.all_letters) in
     let count : letter_count_of place ≡ length s.letters =
     ap (prefix_len is_ascii_alphabetic) bare
-    ∙ counted s.letters tail s.all_letters (no_letters_behind s.third s.digits s.before_digits (no_letters s.digits s.some_digits digits)) in
+    ∙ counted s.letters tail s.all_letters (no_letters_behind s.between s.digits s.before_digits (no_letters s.digits s.some_digits digits)) in
     let letters : letters_of place ≡ s.letters = ap₂ (λ (n : ℕ) (l : List ℕ). take n l) count bare ∙ take-append_seam s.letters tail in
     let no_dollar : without_dollar s.digits ≡ s.digits =
     subst (λ l. without_dollar l ≡ l) (append-nil s.digits) (not_before is_ascii_digit digit_no_dollar s.digits [] s.some_digits digits) in
     let behind : behind_letters place ≡ s.digits =
-    ap without_dollar (ap₂ (λ (n : ℕ) (l : List ℕ). drop n l) count bare ∙ drop-append_seam s.letters tail) ∙ skipped s.third s.digits s.before_digits no_dollar in
-    let name = name_read s.name a.name s.is_name in
-    let name_is : name_in (without_dollar (s.first ++ s.name)) ≡ Some a.name = ap name_in (skipped s.first s.name s.before_name name.bare) ∙ name.name_is in
+    ap without_dollar (ap₂ (λ (n : ℕ) (l : List ℕ). drop n l) count bare ∙ drop-append_seam s.letters tail) ∙ skipped s.between s.digits s.before_digits no_dollar in
+    let name_is : sheet_in s.sheet ≡ Some a.name = (sheets_are_spelled s.sheet a.name).1 s.names in
     let is_number_is : is_number (behind_letters place) ≡ true = ap is_number behind ∙ ap₂ (λ x y. x && y) (lt-ltb 0 (length s.digits) s.some_digits) s.all_digits in
     let some : nat_lt 0 (letter_count_of place) ≡ true = ap (nat_lt 0) count ∙ lt-ltb 0 (length s.letters) s.some_letters in
     let is_place_is : is_place place ≡ true = ap₂ (λ x y. x && y) some is_number_is in
     let numbers : placed place a.name ≡ a = ap₂ (with_numbers a.name) (ap column_number letters ∙ s.column) (ap (digits_value 10) behind ∙ s.row) in
     ap (λ l. option_and_then address_of (at_last_mark l)) s.whole
-    ∙ ap (option_and_then address_of) (last_at (s.first ++ s.name) s.mark place s.is_one none)
-    ∙ ap (λ t. cond t (option_map (placed place) (name_in (without_dollar (s.first ++ s.name)))) None) is_place_is
+    ∙ ap (option_and_then address_of) (last_at s.sheet s.mark place s.is_one none)
+    ∙ ap (λ t. cond t (option_map (placed place) (sheet_in s.sheet)) None) is_place_is
     ∙ ap (option_map (placed place)) name_is
     ∙ ap Some numbers

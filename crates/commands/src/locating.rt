@@ -3,9 +3,9 @@ ghost use Rattle.std.specs.Prelude.{◌≡◌, ◌<◌, IfOk, false, length};
 ghost use Rattle.workbook.specs.Edits.{is_outside};
 ghost use Rattle.commands.specs.Locating.{cell_named, refused};
 
-use crate::address::{at_last_mark, is_place, name};
+use crate::address::{at_last_mark, is_place};
 use crate::answer::Answer;
-use cell_refs::{Cell, SheetNames, read_address};
+use cell_refs::{Cell, SheetNames, read_address, sheet_name};
 use sheet_model::Memory;
 use std::alloc::Global;
 
@@ -46,7 +46,7 @@ pub fn locate(
     if !is_place(place) {
         return Ok(Err(Refusal::BadAddress));
     }
-    let Some(name) = name(alloc, before)? else {
+    let Some(name) = sheet_name(alloc, before)? else {
         return Ok(Err(Refusal::BadAddress));
     };
     let Some(sheet) = sheets.find(name.as_str()) else {
