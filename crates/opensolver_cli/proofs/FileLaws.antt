@@ -6,7 +6,7 @@ use Rattle.std.specs.FinMap.{get}
 use Rattle.std.proofs.lemmas.List.{take_more, take_all, drop_all}
 use Rattle.solver_io.specs.Files.{Files}
 use Rattle.workbook.specs.Files.{SheetFile}
-use Rattle.opensolver_cli.specs.Findings.{and_more, file_held, sheet_files, sheets_held}
+use Rattle.opensolver_cli.specs.Findings.{and_then, file_held, sheet_files, sheets_held}
 use Rattle.opensolver_cli.specs.Inputs.{ReadsSheet, ReadsSheets}
 use Rattle.opensolver_cli.specs.Words.{stem_of, texts_of}
 use Rattle.opensolver_cli.specs.declared.stop.End.{End}
@@ -15,6 +15,10 @@ use Rattle.opensolver_cli.specs.declared.stop.Input.TheVariants as input
 use Rattle.opensolver_cli.specs.declared.stop.Stop.{Stop}
 
 -- ---- the sheets' files
+-- the bytes of a file, and those of more
+abbrev and_more : Result (List ℕ) Stop → Result (List (List ℕ)) Stop → Result (List (List ℕ)) Stop
+and_more first rest = and_then first (λ bytes. and_then rest (λ more. Ok (bytes ∷ more)))
+
 -- the bytes of files, and those that come behind them
 abbrev all_held : List (List ℕ) → Result (List (List ℕ)) Stop → Result (List (List ℕ)) Stop
 all_held [] r = r

@@ -1,14 +1,15 @@
 -- What a run finds before the first record of its script, in the order of its work: the number of sheets, the file of names, the
 -- sheets' files in order, the workbook that they spell, and the script.
-use Rattle.std.specs.Prelude.{◌≡◌, ◌⊎◌, ℕ, suc, nat_lt, if◌then◌else◌, List, [], ◌∷◌, length, Option, Some, None, Result, Ok, Err, MatchBool, IsUtf8, unwrap_or}
+use Rattle.std.specs.Prelude.{ℕ, suc, not, nat_lt, if◌then◌else◌, List, [], ◌∷◌, length, Option, Some, None, Result, Ok, Err, unwrap_or, option_and_then}
 use Rattle.std.specs.FinMap.{get}
+use Rattle.std.specs.Str.{is_utf8}
 use Rattle.std.specs.Str.Lossy.{utf8_valid_len}
 use Rattle.solver_io.specs.Files.{Files}
+use Rattle.cell_refs.specs.declared.limits.TheConstants.{FILE_BYTES, SHEETS}
 use Rattle.sheet_csv.specs.Sheet.{Record, sheet_records}
-use Rattle.workbook.specs.Files.{SheetFile}
-use Rattle.workbook.specs.Opening.{Opens}
+use Rattle.workbook.specs.Files.{SheetFile, state_in}
 use Rattle.workbook.specs.State.{State}
-use Rattle.workbook.specs.declared.fault.OpenFault.{OpenFault}
+use Rattle.opensolver_cli.specs.Opening.{first_of, opening_fault, where_so}
 use Rattle.opensolver_cli.specs.Stops.{open_stop}
 use Rattle.opensolver_cli.specs.Words.{Named, stem_of}
 use Rattle.opensolver_cli.specs.declared.stop.Limit.TheVariants as limit
@@ -18,69 +19,55 @@ use Rattle.opensolver_cli.specs.declared.stop.Input.TheVariants as input
 use Rattle.opensolver_cli.specs.declared.stop.Stop.{Stop}
 use Rattle.opensolver_cli.specs.declared.stop.Stop.TheVariants.{TooMuch, BadInput}
 
--- the workbook and the records of the script, or why the run ends
-pub data Finding : Type 0 where
-  Ready : State → List Record → Finding
-  Stops : Stop → Finding
+-- what comes next, where nothing ends the run
+abbrev pub and_then : {A B : Type 0} → Result A Stop → (A → Result B Stop) → Result B Stop
+and_then (Ok x) next = next x
+and_then (Err stop) next = Err stop
 
--- how many bytes an input may have
-abbrev pub byte_limit : ℕ
-byte_limit = 16777216
+-- a thing, where nothing ends the run before it
+abbrev pub unless : {A : Type 0} → Option Stop → A → Result A Stop
+unless None x = Ok x
+unless (Some stop) x = Err stop
 
--- how many sheets may be named
-abbrev pub sheet_limit : ℕ
-sheet_limit = 32
-
--- ---- inputs
+-- ---- files
 -- the bytes of a file, where the folder holds some for it and they are not too many
 abbrev pub file_held : Input → Option (List ℕ) → Result (List ℕ) Stop
 file_held of None = Err (BadInput of cause.Missing)
-file_held of (Some bytes) = if nat_lt byte_limit (length bytes) then Err (TooMuch limit.FileBytes) else Ok bytes
-
-abbrev pub and_more : Result (List ℕ) Stop → Result (List (List ℕ)) Stop → Result (List (List ℕ)) Stop
-and_more (Err stop) more = Err stop
-and_more (Ok bytes) (Err stop) = Err stop
-and_more (Ok bytes) (Ok more) = Ok (bytes ∷ more)
+file_held of (Some bytes) = if nat_lt FILE_BYTES (length bytes) then Err (TooMuch limit.FileBytes) else Ok bytes
 
 -- the bytes of the sheets' files from the sheet of a number on, or why the first of them isn't there
 abbrev pub sheets_held : Files → ℕ → List (List ℕ) → Result (List (List ℕ)) Stop
 sheets_held files place [] = Ok []
-sheets_held files place (word ∷ words) = and_more (file_held (input.Sheet place) (get files word)) (sheets_held files (suc place) words)
+sheets_held files place (word ∷ words) =
+    and_then (file_held (input.Sheet place) (get files word)) (λ bytes. and_then (sheets_held files (suc place) words) (λ more. Ok (bytes ∷ more)))
 
 -- the files of sheets by their words and bytes
 abbrev pub sheet_files : List (List ℕ) → List (List ℕ) → List SheetFile
 sheet_files (word ∷ words) (bytes ∷ more) = record { stem = unwrap_or (stem_of word) []; bytes = bytes } ∷ sheet_files words more
 sheet_files _ _ = []
 
--- ---- findings
--- the script: its records, each of which is a command
-abbrev pub FindsRecords : State → List ℕ → Finding → Type 0
-FindsRecords book script f =
-    (IsUtf8 script × (f ≡ Ready book (sheet_records script)))
-    ⊎ ((¬ (IsUtf8 script)) × (f ≡ Stops (BadInput input.Script (cause.NotUtf8 (utf8_valid_len script)))))
+-- ---- the workbook
+-- the workbook that files spell, or what their first fault is to the run
+abbrev pub opened_from : List SheetFile → List ℕ → Result State Stop
+opened_from sheets names = unless (option_and_then open_stop (opening_fault sheets names)) (state_in sheets names)
 
-abbrev pub FindsScript : State → List ℕ → Finding → Type 0
-FindsScript book script f = MatchBool (nat_lt byte_limit (length script)) (f ≡ Stops (TooMuch limit.ScriptBytes)) (FindsRecords book script f)
+-- the workbook of the files that the words name, or why the run ends before it reads the script
+abbrev pub book_in : Named → Files → Result State Stop
+book_in named files =
+    if nat_lt SHEETS (length named.sheets) then Err (TooMuch limit.Sheets)
+    else and_then (file_held input.Names (get files named.names)) (λ names.
+    and_then (sheets_held files 0 named.sheets) (λ sheets. opened_from (sheet_files named.sheets sheets) names))
 
--- the workbook, or the fault of the files, other than want of memory
-abbrev pub FindsBook : List ℕ → Finding → Result State OpenFault → Type 0
-FindsBook script f (Ok book) = FindsScript book script f
-FindsBook script f (Err fault) = (stop : Stop) × (open_stop fault ≡ Some stop) × (f ≡ Stops stop)
+-- ---- the script
+-- its records, each of which is a command, or why there are none
+abbrev pub records_in : List ℕ → Result (List Record) Stop
+records_in script =
+    unless (first_of (
+    where_so (nat_lt FILE_BYTES (length script)) (TooMuch limit.ScriptBytes)
+    ∷ where_so (not (is_utf8 script)) (BadInput input.Script (cause.NotUtf8 (utf8_valid_len script)))
+    ∷ [])) (sheet_records script)
 
-abbrev pub FindsSheets : Named → List ℕ → List ℕ → Finding → Result (List (List ℕ)) Stop → Type 0
-FindsSheets named names script f (Err stop) = f ≡ Stops stop
-FindsSheets named names script f (Ok sheets) = (opened : Result State OpenFault) × Opens (sheet_files named.sheets sheets) names opened × FindsBook script f opened
-
-abbrev pub FindsNames : Named → Files → List ℕ → Finding → Result (List ℕ) Stop → Type 0
-FindsNames named files script f (Err stop) = f ≡ Stops stop
-FindsNames named files script f (Ok names) = FindsSheets named names script f (sheets_held files 0 named.sheets)
-
--- what there is to find where the words name these files
-abbrev pub Finds : Named → Files → List ℕ → Finding → Type 0
-Finds named files script f =
-    MatchBool (nat_lt sheet_limit (length named.sheets)) (f ≡ Stops (TooMuch limit.Sheets))
-    (FindsNames named files script f (file_held input.Names (get files named.names)))
-
--- there is one thing to find
-abbrev pub OneFinding : Type 0
-OneFinding = (named : Named) (files : Files) (script : List ℕ) (f g : Finding) → Finds named files script f → Finds named files script g → f ≡ g
+-- ---- both
+-- the workbook and the records, or the first cause why the run ends before them
+abbrev pub found : Named → Files → List ℕ → Result (State × List Record) Stop
+found named files script = and_then (book_in named files) (λ book. and_then (records_in script) (λ records. Ok (book, records)))

@@ -1,17 +1,14 @@
--- What a run prints and how it ends, from the words, the bytes of the files and those of the script.
-use Rattle.std.specs.Prelude.{◌≡◌, ◌≢◌, ◌⊎◌, ◌≤◌, ℕ, Bool, true, false, List, [], ◌∷◌, ◌++◌, length, map, take, Option, Some, None, ⊤, codes, slice_get}
-use Rattle.std.specs.List.{concat, list_any}
-use Rattle.std.specs.Io.KnownBytes.{Appends, Keeps}
-use Rattle.solver_io.specs.Bytes.{AppendsSome}
+-- What a run prints and saves and how it ends, from the words, the bytes of the files and those of the script.
+use Rattle.std.specs.Prelude.{◌≡◌, ◌≢◌, ◌⊎◌, ◌<◌, ℕ, true, false, List, [], length, Option, Some, None, Ok, Err, codes, ⊤}
+use Rattle.solver_io.specs.Causes.{Rose}
 use Rattle.solver_io.specs.Files.{Files}
+use Rattle.cell_refs.specs.declared.limits.TheConstants.{SHEETS}
 use Rattle.sheet_csv.specs.Sheet.{Record}
 use Rattle.workbook.specs.State.{State}
-use Rattle.commands.specs.Commands.{command_of}
-use Rattle.commands.specs.Lines.{answer_text, is_refusal}
-use Rattle.commands.specs.declared.answer.Answer.{Answer}
-use Rattle.session.specs.States.{SessionState, opened}
-use Rattle.session.specs.Steps.{Step}
-use Rattle.opensolver_cli.specs.Findings.{Finding, Finds, Ready, Stops}
+use Rattle.session.specs.States.{opened}
+use Rattle.opensolver_cli.specs.Courses.{AllAnswered, CutShort, EndsBefore, EndsInSink, Setting}
+use Rattle.opensolver_cli.specs.Findings.{book_in, found}
+use Rattle.opensolver_cli.specs.Outside.{IsFolderLeft, IsScriptLeft, NothingIsSeen, Outside, Prints, PrintsSome}
 use Rattle.opensolver_cli.specs.Stops.{status_of, stop_line}
 use Rattle.opensolver_cli.specs.Words.{Named}
 use Rattle.opensolver_cli.specs.declared.stop.Stop.{Stop}
@@ -25,98 +22,92 @@ usage_line = codes "usage: opensolver --names FILE [--budget N] [--pick depth|be
 abbrev pub default_budget : ℕ
 default_budget = 100000
 
--- ---- answers
--- the answers to some records, in order, and the session behind them: it begins as the one at hand, and each record is a step
--- from the session that those before it have left
-pub data Answered : SessionState → List Record → List Answer → SessionState → Type 0 where
-  none : {s : SessionState} → Answered s [] [] s
-  more : {s m e : SessionState} {fields : Record} {records : List Record} {a : Answer} {rest : List Answer}
-      → Step s (command_of fields) a m → Answered m records rest e → Answered s (fields ∷ records) (a ∷ rest) e
+-- ---- runs over files
+-- the records begin over the workbook that was opened, and over the files as they are
+abbrev pub setting_of : Named → State → Files → Setting
+setting_of named book files = record { named = named; start = record { session = opened book default_budget; files = files } }
 
--- the lines of answers, one after the other
-abbrev pub lines_of : List (List ℕ) → List Answer → List ℕ
-lines_of sheets answers = concat (map (answer_text sheets) answers)
+-- the workbook and the records are found, and the script was read to its end
+pub record IsReady (named : Named) (files : Files) (script : List ℕ) (after : Outside) (book : State) (records : List Record) : Type 0 where
+  pub finds : found named files script ≡ Ok (book, records)
+  pub to_its_end : after.left ≡ Some []
 
--- all records were answered, each answer was printed, and one of them is a refusal or none is
-pub record AllAnswered (book : State) (records : List Record) (before after : Option (List ℕ)) (refused : Bool) : Type 0 where
-  pub answers : List Answer
-  pub last : SessionState
-  pub answered : Answered (opened book default_budget) records answers last
-  pub printed : Appends before after (lines_of book.sheets answers)
-  pub refusals : list_any (is_refusal book.sheets) answers ≡ refused
+-- all that is needed was found, and this was done with it
+abbrev pub Goes : (Setting → List Record → Type 0) → Named → Files → List ℕ → Outside → Type 0
+Goes Done named files script after =
+    (book : State) × (records : List Record) × IsReady named files script after book records × Done (setting_of named book files) records
 
--- a part of the line that answers a record, or nothing
-abbrev pub IsBegun : List (List ℕ) → SessionState → Option Record → List ℕ → Type 0
-IsBegun sheets session None part = part ≡ []
-IsBegun sheets session (Some fields) part =
-    (part ≡ []) ⊎ ((a : Answer) × (next : SessionState) × (n : ℕ) × Step session (command_of fields) a next × (part ≡ take n (answer_text sheets a)))
+-- the run ends before the first record for this cause
+abbrev pub Stops : (Stop → Type 0) → Named → Files → List ℕ → Type 0
+Stops Done named files script = (stop : Stop) × (found named files script ≡ Err stop) × Done stop
 
--- the first records were answered, each answer was printed, and then a part of the next one or nothing
-pub record CutShort (book : State) (records : List Record) (before after : Option (List ℕ)) : Type 0 where
-  pub done : ℕ
-  pub within : done ≤ length records
-  pub answers : List Answer
-  pub last : SessionState
-  pub answered : Answered (opened book default_budget) (take done records) answers last
-  pub part : List ℕ
-  pub begun : IsBegun book.sheets last (slice_get records done) part
-  pub printed : Appends before after (lines_of book.sheets answers ++ part)
+-- a write of the sink failed at a record, or memory ran out at one
+abbrev pub IsCutByWrite : Setting → List Record → Outside → Outside → Type 0
+IsCutByWrite setting records before after =
+    CutShort (λ w fields part. EndsInSink setting w fields part after.files) setting records before.pieces after.pieces
 
--- ---- runs
--- what is printed is a beginning of what would be
-abbrev pub IsCut : Named → Finding → Option (List ℕ) → Option (List ℕ) → Type 0
-IsCut named (Ready book records) before after = CutShort book records before after
-IsCut named (Stops stop) before after = AppendsSome before after (stop_line named stop)
+abbrev pub IsCutByMemory : Setting → List Record → Outside → Outside → Type 0
+IsCutByMemory setting records before after =
+    CutShort (λ w fields part. EndsInSink setting w fields part after.files ⊎ EndsBefore w part after.files) setting records before.pieces after.pieces
 
--- a run that ends before the first record, with its line
-abbrev pub StopsAs : Named → Files → List ℕ → Option (List ℕ) → Option (List ℕ) → Status → Type 0
-StopsAs named files script before after ends = (stop : Stop) × Finds named files script (Stops stop) × (status_of stop ≡ ends) × Appends before after (stop_line named stop)
-
--- how a run ends whose words name files, where the folder and the script tell their bytes
-abbrev pub EndsAs : Named → Files → List ℕ → Option (List ℕ) → Option (List ℕ) → Status → Type 0
-EndsAs named files script before after status.Done = (book : State) × (records : List Record) × Finds named files script (Ready book records) × AllAnswered book records before after false
-EndsAs named files script before after status.Refused = (book : State) × (records : List Record) × Finds named files script (Ready book records) × AllAnswered book records before after true
+-- how a run over these files and this script ends
+abbrev pub EndsAs : Named → Files → List ℕ → Outside → Outside → Status → Type 0
+EndsAs named files script before after status.Done =
+    Goes (λ setting records. AllAnswered setting records before.pieces after.pieces after.files false) named files script after
+EndsAs named files script before after status.Refused =
+    Goes (λ setting records. AllAnswered setting records before.pieces after.pieces after.files true) named files script after
 EndsAs named files script before after status.Usage = ⊥
-EndsAs named files script before after status.ReadFault = Keeps before after
-EndsAs named files script before after status.WriteFault = (f : Finding) × Finds named files script f × IsCut named f before after
-EndsAs named files script before after status.Memory = Keeps before after ⊎ ((f : Finding) × Finds named files script f × IsCut named f before after)
-EndsAs named files script before after status.Limit = StopsAs named files script before after status.Limit
-EndsAs named files script before after status.BadInput = StopsAs named files script before after status.BadInput
+EndsAs named files script before after status.ReadFault = NothingIsSeen before after
+EndsAs named files script before after status.WriteFault =
+    Stops (λ stop. PrintsSome (stop_line named stop) before after) named files script
+    ⊎ Goes (λ setting records. IsCutByWrite setting records before after) named files script after
+EndsAs named files script before after status.Memory =
+    NothingIsSeen before after
+    ⊎ (Stops (λ stop. PrintsSome (stop_line named stop) before after) named files script
+    ⊎ Goes (λ setting records. IsCutByMemory setting records before after) named files script after)
+EndsAs named files script before after status.Limit =
+    Stops (λ stop. (status_of stop ≡ status.Limit) × Prints (stop_line named stop) before after) named files script
+EndsAs named files script before after status.BadInput =
+    Stops (λ stop. (status_of stop ≡ status.BadInput) × Prints (stop_line named stop) before after) named files script
 
--- the run, where the folder and the script tell their bytes
-abbrev pub RunsAs : Option Named → Option Files → Option (List ℕ) → Option (List ℕ) → Option (List ℕ) → Status → Type 0
-RunsAs None files script before after ends = ⊤
-RunsAs (Some named) None script before after ends = ⊤
-RunsAs (Some named) (Some files) None before after ends = ⊤
-RunsAs (Some named) (Some files) (Some script) before after ends = EndsAs named files script before after ends
+-- the script isn't touched where the files end the run
+abbrev pub KeepsOrder : Named → Files → Outside → Outside → Type 0
+KeepsOrder named files before after = (stop : Stop) → book_in named files ≡ Err stop → IsScriptLeft before after
 
--- ---- each status exactly where it stands
--- want of memory, or a call of the folder, the script or the sink that failed
-abbrev pub IsEarly : Status → Type 0
-IsEarly status.ReadFault = ⊤
-IsEarly status.WriteFault = ⊤
-IsEarly status.Memory = ⊤
-IsEarly _ = ⊥
+-- where the folder and the script tell their bytes
+abbrev pub EndsOver : Named → Option Files → Option (List ℕ) → Outside → Outside → Status → Type 0
+EndsOver named (Some files) (Some script) before after ends = EndsAs named files script before after ends × KeepsOrder named files before after
+EndsOver named _ _ before after ends = ⊤
 
--- how a run may end by what it finds: the records are answered, or it has the status of its cause, unless it ends early
-abbrev pub EndsFor : Finding → Status → Type 0
-EndsFor (Ready book records) status.Done = ⊤
-EndsFor (Ready book records) status.Refused = ⊤
-EndsFor (Ready book records) ends = IsEarly ends
-EndsFor (Stops stop) ends = (ends ≡ status_of stop) ⊎ IsEarly ends
-
-abbrev pub AnswersFor : Option Named → Option Files → Option (List ℕ) → Status → Type 0
-AnswersFor (Some named) (Some files) (Some script) ends = (f : Finding) → Finds named files script f → EndsFor f ends
-AnswersFor _ _ _ ends = ⊤
+-- no file is read where too many sheets are named, nor the script
+abbrev pub LeavesTooMany : Named → Outside → Outside → Type 0
+LeavesTooMany named before after = SHEETS < length named.sheets → IsFolderLeft before after × IsScriptLeft before after
 
 -- ---- words of another form
--- they get the usage line and that status, unless it can't be written
-abbrev pub UsageEnds : Option (List ℕ) → Option (List ℕ) → Status → Type 0
-UsageEnds before after status.Usage = Appends before after usage_line
-UsageEnds before after status.WriteFault = AppendsSome before after usage_line
-UsageEnds before after status.Memory = AppendsSome before after usage_line
-UsageEnds before after other = ⊥
+-- the usage line is printed; or a part of it, where a write failed or memory ran out
+abbrev pub SaysUsage : Outside → Outside → Status → Type 0
+SaysUsage before after status.Usage = Prints usage_line before after
+SaysUsage before after status.WriteFault = PrintsSome usage_line before after
+SaysUsage before after status.Memory = PrintsSome usage_line before after
+SaysUsage before after _ = ⊥
 
-abbrev pub WordsEnd : Option Named → Option (List ℕ) → Option (List ℕ) → Status → Type 0
-WordsEnd None before after ends = UsageEnds before after ends
-WordsEnd (Some named) before after ends = ends ≢ status.Usage
+-- ---- all runs
+-- what a run does by what its words name
+abbrev pub RunsAs : Option Named → Outside → Outside → Status → Type 0
+RunsAs None before after ends = SaysUsage before after ends × IsFolderLeft before after × IsScriptLeft before after
+RunsAs (Some named) before after ends = EndsOver named before.files before.left before after ends × LeavesTooMany named before after
+
+-- ---- counts, whatever is told
+-- the folder failed, and the script wasn't touched; or the script did, and the folder didn't
+abbrev pub IsReadFault : Outside → Outside → Type 0
+IsReadFault before after =
+    (Rose before.folder_reads after.folder_reads × IsScriptLeft before after)
+    ⊎ ((after.folder_reads ≡ before.folder_reads) × Rose before.script_reads after.script_reads)
+
+-- a fault is the status only where a count of such faults rose, and where it isn't the status, none of these counts did
+pub record IsCounted (before after : Outside) (ends : Status) : Type 0 where
+  pub read_fault : ends ≡ status.ReadFault → IsReadFault before after
+  pub no_read_fault : ends ≢ status.ReadFault → (after.folder_reads ≡ before.folder_reads) × (after.script_reads ≡ before.script_reads)
+  pub write_fault : ends ≡ status.WriteFault → Rose before.sink_writes after.sink_writes
+  pub no_write_fault : ends ≢ status.WriteFault → after.sink_writes ≡ before.sink_writes
+  pub saves : after.folder_writes ≡ before.folder_writes

@@ -1,6 +1,7 @@
 -- Why a run ends before the first record of its script, and the line that it prints then.
 use Rattle.std.specs.Prelude.{ℕ, ◌+◌, List, [], ◌++◌, Option, Some, None, codes, slice_get, unwrap_or}
 use Rattle.std.specs.Fmt.{decimal}
+use Rattle.cell_refs.specs.declared.limits.TheConstants.{COLUMNS, FILE_BYTES, FORMULAS, NAMES, ROWS, SHEETS, TEXT_BYTES, TEXTS}
 use Rattle.sheet_csv.specs.declared.fault.SheetFault.{SheetFault}
 use Rattle.sheet_csv.specs.declared.fault.SheetFault.TheVariants as sheet
 use Rattle.workbook.specs.declared.fault.OpenFault.{OpenFault}
@@ -18,17 +19,29 @@ use Rattle.opensolver_cli.specs.declared.stop.Stop.{Stop}
 use Rattle.opensolver_cli.specs.declared.stop.Stop.TheVariants.{TooMuch, BadInput}
 
 -- ---- lines
--- a kind, and its limit
-abbrev pub limit_text : Limit → List ℕ
-limit_text limit.Sheets = codes "sheets 32"
-limit_text limit.FileBytes = codes "file 16777216"
-limit_text limit.ScriptBytes = codes "script 16777216"
-limit_text limit.Rows = codes "rows 4096"
-limit_text limit.Columns = codes "columns 256"
-limit_text limit.FieldBytes = codes "field 8192"
-limit_text limit.Cells = codes "cells 65536"
-limit_text limit.Formulas = codes "formulas 16384"
-limit_text limit.Names = codes "names 32768"
+-- a kind
+abbrev pub kind_text : Limit → List ℕ
+kind_text limit.Sheets = codes "sheets"
+kind_text limit.FileBytes = codes "file"
+kind_text limit.ScriptBytes = codes "script"
+kind_text limit.Rows = codes "rows"
+kind_text limit.Columns = codes "columns"
+kind_text limit.FieldBytes = codes "field"
+kind_text limit.Cells = codes "cells"
+kind_text limit.Formulas = codes "formulas"
+kind_text limit.Names = codes "names"
+
+-- the most that there may be of it
+abbrev pub most_of : Limit → ℕ
+most_of limit.Sheets = SHEETS
+most_of limit.FileBytes = FILE_BYTES
+most_of limit.ScriptBytes = FILE_BYTES
+most_of limit.Rows = ROWS
+most_of limit.Columns = COLUMNS
+most_of limit.FieldBytes = TEXT_BYTES
+most_of limit.Cells = TEXTS
+most_of limit.Formulas = FORMULAS
+most_of limit.Names = NAMES
 
 -- a cause; the records of the names are counted from 1
 abbrev pub cause_text : Cause → List ℕ
@@ -44,7 +57,7 @@ input_text named (input.Sheet place) = unwrap_or (slice_get named.sheets place) 
 input_text named input.Script = codes "script"
 
 abbrev pub stop_text : Named → Stop → List ℕ
-stop_text named (TooMuch kind) = codes "limit " ++ limit_text kind
+stop_text named (TooMuch kind) = codes "limit " ++ (kind_text kind ++ (codes " " ++ decimal (most_of kind)))
 stop_text named (BadInput of why) = codes "bad-input " ++ (input_text named of ++ (codes " " ++ cause_text why))
 
 abbrev pub stop_line : Named → Stop → List ℕ

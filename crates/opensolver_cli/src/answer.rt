@@ -1,7 +1,10 @@
 // Answering the records of a script.
-ghost use Rattle.std.specs.Prelude.{◌≡◌, ◌≤◌};
-ghost use Rattle.solver_io.specs.Causes.{Rose};
-ghost use Rattle.opensolver_cli.specs.Answering.{AnswersRecord, AnswersRecords, IsSaid, Says};
+ghost use Rattle.std.specs.Prelude.{◌≡◌, Some};
+ghost use Rattle.solver_io.specs.Bytes.{PutCause};
+ghost use Rattle.solver_io.specs.Files.{Files};
+ghost use Rattle.opensolver_cli.specs.Answering.{AnswersRecord, AnswersRecords, IsSaid, IsSinkFault, Says};
+ghost use Rattle.opensolver_cli.specs.Headline.{setting_of};
+ghost use Rattle.opensolver_cli.specs.Words.{Named};
 
 use crate::Status;
 use crate::script::command_of;
@@ -21,8 +24,8 @@ pub(crate) fn answer_records<K: Sink>(
     rows: &Rows,
     out: &mut K,
 ) -> Status
-    ensures answers { AnswersRecords book rows.now (K.written out.old) (K.written out.new) result }
-    ensures cause { result ≡ Status.WriteFault → Rose (K.faults out.old) (K.faults out.new) }
+    ensures answers { (named : Named) (files : Files) → AnswersRecords (setting_of named book files) rows.now (K.pieces out.old) (K.pieces out.new) (Some files) result }
+    ensures cause { IsSinkFault (K.faults out.old) (K.faults out.new) result }
 {
     let Ok(mut session) = Session::open(alloc, book, BUDGET) else {
         return Status::Memory;
@@ -49,10 +52,9 @@ fn answer_record<K: Sink>(
     fields: &Record,
     out: &mut K,
 ) -> Result<bool, PutEnd>
-    ensures answers { AnswersRecord session.old fields.now (K.written out.old) (K.written out.new) session.new result }
+    ensures answers { AnswersRecord session.old fields.now (K.pieces out.old) (K.pieces out.new) session.new result }
     ensures sheets { session.new.book.sheets ≡ session.old.book.sheets }
-    ensures later { K.faults out.old ≤ K.faults out.new }
-    ensures cause { result ≡ Err PutEnd.Failed → Rose (K.faults out.old) (K.faults out.new) }
+    ensures cause { PutCause (K.faults out.old) (K.faults out.new) result }
 {
     let Ok(command) = command_of(alloc, fields) else {
         return Err(PutEnd::Memory);
@@ -70,8 +72,8 @@ fn answer_record<K: Sink>(
 /// Writes the line, and ends so where that went through.
 pub(crate) fn say<K: Sink>(out: &mut K, line: &str, status: Status) -> Status
     requires { IsSaid status }
-    ensures says { Says line.now status (K.written out.old) (K.written out.new) result }
-    ensures cause { result ≡ Status.WriteFault → Rose (K.faults out.old) (K.faults out.new) }
+    ensures says { Says line.now status (K.pieces out.old) (K.pieces out.new) result }
+    ensures cause { IsSinkFault (K.faults out.old) (K.faults out.new) result }
 {
     match out.write(line.as_bytes()) {
         Ok(()) => status,

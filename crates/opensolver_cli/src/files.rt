@@ -1,21 +1,15 @@
 // Reading the files that the words name.
 ghost use Rattle.std.specs.Prelude.{◌≡◌, ◌≤◌, ◌<◌, All, IfOk, IfSome, length, string_bytes, true};
 ghost use Rattle.std.specs.FinMap.{get};
-ghost use Rattle.opensolver_cli.specs.Findings.{byte_limit};
 ghost use Rattle.opensolver_cli.specs.Inputs.{CanBeOpened, EndCause, OpensFiles, ReadsFile, ReadsSheet, ReadsSheets};
 ghost use Rattle.opensolver_cli.specs.Words.{is_sheet, named_of, texts_of};
 
 use crate::stop::{Cause, End, Input, Limit, Stop};
 use crate::words::{Named, stem_of};
+use cell_refs::{FILE_BYTES, SHEETS};
 use solver_io::{Folder, ReadEnd};
 use std::alloc::Global;
 use workbook::{File, Workbook};
-
-/// How many bytes an input may have.
-pub(crate) const BYTES: usize = 16777216;
-
-/// How many sheets may be named.
-const SHEETS: usize = 32;
 
 /// Reads the names and then the sheets, and opens the workbook that they spell.
 pub(crate) fn open_files<F: Folder>(
@@ -25,10 +19,11 @@ pub(crate) fn open_files<F: Folder>(
 ) -> Result<Workbook, End>
     requires some { 0 < length named.now.sheets.now }
     requires sheets { All (λ w. is_sheet (string_bytes w) ≡ true) named.now.sheets.now }
+    ensures many { SHEETS < length named.now.sheets.now → result ≡ Err (End.Stopped (Stop.TooMuch Limit.Sheets)) }
     ensures opens { IfSome (F.content folder.old) (λ files. OpensFiles (named_of named.now) files result) }
     ensures same { F.content folder.new ≡ F.content folder.old }
-    ensures later { F.read_faults folder.old ≤ F.read_faults folder.new }
     ensures cause { EndCause (F.read_faults folder.old) (F.read_faults folder.new) result }
+    ensures writes { F.write_faults folder.new ≡ F.write_faults folder.old }
 {
     if named.sheets.len() > SHEETS {
         return Err(End::Stopped(Stop::TooMuch(Limit::Sheets)));
@@ -46,14 +41,14 @@ pub(crate) fn open_files<F: Folder>(
 
 // Reads the files of the sheets.
 fn read_sheets<F: Folder>(alloc: Global, folder: &mut F, words: &[String]) -> Result<Vec<File>, End>
-    requires few { length words.now ≤ 32 }
+    requires few { length words.now ≤ SHEETS }
     requires sheets { All (λ w. is_sheet (string_bytes w) ≡ true) words.now }
     ensures reads { IfSome (F.content folder.old) (λ files. ReadsSheets files (texts_of words.now) result) }
     ensures count { IfOk result (λ files. length files.items ≡ length words.now) }
     ensures open { IfOk result (λ files. All CanBeOpened files.items) }
     ensures same { F.content folder.new ≡ F.content folder.old }
-    ensures later { F.read_faults folder.old ≤ F.read_faults folder.new }
     ensures cause { EndCause (F.read_faults folder.old) (F.read_faults folder.new) result }
+    ensures writes { F.write_faults folder.new ≡ F.write_faults folder.old }
 {
     let mut files = Vec::new(alloc);
     for (place, word) in words.iter().enumerate() {
@@ -71,8 +66,8 @@ fn read_sheet<F: Folder>(alloc: Global, folder: &mut F, place: u8, word: &str) -
     ensures reads { IfSome (F.content folder.old) (λ files. ReadsSheet (Input.Sheet place) word.now (get files word.now) result) }
     ensures open { IfOk result CanBeOpened }
     ensures same { F.content folder.new ≡ F.content folder.old }
-    ensures later { F.read_faults folder.old ≤ F.read_faults folder.new }
     ensures cause { EndCause (F.read_faults folder.old) (F.read_faults folder.new) result }
+    ensures writes { F.write_faults folder.new ≡ F.write_faults folder.old }
 {
     let bytes = read_file(alloc, folder, Input::Sheet(place), word)?;
     let Some(stem) = stem_of(word) else {
@@ -92,13 +87,13 @@ fn read_file<F: Folder>(
     word: &str,
 ) -> Result<Vec<u8>, End>
     ensures reads { IfSome (F.content folder.old) (λ files. ReadsFile input (get files word.now) result) }
-    ensures fits { IfOk result (λ bytes. length bytes.items ≤ byte_limit) }
+    ensures fits { IfOk result (λ bytes. length bytes.items ≤ FILE_BYTES) }
     ensures same { F.content folder.new ≡ F.content folder.old }
-    ensures later { F.read_faults folder.old ≤ F.read_faults folder.new }
     ensures cause { EndCause (F.read_faults folder.old) (F.read_faults folder.new) result }
+    ensures writes { F.write_faults folder.new ≡ F.write_faults folder.old }
 {
     let mut bytes = Vec::new(alloc);
-    match folder.read(word, BYTES, &mut bytes) {
+    match folder.read(word, FILE_BYTES, &mut bytes) {
         ReadEnd::Whole => Ok(bytes),
         ReadEnd::Missing => Err(End::Stopped(Stop::BadInput(input, Cause::Missing))),
         ReadEnd::TooLong => Err(End::Stopped(Stop::TooMuch(Limit::FileBytes))),

@@ -10,4 +10,4 @@ mod top;
 mod words;
 
 pub use status::Status;
-pub use top::{run, there_is_one_finding};
+pub use top::run;

@@ -1,11 +1,10 @@
 // Reading the script.
 ghost use Rattle.std.specs.Prelude.{◌≡◌, ◌≤◌, IfOk, IfSome, length};
 ghost use Rattle.commands.specs.Commands.{command_of, spoken};
-ghost use Rattle.opensolver_cli.specs.Findings.{byte_limit};
 ghost use Rattle.opensolver_cli.specs.Inputs.{EndCause, FindsCommands, ReadsRecords, ReadsScript};
 
-use crate::files::BYTES;
 use crate::stop::{Cause, End, Input, Limit, Stop};
+use cell_refs::FILE_BYTES;
 use session::{Command, Memory};
 use sheet_csv::{Record, Rows, SheetFault, read_records};
 use solver_io::Source;
@@ -15,8 +14,7 @@ const CHUNK: usize = 4096;
 
 /// Reads the script to its end, and the records in it.
 pub(crate) fn read_commands<S: Source>(alloc: Global, script: &mut S) -> Result<Rows, End>
-    ensures finds { IfSome (S.left script.old) (λ bytes. FindsCommands bytes result) }
-    ensures later { S.faults script.old ≤ S.faults script.new }
+    ensures finds { IfSome (S.left script.old) (λ bytes. FindsCommands bytes (S.left script.new) result) }
     ensures cause { EndCause (S.faults script.old) (S.faults script.new) result }
 {
     let bytes = read_script(alloc, script)?;
@@ -25,9 +23,8 @@ pub(crate) fn read_commands<S: Source>(alloc: Global, script: &mut S) -> Result<
 
 // Reads all that is left of the script.
 fn read_script<S: Source>(alloc: Global, script: &mut S) -> Result<Vec<u8>, End>
-    ensures reads { IfSome (S.left script.old) (λ bytes. ReadsScript bytes result) }
-    ensures fits { IfOk result (λ bytes. length bytes.items ≤ byte_limit) }
-    ensures later { S.faults script.old ≤ S.faults script.new }
+    ensures reads { IfSome (S.left script.old) (λ bytes. ReadsScript bytes (S.left script.new) result) }
+    ensures fits { IfOk result (λ bytes. length bytes.items ≤ FILE_BYTES) }
     ensures cause { EndCause (S.faults script.old) (S.faults script.new) result }
 {
     let mut bytes = Vec::new(alloc);
@@ -39,7 +36,7 @@ fn read_script<S: Source>(alloc: Global, script: &mut S) -> Result<Vec<u8>, End>
         if count == 0 {
             return Ok(bytes);
         }
-        if count > BYTES - bytes.len() {
+        if count > FILE_BYTES - bytes.len() {
             return Err(End::Stopped(Stop::TooMuch(Limit::ScriptBytes)));
         }
         if bytes.extend_from_slice(&chunk[..count]).is_err() {
@@ -50,7 +47,7 @@ fn read_script<S: Source>(alloc: Global, script: &mut S) -> Result<Vec<u8>, End>
 
 // The records of a script.
 fn records(alloc: Global, script: &[u8]) -> Result<Rows, End>
-    requires { length script.now ≤ byte_limit }
+    requires { length script.now ≤ FILE_BYTES }
     ensures { ReadsRecords script.now result }
 {
     match read_records(alloc, script) {

@@ -1,11 +1,12 @@
 // Why a run ends before the first record of its script.
 ghost use Rattle.std.specs.Prelude.{◌≡◌, ◌++◌, IfOk, OnOk, string_bytes};
 ghost use Rattle.std.specs.Fmt.{decimal};
-ghost use Rattle.opensolver_cli.specs.Stops.{cause_text, file_stop, input_text, limit_text, open_stop, status_of, stop_line, stop_text};
+ghost use Rattle.opensolver_cli.specs.Stops.{cause_text, file_stop, input_text, kind_text, most_of, open_stop, status_of, stop_line, stop_text};
 ghost use Rattle.opensolver_cli.specs.Words.{named_of};
 
 use crate::Status;
 use crate::words::Named;
+use cell_refs::{COLUMNS, FILE_BYTES, FORMULAS, NAMES, ROWS, SHEETS, TEXT_BYTES, TEXTS};
 use itoa::Buffer;
 use sheet_csv::SheetFault;
 use std::alloc::{AllocError, Global};
@@ -109,7 +110,9 @@ impl Stop {
         match self {
             Stop::TooMuch(limit) => {
                 text.push_str("limit ")?;
-                text.push_str(limit.text())?;
+                text.push_str(limit.kind())?;
+                text.push_str(" ")?;
+                say_number(limit.most(), &mut text)?;
             }
             Stop::BadInput(input, cause) => {
                 text.push_str("bad-input ")?;
@@ -124,20 +127,36 @@ impl Stop {
 }
 
 impl Limit {
-    // Its name and its number.
-    fn text(self) -> &'static str
-        ensures { result.now ≡ limit_text self }
+    // Its name.
+    fn kind(self) -> &'static str
+        ensures { result.now ≡ kind_text self }
     {
         match self {
-            Limit::Sheets => "sheets 32",
-            Limit::FileBytes => "file 16777216",
-            Limit::ScriptBytes => "script 16777216",
-            Limit::Rows => "rows 4096",
-            Limit::Columns => "columns 256",
-            Limit::FieldBytes => "field 8192",
-            Limit::Cells => "cells 65536",
-            Limit::Formulas => "formulas 16384",
-            Limit::Names => "names 32768",
+            Limit::Sheets => "sheets",
+            Limit::FileBytes => "file",
+            Limit::ScriptBytes => "script",
+            Limit::Rows => "rows",
+            Limit::Columns => "columns",
+            Limit::FieldBytes => "field",
+            Limit::Cells => "cells",
+            Limit::Formulas => "formulas",
+            Limit::Names => "names",
+        }
+    }
+
+    // The most that there may be of it.
+    fn most(self) -> u64
+        ensures { result ≡ most_of self }
+    {
+        match self {
+            Limit::Sheets => SHEETS as u64,
+            Limit::FileBytes | Limit::ScriptBytes => FILE_BYTES as u64,
+            Limit::Rows => u64::from(ROWS),
+            Limit::Columns => u64::from(COLUMNS),
+            Limit::FieldBytes => u64::from(TEXT_BYTES),
+            Limit::Cells => TEXTS as u64,
+            Limit::Formulas => FORMULAS as u64,
+            Limit::Names => NAMES as u64,
         }
     }
 }

@@ -1,12 +1,15 @@
 // The top call.
-ghost use Rattle.std.specs.Prelude.{◌≡◌, ◌≢◌, ◌⊎◌, ◌≤◌, ◌<◌, All, IfSome, length, string_bytes, true};
-ghost use Rattle.solver_io.specs.Causes.{Rose};
-ghost use Rattle.opensolver_cli.specs.Answering.{Says};
-ghost use Rattle.opensolver_cli.specs.Findings.{OneFinding};
-ghost use Rattle.opensolver_cli.specs.Headline.{AnswersFor, EndsAs, RunsAs, WordsEnd};
-ghost use Rattle.opensolver_cli.specs.Inputs.{EndCause, FindsAll};
+ghost use Rattle.std.specs.Prelude.{◌≡◌, ◌≢◌, ◌<◌, All, Err, IfSome, Some, length, string_bytes, true};
+ghost use Rattle.cell_refs.specs.declared.limits.TheConstants.{SHEETS};
+ghost use Rattle.opensolver_cli.specs.Answering.{IsSinkFault, Says};
+ghost use Rattle.opensolver_cli.specs.Completeness.{EndsExactly};
+ghost use Rattle.opensolver_cli.specs.Findings.{book_in};
+ghost use Rattle.opensolver_cli.specs.Headline.{IsCounted, RunsAs};
+ghost use Rattle.opensolver_cli.specs.Inputs.{FindsAll, IsFaultOf, IsSourceLeft};
+ghost use Rattle.opensolver_cli.specs.Outside.{seen};
 ghost use Rattle.opensolver_cli.specs.Stops.{status_of, stop_line};
 ghost use Rattle.opensolver_cli.specs.Words.{files_named, is_sheet, named_of, texts_of};
+ghost use Rattle.opensolver_cli.specs.declared.stop.Stop.{Stop};
 
 use crate::Status;
 use crate::answer::{answer_records, say};
@@ -17,7 +20,7 @@ use crate::words::{Named, named_files};
 use sheet_csv::Rows;
 use solver_io::{Folder, Sink, Source};
 use std::alloc::Global;
-use workbook::{Workbook, files_open_in_one_way};
+use workbook::Workbook;
 
 const USAGE: &str =
     "usage: opensolver --names FILE [--budget N] [--pick depth|best|oldest] FILE...\n";
@@ -30,25 +33,21 @@ pub fn run<F: Folder, S: Source, K: Sink>(
     script: &mut S,
     out: &mut K,
 ) -> Status
-    ensures headline { RunsAs (files_named (texts_of words.now)) (F.content folder.old) (S.left script.old) (K.written out.old) (K.written out.new) result }
-    ensures exactly { AnswersFor (files_named (texts_of words.now)) (F.content folder.old) (S.left script.old) result }
-    ensures words { WordsEnd (files_named (texts_of words.now)) (K.written out.old) (K.written out.new) result }
+    ensures headline { RunsAs (files_named (texts_of words.now))
+        (seen (F.content folder.old) (F.read_faults folder.old) (F.write_faults folder.old) (S.left script.old) (S.faults script.old) (K.pieces out.old) (K.faults out.old))
+        (seen (F.content folder.new) (F.read_faults folder.new) (F.write_faults folder.new) (S.left script.new) (S.faults script.new) (K.pieces out.new) (K.faults out.new))
+        result }
+    ensures exactly { EndsExactly (files_named (texts_of words.now)) (F.content folder.old) (S.left script.old) result }
+    ensures counts { IsCounted
+        (seen (F.content folder.old) (F.read_faults folder.old) (F.write_faults folder.old) (S.left script.old) (S.faults script.old) (K.pieces out.old) (K.faults out.old))
+        (seen (F.content folder.new) (F.read_faults folder.new) (F.write_faults folder.new) (S.left script.new) (S.faults script.new) (K.pieces out.new) (K.faults out.new))
+        result }
     ensures folder { F.content folder.new ≡ F.content folder.old }
-    ensures read_fault { result ≡ Status.ReadFault → Rose (F.read_faults folder.old) (F.read_faults folder.new) ⊎ Rose (S.faults script.old) (S.faults script.new) }
-    ensures write_fault { result ≡ Status.WriteFault → Rose (K.faults out.old) (K.faults out.new) }
 {
-    there_is_one_finding();
     let Some(named) = named_files(words) else {
         return say(out, USAGE, Status::Usage);
     };
     run_named(alloc, &named, folder, script, out)
-}
-
-/// A run finds one thing before the first record.
-pub fn there_is_one_finding()
-    ensures { OneFinding }
-{
-    files_open_in_one_way();
 }
 
 // The same, over the files that the words name.
@@ -61,11 +60,16 @@ fn run_named<F: Folder, S: Source, K: Sink>(
 ) -> Status
     requires some { 0 < length named.now.sheets.now }
     requires sheets { All (λ w. is_sheet (string_bytes w) ≡ true) named.now.sheets.now }
-    ensures ends { IfSome (F.content folder.old) (λ files. IfSome (S.left script.old) (λ bytes. EndsAs (named_of named.now) files bytes (K.written out.old) (K.written out.new) result)) }
-    ensures never { result ≢ Status.Usage }
+    ensures headline { RunsAs (Some (named_of named.now))
+        (seen (F.content folder.old) (F.read_faults folder.old) (F.write_faults folder.old) (S.left script.old) (S.faults script.old) (K.pieces out.old) (K.faults out.old))
+        (seen (F.content folder.new) (F.read_faults folder.new) (F.write_faults folder.new) (S.left script.new) (S.faults script.new) (K.pieces out.new) (K.faults out.new))
+        result }
+    ensures exactly { EndsExactly (Some (named_of named.now)) (F.content folder.old) (S.left script.old) result }
+    ensures counts { IsCounted
+        (seen (F.content folder.old) (F.read_faults folder.old) (F.write_faults folder.old) (S.left script.old) (S.faults script.old) (K.pieces out.old) (K.faults out.old))
+        (seen (F.content folder.new) (F.read_faults folder.new) (F.write_faults folder.new) (S.left script.new) (S.faults script.new) (K.pieces out.new) (K.faults out.new))
+        result }
     ensures folder { F.content folder.new ≡ F.content folder.old }
-    ensures read_fault { result ≡ Status.ReadFault → Rose (F.read_faults folder.old) (F.read_faults folder.new) ⊎ Rose (S.faults script.old) (S.faults script.new) }
-    ensures write_fault { result ≡ Status.WriteFault → Rose (K.faults out.old) (K.faults out.new) }
 {
     match find(alloc, named, folder, script) {
         Ok((book, rows)) => answer_records(alloc, book, &rows, out),
@@ -84,9 +88,13 @@ fn find<F: Folder, S: Source>(
 ) -> Result<(Workbook, Rows), End>
     requires some { 0 < length named.now.sheets.now }
     requires sheets { All (λ w. is_sheet (string_bytes w) ≡ true) named.now.sheets.now }
-    ensures finds { IfSome (F.content folder.old) (λ files. IfSome (S.left script.old) (λ bytes. FindsAll (named_of named.now) files bytes result)) }
+    ensures finds { IfSome (F.content folder.old) (λ files. IfSome (S.left script.old) (λ bytes. FindsAll (named_of named.now) files bytes (S.left script.new) result)) }
+    ensures order { IfSome (F.content folder.old) (λ files. (stop : Stop) → book_in (named_of named.now) files ≡ Err stop → IsSourceLeft (S.left script.old) (S.left script.new) (S.faults script.old) (S.faults script.new)) }
+    ensures many { SHEETS < length named.now.sheets.now → (F.read_faults folder.new ≡ F.read_faults folder.old) × IsSourceLeft (S.left script.old) (S.left script.new) (S.faults script.old) (S.faults script.new) }
     ensures folder { F.content folder.new ≡ F.content folder.old }
-    ensures read_fault { result ≡ Err End.Failed → Rose (F.read_faults folder.old) (F.read_faults folder.new) ⊎ Rose (S.faults script.old) (S.faults script.new) }
+    ensures writes { F.write_faults folder.new ≡ F.write_faults folder.old }
+    ensures read_fault { result ≡ Err End.Failed → IsFaultOf (F.read_faults folder.old) (F.read_faults folder.new) (S.left script.old) (S.left script.new) (S.faults script.old) (S.faults script.new) }
+    ensures no_read_fault { result ≢ Err End.Failed → (F.read_faults folder.new ≡ F.read_faults folder.old) × (S.faults script.new ≡ S.faults script.old) }
 {
     let book = open_files(alloc, named, folder)?;
     let rows = read_commands(alloc, script)?;
@@ -95,8 +103,8 @@ fn find<F: Folder, S: Source>(
 
 // Prints why a run ends before the first record.
 fn say_stop<K: Sink>(alloc: Global, named: &Named, stop: Stop, out: &mut K) -> Status
-    ensures says { Says (stop_line (named_of named.now) stop) (status_of stop) (K.written out.old) (K.written out.new) result }
-    ensures cause { result ≡ Status.WriteFault → Rose (K.faults out.old) (K.faults out.new) }
+    ensures says { Says (stop_line (named_of named.now) stop) (status_of stop) (K.pieces out.old) (K.pieces out.new) result }
+    ensures cause { IsSinkFault (K.faults out.old) (K.faults out.new) result }
 {
     match stop.line(alloc, named) {
         Ok(line) => say(out, line.as_str(), stop.status()),

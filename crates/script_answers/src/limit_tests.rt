@@ -279,3 +279,48 @@ fn as_many_sheets_as_there_may_be(rt: HostRuntime) -> Result<(), Fail> {
     assert!(rt; status == Status::Refused);
     Ok(())
 }
+
+// The file of names: a long text, behind it so many names, how the run ends, and what it prints.
+const NAME_FILES: &[(Long<'static>, usize, Status, &str)] = &[
+    (EMPTY, 32768, Status::Done, ""),
+    (EMPTY, 32769, Status::Limit, "limit names 32768\n"),
+    ((",x,", "y", 8192, "\n", 1), 1, Status::Done, ""),
+    (
+        (",x,", "y", 8193, "\n", 1),
+        1,
+        Status::Limit,
+        "limit field 8192\n",
+    ),
+    (
+        (",x_0,1\n", "", 0, "", 1),
+        32768,
+        Status::BadInput,
+        "bad-input names.csv name-row 2\n",
+    ),
+];
+
+// Adds the records of so many names, each another one.
+fn push_names(alloc: Global, bytes: &mut Vec<u8>, count: usize) -> Result<(), Fail> {
+    for place in 0..count {
+        let record = format!(in alloc; ",x_{place},1\n")?;
+        bytes.extend_from_slice(record.as_bytes())?;
+    }
+    Ok(())
+}
+
+#[test]
+fn files_of_names_at_their_limits(rt: HostRuntime) -> Result<(), Fail> {
+    for (long, count, end, want) in NAME_FILES {
+        let mut names = bytes(rt.alloc(), long)?;
+        push_names(rt.alloc(), &mut names, *count)?;
+        let files = [
+            ("names.csv", names.as_slice()),
+            ("plan.csv", b"".as_slice()),
+        ];
+        let line = "--names names.csv plan.csv";
+        let (status, printed) = ran(rt.alloc(), line, &files, b"", NEVER)?;
+        assert_eq!(rt; printed.as_slice(), want.as_bytes());
+        assert!(rt; status == *end);
+    }
+    Ok(())
+}

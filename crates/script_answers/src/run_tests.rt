@@ -93,7 +93,7 @@ pub(crate) fn ran(
 ) -> Result<(Status, Vec<u8>), Fail> {
     let words = words(alloc, line)?;
     let mut folder = folder(alloc, files, fails.0)?;
-    let mut source = MemSource::new(script.to_vec(alloc)?, [fails.1].to_vec(alloc)?);
+    let mut source = MemSource::new(alloc, script.to_vec(alloc)?, [fails.1].to_vec(alloc)?);
     let mut sink = MemSink::new(alloc, [fails.2].to_vec(alloc)?);
     let status = run(alloc, &words, &mut folder, &mut source, &mut sink);
     Ok((status, sink.bytes().to_vec(alloc)?))

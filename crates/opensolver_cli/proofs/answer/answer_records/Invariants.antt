@@ -1,10 +1,11 @@
-use Rattle.std.proofs.Common.{◌≤◌, take}
+use Rattle.std.proofs.Common.{◌≡◌, take}
+use Rattle.solver_io.specs.Files.{Files}
 use Rattle.opensolver_cli.proofs.StepLaws.{AreAnswered}
 use Rattle.opensolver_cli.proofs.answer.answer_records.Given as goal
 
--- the records so far are answered, and no fault was taken back
+-- the records so far are answered, and no write failed
 abbrev pub invariant-loop-place : goal.invariant-loop-place
 invariant-loop-place g l = record {
-  answered : AreAnswered l.fn.book (take l.place l.rows) (g.K.Sink.written l.fn.out) (g.K.Sink.written l.out) l.session l.refused;
-  later : g.K.Sink.faults l.fn.out ≤ g.K.Sink.faults l.out;
+  answered : (files : Files) → AreAnswered l.fn.book files (take l.place l.rows) (g.K.Sink.pieces l.fn.out) (g.K.Sink.pieces l.out) l.session l.refused;
+  same : g.K.Sink.faults l.out ≡ g.K.Sink.faults l.fn.out;
 }

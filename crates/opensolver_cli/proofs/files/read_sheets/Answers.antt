@@ -28,7 +28,8 @@ loop-place-preserved g c =
       count = grind (arith, common_steps);
       open_all = grind (arith, common_steps);
       same = search rules;
-      later = omega arith;
+      reads = search rules;
+      writes = search rules;
     }
 
 pub returns-clause-reads : goal.returns-clause-reads

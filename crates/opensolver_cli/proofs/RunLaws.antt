@@ -1,0 +1,266 @@
+-- How a run ends over the files that the words name.
+use Rattle.std.proofs.Common.{◌≡◌, ◌≢◌, ◌<◌, [], ℕ, List, Option, Some, None, IfSome, length, refl, sym, subst, inl, inr}
+use Rattle.std.specs.Prelude.{Result, Ok, Err, ◌⊎◌}
+use Rattle.std.specs.FinMap.{empty}
+use Rattle.cell_refs.specs.declared.limits.TheConstants.{SHEETS}
+use Rattle.solver_io.specs.Causes.{Rose}
+use Rattle.solver_io.specs.Files.{Files}
+use Rattle.sheet_csv.specs.Sheet.{Record}
+use Rattle.workbook.specs.State.{State}
+use Rattle.opensolver_cli.specs.Answering.{AnswersRecords, IsSinkFault, Says}
+use Rattle.opensolver_cli.specs.Completeness.{EndsExactly, EndsFor, EndsForTold, IsEarly, IsWhole}
+use Rattle.opensolver_cli.specs.Findings.{book_in, found}
+use Rattle.opensolver_cli.specs.Headline.{EndsAs, EndsOver, IsCounted, IsReadFault, LeavesTooMany, RunsAs, SaysUsage, setting_of, usage_line}
+use Rattle.opensolver_cli.specs.Inputs.{FindsAll, IsFaultOf, IsSourceLeft}
+use Rattle.opensolver_cli.specs.Outside.{IsScriptLeft, Outside}
+use Rattle.opensolver_cli.specs.Stops.{status_of, stop_line}
+use Rattle.opensolver_cli.specs.Words.{Named}
+use Rattle.opensolver_cli.specs.declared.status.Status.{Status}
+use Rattle.opensolver_cli.specs.declared.status.Status.TheVariants as status
+use Rattle.opensolver_cli.specs.declared.stop.End.TheVariants as end
+use Rattle.opensolver_cli.specs.declared.stop.Stop.{Stop}
+use Rattle.opensolver_cli.specs.declared.stop.Stop.TheVariants.{TooMuch, BadInput}
+
+-- where the files end the run, the script isn't touched
+abbrev Order : Named → Outside → Outside → Option Files → Type 0
+Order named before after content = IfSome content (λ files. (stop : Stop) → book_in named files ≡ Err stop → IsSourceLeft before.left after.left before.script_reads after.script_reads)
+
+-- what finding leaves of the outside, whatever it finds
+pub record IsFound (named : Named) (before after : Outside) : Type 0 where
+  pub order : Order named before after before.files
+  pub many : SHEETS < length named.sheets → (after.folder_reads ≡ before.folder_reads) × IsSourceLeft before.left after.left before.script_reads after.script_reads
+  pub same : after.files ≡ before.files
+  pub writes : after.folder_writes ≡ before.folder_writes
+
+script_left : (before after : Outside) → IsSourceLeft before.left after.left before.script_reads after.script_reads → IsScriptLeft before after
+script_left before after s = record { left = s.0; reads = s.1 }
+
+leaves : (named : Named) (before after : Outside) → IsFound named before after → LeavesTooMany named before after
+leaves named before after f big =
+    let m = f.many big in
+    (record { files = f.same; reads = m.0; writes = f.writes }, script_left before after m.1)
+
+-- the bytes are told, or they aren't
+over : (named : Named) (content : Option Files) (left : Option (List ℕ)) (before after : Outside) (r : Status) → content ≡ before.files → left ≡ before.left → IsFound named before after
+    → IfSome content (λ files. IfSome left (λ script. EndsAs named files script before after r)) → RunsAs (Some named) before after r
+over named None left before after r f l is h = (subst (λ (z : Option Files). EndsOver named z before.left before after r) f tt, leaves named before after is)
+over named (Some files) None before after r f l is h =
+    let told : EndsOver named (Some files) before.left before after r = subst (λ (z : Option (List ℕ)). EndsOver named (Some files) z before after r) l tt in
+    (subst (λ (z : Option Files). EndsOver named z before.left before after r) f told, leaves named before after is)
+over named (Some files) (Some script) before after r f l is h =
+    let order : Order named before after (Some files) = subst (Order named before after) (sym f) is.order in
+    let told : EndsOver named (Some files) before.left before after r =
+    subst (λ (z : Option (List ℕ)). EndsOver named (Some files) z before after r) l (h, λ stop no. script_left before after (order stop no)) in
+    (subst (λ (z : Option Files). EndsOver named z before.left before after r) f told, leaves named before after is)
+
+-- ---- all was found
+answered : (named : Named) (files : Files) (script : List ℕ) (before after : Outside) (book : State) (records : List Record) (r : Status) → after.files ≡ Some files → after.files ≡ before.files
+    → (found named files script ≡ Ok (book, records)) × (after.left ≡ Some []) → AnswersRecords (setting_of named book files) records before.pieces after.pieces (Some files) r
+    → EndsAs named files script before after r
+answered named files script before after book records status.Done kept same is h = (book, records, record { finds = is.0; to_its_end = is.1 }, rw kept h)
+answered named files script before after book records status.Refused kept same is h = (book, records, record { finds = is.0; to_its_end = is.1 }, rw kept h)
+answered named files script before after book records status.Usage kept same is h = absurd h
+answered named files script before after book records status.ReadFault kept same is h = absurd h
+answered named files script before after book records status.WriteFault kept same is h = inr (book, records, record { finds = is.0; to_its_end = is.1 }, rw kept h)
+answered named files script before after book records status.Memory kept same is (inl none) = inl (record { printed = none; files = same })
+answered named files script before after book records status.Memory kept same is (inr cut) = inr (inr (book, records, record { finds = is.0; to_its_end = is.1 }, rw kept cut))
+answered named files script before after book records status.Limit kept same is h = absurd h
+answered named files script before after book records status.BadInput kept same is h = absurd h
+
+all_answered : (named : Named) (content : Option Files) (left : Option (List ℕ)) (before after : Outside) (book : State) (records : List Record) (r : Status) → after.files ≡ content → after.files ≡ before.files
+    → IfSome content (λ files. IfSome left (λ script. FindsAll named files script after.left (Ok (book, records))))
+    → ((n : Named) (files : Files) → AnswersRecords (setting_of n book files) records before.pieces after.pieces (Some files) r)
+    → IfSome content (λ files. IfSome left (λ script. EndsAs named files script before after r))
+all_answered named None left before after book records r kept same is h = tt
+all_answered named (Some files) None before after book records r kept same is h = tt
+all_answered named (Some files) (Some script) before after book records r kept same is h = answered named files script before after book records r kept same is (h named files)
+
+pub run_answered : (named : Named) (before after : Outside) (book : State) (records : List Record) (r : Status) → IsFound named before after
+    → IfSome before.files (λ files. IfSome before.left (λ script. FindsAll named files script after.left (Ok (book, records))))
+    → ((n : Named) (files : Files) → AnswersRecords (setting_of n book files) records before.pieces after.pieces (Some files) r) → RunsAs (Some named) before after r
+run_answered named before after book records r f is h =
+    over named before.files before.left before after r refl refl f (all_answered named before.files before.left before after book records r f.same f.same is h)
+
+-- ---- the run stops before the first record
+stopped : (named : Named) (files : Files) (script : List ℕ) (before after : Outside) (stop : Stop) (r : Status) → found named files script ≡ Err stop
+    → Says (stop_line named stop) (status_of stop) before.pieces after.pieces r → after.files ≡ before.files → EndsAs named files script before after r
+stopped named files script before after (TooMuch kind) status.Usage is h same = absurd (cc h.0)
+stopped named files script before after (BadInput of why) status.Usage is h same = absurd (cc h.0)
+stopped named files script before after stop status.Limit is h same = (stop, is, (h.0, record { printed = h.1; files = same }))
+stopped named files script before after stop status.BadInput is h same = (stop, is, (h.0, record { printed = h.1; files = same }))
+stopped named files script before after stop status.WriteFault is h same = inl (stop, is, record { printed = h; files = same })
+stopped named files script before after stop status.Memory is h same = inr (inl (stop, is, record { printed = h; files = same }))
+stopped named files script before after stop status.Done is h same = absurd h
+stopped named files script before after stop status.Refused is h same = absurd h
+stopped named files script before after stop status.ReadFault is h same = absurd h
+
+all_stopped : (named : Named) (content : Option Files) (left : Option (List ℕ)) (before after : Outside) (stop : Stop) (r : Status) → after.files ≡ before.files
+    → IfSome content (λ files. IfSome left (λ script. FindsAll named files script after.left (Err (end.Stopped stop)))) → Says (stop_line named stop) (status_of stop) before.pieces after.pieces r
+    → IfSome content (λ files. IfSome left (λ script. EndsAs named files script before after r))
+all_stopped named None left before after stop r same is h = tt
+all_stopped named (Some files) None before after stop r same is h = tt
+all_stopped named (Some files) (Some script) before after stop r same is h = stopped named files script before after stop r is h same
+
+pub run_stopped : (named : Named) (before after : Outside) (stop : Stop) (r : Status) → IsFound named before after
+    → IfSome before.files (λ files. IfSome before.left (λ script. FindsAll named files script after.left (Err (end.Stopped stop)))) → Says (stop_line named stop) (status_of stop) before.pieces after.pieces r
+    → RunsAs (Some named) before after r
+run_stopped named before after stop r f is h =
+    over named before.files before.left before after r refl refl f (all_stopped named before.files before.left before after stop r f.same is h)
+
+-- ---- nothing is seen
+unseen : (named : Named) (content : Option Files) (left : Option (List ℕ)) (before after : Outside) (r : Status) → (r ≡ status.ReadFault) ⊎ (r ≡ status.Memory) → after.pieces ≡ before.pieces → after.files ≡ before.files
+    → IfSome content (λ files. IfSome left (λ script. EndsAs named files script before after r))
+unseen named None left before after r is none same = tt
+unseen named (Some files) None before after r is none same = tt
+unseen named (Some files) (Some script) before after r (inl is) none same = rw is (record { printed = none; files = same })
+unseen named (Some files) (Some script) before after r (inr is) none same = rw is (inl (record { printed = none; files = same }))
+
+pub run_unseen : (named : Named) (before after : Outside) (r : Status) → IsFound named before after → (r ≡ status.ReadFault) ⊎ (r ≡ status.Memory) → after.pieces ≡ before.pieces → RunsAs (Some named) before after r
+run_unseen named before after r f is none = over named before.files before.left before after r refl refl f (unseen named before.files before.left before after r is none f.same)
+
+-- ---- each status exactly
+early : (x : Result (State × List Record) Stop) (r : Status) → IsEarly r → EndsFor x r
+early (Ok ready) r h = inr h
+early (Err stop) r h = inr h
+
+early_exactly : (named : Named) (content : Option Files) (left : Option (List ℕ)) (r : Status) → IsEarly r → r ≢ status.Usage → EndsForTold named content left r
+early_exactly named None left r h other = other
+early_exactly named (Some files) None r h other = other
+early_exactly named (Some files) (Some script) r h other = early (found named files script) r h
+
+pub read_fault_exactly : (named : Named) (content : Option Files) (left : Option (List ℕ)) → EndsExactly (Some named) content left status.ReadFault
+read_fault_exactly named content left = early_exactly named content left status.ReadFault tt (λ e. cc e)
+
+pub memory_exactly : (named : Named) (content : Option Files) (left : Option (List ℕ)) → EndsExactly (Some named) content left status.Memory
+memory_exactly named content left = early_exactly named content left status.Memory tt (λ e. cc e)
+
+-- records that were answered
+abbrev Answered : Status → Type 0
+Answered r = (IsWhole r ⊎ IsEarly r) × (r ≢ status.Usage) × (r ≢ status.ReadFault)
+
+whole_or_early : (named : Named) (book : State) (files : Files) (records : List Record) (u v : Option (List (List ℕ))) (r : Status) → AnswersRecords (setting_of named book files) records u v (Some files) r → Answered r
+whole_or_early named book files records u v status.Done h = (inl tt, (λ e. cc e), λ e. cc e)
+whole_or_early named book files records u v status.Refused h = (inl tt, (λ e. cc e), λ e. cc e)
+whole_or_early named book files records u v status.WriteFault h = (inr tt, (λ e. cc e), λ e. cc e)
+whole_or_early named book files records u v status.Memory h = (inr tt, (λ e. cc e), λ e. cc e)
+whole_or_early named book files records u v status.Usage h = absurd h
+whole_or_early named book files records u v status.ReadFault h = absurd h
+whole_or_early named book files records u v status.Limit h = absurd h
+whole_or_early named book files records u v status.BadInput h = absurd h
+
+pub answered_exactly : (named : Named) (content : Option Files) (left after : Option (List ℕ)) (book : State) (records : List Record) (u v : Option (List (List ℕ))) (r : Status)
+    → IfSome content (λ files. IfSome left (λ script. FindsAll named files script after (Ok (book, records)))) → ((n : Named) (files : Files) → AnswersRecords (setting_of n book files) records u v (Some files) r)
+    → EndsExactly (Some named) content left r
+answered_exactly named None left after book records u v r is h = (whole_or_early named book empty records u v r (h named empty)).1
+answered_exactly named (Some files) None after book records u v r is h = (whole_or_early named book files records u v r (h named files)).1
+answered_exactly named (Some files) (Some script) after book records u v r is h = rw is.0 (whole_or_early named book files records u v r (h named files)).0
+
+-- a line that was said
+said : (stop : Stop) (line : List ℕ) (u v : Option (List (List ℕ))) (r : Status) → Says line (status_of stop) u v r → ((r ≡ status_of stop) ⊎ IsEarly r) × (r ≢ status.Usage) × (r ≢ status.ReadFault)
+said (TooMuch kind) line u v status.Usage h = absurd (cc h.0)
+said (BadInput of why) line u v status.Usage h = absurd (cc h.0)
+said stop line u v status.Limit h = (inl (sym h.0), (λ e. cc e), λ e. cc e)
+said stop line u v status.BadInput h = (inl (sym h.0), (λ e. cc e), λ e. cc e)
+said stop line u v status.WriteFault h = (inr tt, (λ e. cc e), λ e. cc e)
+said stop line u v status.Memory h = (inr tt, (λ e. cc e), λ e. cc e)
+said stop line u v status.Done h = absurd h
+said stop line u v status.Refused h = absurd h
+said stop line u v status.ReadFault h = absurd h
+
+pub stopped_exactly : (named : Named) (content : Option Files) (left after : Option (List ℕ)) (stop : Stop) (line : List ℕ) (u v : Option (List (List ℕ))) (r : Status)
+    → IfSome content (λ files. IfSome left (λ script. FindsAll named files script after (Err (end.Stopped stop)))) → Says line (status_of stop) u v r → EndsExactly (Some named) content left r
+stopped_exactly named None left after stop line u v r is h = (said stop line u v r h).1
+stopped_exactly named (Some files) None after stop line u v r is h = (said stop line u v r h).1
+stopped_exactly named (Some files) (Some script) after stop line u v r is h = rw is (said stop line u v r h).0
+
+-- ---- counts
+rose : (a b : ℕ) (r : Status) → IsSinkFault a b r → r ≡ status.WriteFault → Rose a b
+rose a b r h e = rw e at h
+
+kept : (a b : ℕ) (r : Status) → IsSinkFault a b r → r ≢ status.WriteFault → b ≡ a
+kept a b status.WriteFault h other = absurd (other refl)
+kept a b status.Done h other = h
+kept a b status.Refused h other = h
+kept a b status.Usage h other = h
+kept a b status.ReadFault h other = h
+kept a b status.Memory h other = h
+kept a b status.Limit h other = h
+kept a b status.BadInput h other = h
+
+counted : (before after : Outside) (r : Status) → r ≢ status.ReadFault → (after.folder_reads ≡ before.folder_reads) × (after.script_reads ≡ before.script_reads) → after.folder_writes ≡ before.folder_writes
+    → IsSinkFault before.sink_writes after.sink_writes r → IsCounted before after r
+counted before after r other reads writes sink = record {
+  read_fault = λ e. absurd (other e);
+  no_read_fault = λ _. reads;
+  write_fault = rose before.sink_writes after.sink_writes r sink;
+  no_write_fault = kept before.sink_writes after.sink_writes r sink;
+  saves = writes;
+}
+
+pub answered_counted : (named : Named) (before after : Outside) (book : State) (records : List Record) (r : Status) → ((n : Named) (files : Files) → AnswersRecords (setting_of n book files) records before.pieces after.pieces (Some files) r)
+    → (after.folder_reads ≡ before.folder_reads) × (after.script_reads ≡ before.script_reads) → after.folder_writes ≡ before.folder_writes
+    → IsSinkFault before.sink_writes after.sink_writes r → IsCounted before after r
+answered_counted named before after book records r h reads writes sink =
+    counted before after r (whole_or_early named book empty records before.pieces after.pieces r (h named empty)).2 reads writes sink
+
+pub said_counted : (stop : Stop) (line : List ℕ) (before after : Outside) (r : Status) → Says line (status_of stop) before.pieces after.pieces r
+    → (after.folder_reads ≡ before.folder_reads) × (after.script_reads ≡ before.script_reads) → after.folder_writes ≡ before.folder_writes
+    → IsSinkFault before.sink_writes after.sink_writes r → IsCounted before after r
+said_counted stop line before after r h reads writes sink = counted before after r (said stop line before.pieces after.pieces r h).2 reads writes sink
+
+pub memory_counted : (before after : Outside) → (after.folder_reads ≡ before.folder_reads) × (after.script_reads ≡ before.script_reads) → after.folder_writes ≡ before.folder_writes
+    → after.sink_writes ≡ before.sink_writes → IsCounted before after status.Memory
+memory_counted before after reads writes sink = counted before after status.Memory (λ e. cc e) reads writes sink
+
+fault_of : (before after : Outside) → IsFaultOf before.folder_reads after.folder_reads before.left after.left before.script_reads after.script_reads → IsReadFault before after
+fault_of before after (inl h) = inl (h.0, script_left before after h.1)
+fault_of before after (inr h) = inr h
+
+pub read_fault_counted : (before after : Outside) → IsFaultOf before.folder_reads after.folder_reads before.left after.left before.script_reads after.script_reads → after.folder_writes ≡ before.folder_writes
+    → after.sink_writes ≡ before.sink_writes → IsCounted before after status.ReadFault
+read_fault_counted before after h writes sink = record {
+  read_fault = λ _. fault_of before after h;
+  no_read_fault = λ other. absurd (other refl);
+  write_fault = λ e. cc e;
+  no_write_fault = λ _. sink;
+  saves = writes;
+}
+
+-- ---- words of another form
+-- the folder and the script are as they were
+pub record IsLeft (before after : Outside) : Type 0 where
+  pub files : after.files ≡ before.files
+  pub reads : after.folder_reads ≡ before.folder_reads
+  pub writes : after.folder_writes ≡ before.folder_writes
+  pub left : after.left ≡ before.left
+  pub script : after.script_reads ≡ before.script_reads
+
+usage_said : (before after : Outside) (r : Status) → after.files ≡ before.files → Says usage_line status.Usage before.pieces after.pieces r → SaysUsage before after r
+usage_said before after status.Usage same h = record { printed = h.1; files = same }
+usage_said before after status.WriteFault same h = record { printed = h; files = same }
+usage_said before after status.Memory same h = record { printed = h; files = same }
+usage_said before after status.Limit same h = absurd (cc h.0)
+usage_said before after status.BadInput same h = absurd (cc h.0)
+usage_said before after status.Done same h = absurd h
+usage_said before after status.Refused same h = absurd h
+usage_said before after status.ReadFault same h = absurd h
+
+usage_early : (u v : Option (List (List ℕ))) (r : Status) → Says usage_line status.Usage u v r → ((r ≡ status.Usage) ⊎ IsEarly r) × (r ≢ status.ReadFault)
+usage_early u v status.Usage h = (inl refl, λ e. cc e)
+usage_early u v status.WriteFault h = (inr tt, λ e. cc e)
+usage_early u v status.Memory h = (inr tt, λ e. cc e)
+usage_early u v status.Limit h = absurd (cc h.0)
+usage_early u v status.BadInput h = absurd (cc h.0)
+usage_early u v status.Done h = absurd h
+usage_early u v status.Refused h = absurd h
+usage_early u v status.ReadFault h = absurd h
+
+pub usage_runs : (named : Option Named) (before after : Outside) (r : Status) → None ≡ named → IsLeft before after → Says usage_line status.Usage before.pieces after.pieces r → RunsAs named before after r
+usage_runs named before after r none is h =
+    rw (← none) (usage_said before after r is.files h, record { files = is.files; reads = is.reads; writes = is.writes }, record { left = is.left; reads = is.script })
+
+pub usage_exactly : (named : Option Named) (content : Option Files) (left : Option (List ℕ)) (u v : Option (List (List ℕ))) (r : Status) → None ≡ named → Says usage_line status.Usage u v r → EndsExactly named content left r
+usage_exactly named content left u v r none h = rw (← none) (usage_early u v r h).0
+
+pub usage_counted : (before after : Outside) (r : Status) → IsLeft before after → Says usage_line status.Usage before.pieces after.pieces r → IsSinkFault before.sink_writes after.sink_writes r → IsCounted before after r
+usage_counted before after r is h sink = counted before after r (usage_early before.pieces after.pieces r h).1 (is.reads, is.script) is.writes sink

@@ -1,0 +1,57 @@
+-- How the answering of records goes: to its end, or to an early one.
+use Rattle.std.specs.Prelude.{◌≡◌, ◌++◌, ℕ, Bool, List, [], take, Option, Some, slice_get}
+use Rattle.std.specs.List.{list_any}
+use Rattle.solver_io.specs.Bytes.{Takes, part_of}
+use Rattle.solver_io.specs.Files.{Files}
+use Rattle.sheet_csv.specs.Sheet.{Record}
+use Rattle.commands.specs.declared.answer.Answer.{Answer}
+use Rattle.commands.specs.Lines.{answer_text, is_refusal}
+use Rattle.opensolver_cli.specs.Words.{Named}
+use Rattle.opensolver_cli.specs.Worlds.{World, Answers, Answered, lines_of}
+
+-- over which files the records are answered, and in which world they begin
+pub record Setting : Type 0 where
+  pub named : Named
+  pub start : World
+
+-- the names of the sheets, which stay as they are
+abbrev pub sheets_of : Setting → List (List ℕ)
+sheets_of setting = setting.start.session.book.sheets
+
+-- ---- all records
+-- all records are answered; the lines of each answer are one piece, and nothing else is printed; the folder's files are what the
+-- records have left; and one answer is a refusal or none is
+pub record AllAnswered (setting : Setting) (records : List Record) (before after : Option (List (List ℕ))) (files : Option Files) (refused : Bool) : Type 0 where
+  pub answers : List Answer
+  pub last : World
+  pub answered : Answered setting.start records answers last
+  pub printed : Takes before after (lines_of (sheets_of setting) answers)
+  pub files_are : files ≡ Some last.files
+  pub refusals : list_any (is_refusal (sheets_of setting)) answers ≡ refused
+
+-- ---- an early end, at a record
+-- the sink took only a part of the record's lines, or nothing of them; what the record saves is saved
+pub record EndsInSink (setting : Setting) (w : World) (fields : Record) (part : List (List ℕ)) (files : Option Files) : Type 0 where
+  pub answer : Answer
+  pub next : World
+  pub answered : Answers w fields answer next
+  pub count : ℕ
+  pub part_is : part ≡ part_of count (answer_text (sheets_of setting) answer)
+  pub files_are : files ≡ Some next.files
+
+-- nothing of the record is seen
+pub record EndsBefore (w : World) (part : List (List ℕ)) (files : Option Files) : Type 0 where
+  pub nothing : part ≡ []
+  pub files_are : files ≡ Some w.files
+
+-- the records before one were answered, the lines of each answer were one piece, and then the run ended in this way
+pub record CutShort (Ends : World → Record → List (List ℕ) → Type 0) (setting : Setting) (records : List Record) (before after : Option (List (List ℕ))) : Type 0 where
+  pub done : ℕ
+  pub fields : Record
+  pub there : slice_get records done ≡ Some fields
+  pub answers : List Answer
+  pub reached : World
+  pub answered : Answered setting.start (take done records) answers reached
+  pub part : List (List ℕ)
+  pub ends : Ends reached fields part
+  pub printed : Takes before after (lines_of (sheets_of setting) answers ++ part)

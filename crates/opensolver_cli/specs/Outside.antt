@@ -1,0 +1,55 @@
+-- A run as it is seen from outside: the folder's files, what the script has left and the pieces that the sink took, where they are
+-- told, and the counts of calls that failed; before it and after it.
+use Rattle.std.specs.Prelude.{◌≡◌, ◌∷◌, ℕ, List, [], Option}
+use Rattle.solver_io.specs.Bytes.{Takes, TakesSome}
+use Rattle.solver_io.specs.Files.{Files}
+
+-- what is told, and how many reads and writes of the folder, reads of the script and writes of the sink have failed
+pub record Outside : Type 0 where
+  pub files : Option Files
+  pub left : Option (List ℕ)
+  pub pieces : Option (List (List ℕ))
+  pub folder_reads : ℕ
+  pub folder_writes : ℕ
+  pub script_reads : ℕ
+  pub sink_writes : ℕ
+
+-- what is seen of a folder, a script and a sink, in this order
+abbrev pub seen : Option Files → ℕ → ℕ → Option (List ℕ) → ℕ → Option (List (List ℕ)) → ℕ → Outside
+seen files reads writes left script_reads pieces sink_writes = record {
+  files = files;
+  left = left;
+  pieces = pieces;
+  folder_reads = reads;
+  folder_writes = writes;
+  script_reads = script_reads;
+  sink_writes = sink_writes;
+}
+
+-- ---- what is left as it was
+-- the script isn't touched
+pub record IsScriptLeft (before after : Outside) : Type 0 where
+  pub left : after.left ≡ before.left
+  pub reads : after.script_reads ≡ before.script_reads
+
+-- nor the folder
+pub record IsFolderLeft (before after : Outside) : Type 0 where
+  pub files : after.files ≡ before.files
+  pub reads : after.folder_reads ≡ before.folder_reads
+  pub writes : after.folder_writes ≡ before.folder_writes
+
+-- nothing is printed and nothing saved
+pub record NothingIsSeen (before after : Outside) : Type 0 where
+  pub printed : after.pieces ≡ before.pieces
+  pub files : after.files ≡ before.files
+
+-- ---- one line
+-- a line is printed as one piece, and no file is changed
+pub record Prints (line : List ℕ) (before after : Outside) : Type 0 where
+  pub printed : Takes before.pieces after.pieces (line ∷ [])
+  pub files : after.files ≡ before.files
+
+-- a part of it is printed, or nothing
+pub record PrintsSome (line : List ℕ) (before after : Outside) : Type 0 where
+  pub printed : TakesSome before.pieces after.pieces line
+  pub files : after.files ≡ before.files
