@@ -18,6 +18,3 @@ pub use laws::{
 pub use memory::Memory;
 pub use rel::Rel;
 pub use stop::FormStop;
-
-#[cfg(test)]
-mod tests;

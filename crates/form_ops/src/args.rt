@@ -10,7 +10,7 @@ use cell_refs::ErrorKind;
 use form_values::{Abs, AbsArg};
 
 /// The single value, or the one element of an area; the error stands for an area of another size.
-pub(crate) fn value_of(arg: &AbsArg) -> Result<&Abs, ErrorKind>
+pub fn value_of(arg: &AbsArg) -> Result<&Abs, ErrorKind>
     ensures { MatchResult result (λ value. value.now ≡ value_of arg.now) (λ kind. Known (Error kind) ≡ value_of arg.now) }
 {
     match arg {
@@ -23,7 +23,7 @@ pub(crate) fn value_of(arg: &AbsArg) -> Result<&Abs, ErrorKind>
 }
 
 /// What the one value is where a number is wanted.
-pub(crate) fn operand_in(arg: &AbsArg) -> Operand<'_>
+pub fn operand_in(arg: &AbsArg) -> Operand<'_>
     ensures { wanted_in result ≡ number_of arg.now }
 {
     match value_of(arg) {

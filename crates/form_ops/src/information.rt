@@ -88,8 +88,8 @@ fn has_number(arg: &AbsArg) -> bool
     }
 }
 
-// Whether a value is a number.
-fn is_number(value: &Abs) -> bool
+/// Whether a value is a number: an open number is one, an open logical is none.
+pub fn is_number(value: &Abs) -> bool
     ensures { result ≡ is_number value.now }
 {
     matches!(value, Abs::Known(Value::Number(_)) | Abs::Affine(_))

@@ -20,12 +20,13 @@ mod sameness;
 mod singles;
 mod texts;
 
+pub use args::{operand_in, value_of};
 pub use choosing::if_test;
 pub use extremes::{max, min};
-pub use information::{isblank, isnumber, n_};
+pub use information::{is_number, isblank, isnumber, n_};
 pub use logic::{and_, not_, or_};
+pub use number_tests::inverse;
+pub use operand::{Number, Operand, constant_of, known_number, operand_of};
 pub use operators::{infix, minus, percent};
+pub use results::{as_entry, as_one, fault, form_refusal};
 pub use rounding::{abs_, int, mod_, power, round};
-
-#[cfg(test)]
-mod tests;

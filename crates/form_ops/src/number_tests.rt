@@ -42,7 +42,7 @@ pub(crate) fn is_place(number: i128) -> bool
 }
 
 /// 1 divided by a number, 0 for 0.
-pub(crate) fn inverse(number: Frac) -> Frac
+pub fn inverse(number: Frac) -> Frac
     ensures { result ≡ inv_ℚ number }
 {
     if number.is_zero() {

@@ -12,7 +12,7 @@ use sheet_model::{Value, to_number};
 
 /// A number as a form: one without terms is known.
 #[derive(Drop)]
-pub(crate) enum Number<'a> {
+pub enum Number<'a> {
     Known(Form),
     Open(&'a Form),
 }
@@ -22,7 +22,7 @@ impl Number<'_> {
     ghost use Rattle.form_ops.specs.Operands.{form_in};
 
     /// The form.
-    pub(crate) fn form(&self) -> &Form
+    pub fn form(&self) -> &Form
         ensures { result.now ≡ form_in self.now }
     {
         match self {
@@ -34,14 +34,14 @@ impl Number<'_> {
 
 /// What stands where a number is wanted: a number, an open logical, or an error.
 #[derive(Drop)]
-pub(crate) enum Operand<'a> {
+pub enum Operand<'a> {
     Number(Number<'a>),
     Test,
     Fault(ErrorKind),
 }
 
 /// What a value is where a number is wanted.
-pub(crate) fn operand_of(value: &Abs) -> Operand<'_>
+pub fn operand_of(value: &Abs) -> Operand<'_>
     ensures { wanted_in result ≡ wanted value.now }
 {
     match value {
@@ -67,7 +67,7 @@ pub(crate) fn comparable(value: &Abs) -> Option<Number<'_>>
 }
 
 /// The number that a form without terms is.
-pub(crate) fn constant_of(form: &Form) -> Option<Frac>
+pub fn constant_of(form: &Form) -> Option<Frac>
     ensures { result ≡ constant_of form.now }
 {
     match form.terms() {
@@ -77,7 +77,7 @@ pub(crate) fn constant_of(form: &Form) -> Option<Frac>
 }
 
 /// The number that is known there.
-pub(crate) fn known_number(operand: &Operand) -> Option<Frac>
+pub fn known_number(operand: &Operand) -> Option<Frac>
     ensures { result ≡ known_number (wanted_in operand.now) }
 {
     match operand {

@@ -13,7 +13,7 @@ use form_values::{Abs, AbsArg, OpRefusal, Rel};
 use sheet_model::{Arg, FuncStop, Value};
 
 /// An error as the value.
-pub(crate) fn fault(kind: ErrorKind) -> Abs
+pub fn fault(kind: ErrorKind) -> Abs
     ensures { result ≡ Known (Error kind) }
 {
     Abs::Known(Value::Error(kind))
@@ -27,7 +27,7 @@ pub(crate) fn logical(holds: bool) -> Abs
 }
 
 /// A calculated form as the value.
-pub(crate) fn as_entry(answer: Result<Form, FormStop>) -> Result<Abs, OpRefusal>
+pub fn as_entry(answer: Result<Form, FormStop>) -> Result<Abs, OpRefusal>
     ensures { result ≡ result_map_both entry form_refusal answer }
 {
     match answer {
@@ -47,7 +47,7 @@ pub(crate) fn as_test(relation: Rel, answer: Result<Form, FormStop>) -> Result<A
 }
 
 /// Why a form has no value.
-pub(crate) fn form_refusal(stop: FormStop) -> OpRefusal
+pub fn form_refusal(stop: FormStop) -> OpRefusal
     ensures { result ≡ form_refusal stop }
 {
     match stop {
@@ -87,7 +87,7 @@ fn function_refusal(stop: FuncStop) -> OpRefusal
 }
 
 /// A value as an argument.
-pub(crate) fn as_one(answer: Result<Abs, OpRefusal>) -> Result<AbsArg, OpRefusal>
+pub fn as_one(answer: Result<Abs, OpRefusal>) -> Result<AbsArg, OpRefusal>
     ensures { result ≡ result_map_both One (λ refusal. refusal) answer }
 {
     match answer {

@@ -15,7 +15,7 @@ use Rattle.sheet_model.specs.declared.value.Value.TheVariants.{Number, Text, Log
 use Rattle.sheet_model.specs.declared.grid.Arg.TheVariants as arg
 use Rattle.sheet_funcs.specs.Arguments as functions
 use Rattle.sheet_funcs.specs.Arguments.{no_error, on_ok, answered, column_of, below}
-use Rattle.sheet_funcs.specs.Lookups.{looked_up, lookup_of, is_sorted, vlookup_of, hlookup_of}
+use Rattle.sheet_funcs.specs.Lookups.{lookup_of, is_sorted, vlookup_of, hlookup_of}
 use Rattle.sheet_funcs.specs.Products as products
 use Rattle.sheet_funcs.specs.declared.lookups.MatchKind.{MatchKind}
 use Rattle.sheet_funcs.specs.declared.lookups.MatchKind.TheVariants.{Equal, Rising}
@@ -36,6 +36,7 @@ use Rattle.form_truth.specs.Picks.{first_column, read, IsRecord, LookupIsRight, 
 use Rattle.form_truth.proofs.Arguments.{value_at, value_sound}
 use Rattle.form_truth.proofs.Dots.{item_sound}
 use Rattle.form_truth.proofs.Fitting.{fits}
+use Rattle.form_truth.proofs.LookupSteps.{looked_up, lookup_steps}
 use Rattle.form_truth.proofs.Matching.{Asked, asks_form, asks_test, asked}
 use Rattle.form_truth.proofs.Matrices.{grid_sound}
 use Rattle.form_truth.proofs.Records.{record_right}
@@ -203,7 +204,8 @@ module _ (key table column : AbsArg) (rest : List AbsArg) (h : IsSound key) (i :
   found_at : (r : Result (ℕ × ℕ) ErrorKind) → exact (record_form fields keys b (number_of column) (kinds_in rest)) ≡ Ok r → (x : Assignment)
       → exact (vlookup_of (map (arg_at x) args)) ≡ arg.One (read (functions.grid_of (arg_at x table)) r)
   found_at r e x =
-      ap₂ (λ v p. exact (on_ok (no_error v) (λ k. on_ok p (λ n. on_ok (is_sorted (map (arg_at x) rest)) (λ s. answered (looked_up (functions.grid_of (arg_at x table)) k n s))))))
+      lookup_steps (functions.grid_of (arg_at x table)) (no_error (functions.value_of (arg_at x key))) (Rattle.sheet_funcs.specs.Rounding.place_of (arg_at x column)) (is_sorted (map (arg_at x) rest))
+      ∙ ap₂ (λ v p. exact (on_ok (no_error v) (λ k. on_ok p (λ n. on_ok (is_sorted (map (arg_at x) rest)) (λ s. answered (looked_up (functions.grid_of (arg_at x table)) k n s))))))
       (value_at x key) (ap (λ v. result_map_both floor_ℚ (λ k. k) (number_in v)) (value_at x column))
       ∙ record_right x (functions.grid_of (arg_at x table)) fields (columns_are x table) keys (column_is x table) b (value_of column) rest (number_of column) (fits (value_of column) (value_sound column j)) (kinds_in rest) refl r e
 
@@ -251,7 +253,7 @@ module _ (key table row : AbsArg) (rest : List AbsArg) (i : IsSound table) where
       → IsRecord (λ x. exact (vlookup_of (map (arg_at x) (key ∷ turned ∷ row ∷ rest)))) (λ x. functions.grid_of (arg_at x turned)) (key ∷ turned ∷ row ∷ rest) r
       → IsRecord (λ x. exact (hlookup_of (map (arg_at x) (key ∷ table ∷ row ∷ rest)))) (λ x. products.transposed (functions.grid_of (arg_at x table))) (key ∷ table ∷ row ∷ rest) r
   across (Ok r) h = λ x.
-      ap (λ g. exact (lookup_of g (arg_at x key) (arg_at x row) (is_sorted (map (arg_at x) rest)))) (exchanged_is x table i) ∙ h x ∙ ap (λ g. arg.One (read g r)) (sym (exchanged_is x table i))
+      ap (λ g. exact (lookup_of g (arg_at x key ∷ arg_at x row ∷ map (arg_at x) rest))) (exchanged_is x table i) ∙ h x ∙ ap (λ g. arg.One (read g r)) (sym (exchanged_is x table i))
   across (Err Breaks) h = h
   across (Err (Undecided n)) h = table_varies n h
 

@@ -44,3 +44,4 @@ pub mod Picking
 pub mod Records
 pub mod Finding
 pub mod Chosen
+pub mod LookupSteps

@@ -15,7 +15,7 @@ use Rattle.sheet_model.specs.declared.value.Value.TheVariants.{Number, Text, Log
 use Rattle.sheet_model.specs.declared.grid.Arg.{Arg}
 use Rattle.sheet_model.specs.declared.grid.Arg.TheVariants as arg
 use Rattle.sheet_funcs.specs.Arguments.{no_error, on_ok, answered, column_of}
-use Rattle.sheet_funcs.specs.Lookups.{found, element_or, looked_up, is_sorted}
+use Rattle.sheet_funcs.specs.Lookups.{found, is_sorted}
 use Rattle.sheet_funcs.specs.declared.lookups.MatchKind.{MatchKind}
 use Rattle.sheet_funcs.specs.declared.lookups.MatchKind.TheVariants.{Equal, Rising}
 use Rattle.affine_forms.specs.Forms.{Assignment, AffineForm, worth}
@@ -30,6 +30,7 @@ use Rattle.form_table.specs.Lookups.{may_be_key, known_value, known_keys, kinds_
 use Rattle.form_truth.specs.Picks.{read}
 use Rattle.form_truth.proofs.Arguments.{value_at}
 use Rattle.form_truth.proofs.Fitting.{Fits, is_none as is_error, is_form, is_open, constant_is}
+use Rattle.form_truth.proofs.LookupSteps.{element_or, looked_up}
 use Rattle.form_truth.proofs.Matching.{nothing_found, keys_at}
 use Rattle.form_truth.proofs.Varying.{value_known, items_known}
 

@@ -7,6 +7,3 @@ mod refusal;
 pub use abs::{Abs, AbsArg, AbsGrid};
 pub use affine_forms::Rel;
 pub use refusal::OpRefusal;
-
-#[cfg(test)]
-mod tests;

@@ -1,7 +1,7 @@
 // Arguments in a table: `x` is the first decision, `x>=0` a test of it, and the rest is as it is printed.
 
-use crate::{Abs, AbsArg, AbsGrid, Rel};
 use affine_forms::Form;
+use form_values::{Abs, AbsArg, AbsGrid, Rel};
 use frac128::Frac;
 use sheet_model::{Arg, Value};
 use std::test::Fail;

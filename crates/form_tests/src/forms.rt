@@ -1,7 +1,7 @@
 // Each call at ordinary forms, at forms that don't fit in place, and at the edge of what numbers hold. The values are those of
 // Python's `fractions`; `None` stands where a number is beyond `2 ^ 127 - 1`.
 
-use crate::{Form, FormStop};
+use affine_forms::{Form, FormStop};
 use frac128::Frac;
 use std::test::Fail;
 

@@ -5,12 +5,12 @@ ghost use Rattle.std.specs.Prelude.{◌≡◌};
 ghost use Rattle.std.specs.List.{list_all};
 ghost use Rattle.form_values.specs.Known.{all_known};
 
-use crate::{
+use affine_forms::Form;
+use cell_refs::{ErrorKind, Op};
+use form_ops::{
     abs_, and_, if_test, infix, int, isblank, isnumber, max, min, minus, mod_, n_, not_, or_,
     percent, power, round,
 };
-use affine_forms::Form;
-use cell_refs::{ErrorKind, Op};
 use form_values::{Abs, AbsArg, AbsGrid, OpRefusal, Rel};
 use frac128::Frac;
 use sheet_model::{Text, Value};

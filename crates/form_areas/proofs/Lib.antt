@@ -1,0 +1,13 @@
+pub mod Summing
+pub mod AmongItems
+pub mod Dots
+pub mod Placed
+pub mod ProductSums
+pub mod Counts
+pub mod Truth
+pub mod MatrixProducts
+pub mod Placing
+pub mod KnownKeys
+pub mod Meeting
+pub mod Sizes
+pub mod SumIfTruth

@@ -1,0 +1,5 @@
+use Rattle.form_areas.proofs.SumIfTruth.{sumif_true}
+use Rattle.form_areas.proofs.conditional.sumif.Goals as goal
+
+pub returns-clause-right : goal.returns-clause-right
+returns-clause-right c = sumif_true c.args.args.now c.summed.result c.summed.ensures

@@ -1,0 +1,22 @@
+//! Sums, products, picks and counts of areas whose values are known, affine forms of the decisions, or tests of such forms.
+#![tactic(auto)]
+
+mod conditional;
+mod counting;
+mod grids;
+mod indexing;
+mod items;
+mod lookups;
+mod matrices;
+mod products;
+mod records;
+mod sums;
+mod values;
+
+pub use conditional::{countif, sumif};
+pub use indexing::index_at;
+pub use lookups::lookup_at;
+pub use matrices::{mmult, transpose};
+pub use products::sumproduct;
+pub use records::record_at;
+pub use sums::{average, count, sum};
