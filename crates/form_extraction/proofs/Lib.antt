@@ -1,0 +1,23 @@
+pub mod Worth
+pub mod Parts
+pub mod Choices
+pub mod Picking
+pub mod Indexing
+pub mod Lookups
+pub mod Conditional
+pub mod AllPicks
+pub mod Trees
+pub mod Books
+pub mod Reading
+pub mod Agreeing
+pub mod Refusing
+pub mod RefusedRows
+pub mod RefusedChoices
+pub mod RefusedPicks
+pub mod Refuted
+mod ByExample
+pub mod Depending
+pub mod Looked
+pub mod Cells
+pub mod States
+pub mod Never

@@ -1,0 +1,10 @@
+pub mod Parts
+pub mod Deciding
+pub mod Sources
+pub mod Calls
+pub mod Formulas
+pub mod Places
+pub mod Laws
+pub mod Refuted
+pub mod Examples
+pub mod Looked
