@@ -9,9 +9,6 @@ mod standard;
 pub use inequality::{Inequality, are_regular};
 pub use standard::Standard;
 
-#[cfg(test)]
-mod tests;
-
 /// A leaf proof holds: it bounds the objective at each point, leaves no point, or leads on from each.
 pub fn leaf_proofs_hold()
     ensures { LeafProofsHold }

@@ -12,6 +12,3 @@ pub use depth::Depth;
 pub use info::{NodeEvent, NodeInfo};
 pub use oldest::Oldest;
 pub use picker::Picker;
-
-#[cfg(test)]
-mod tests;

@@ -13,6 +13,3 @@ pub use answer::{LpAnswer, LpStop};
 pub use choose::{Next, choose_next};
 pub use read::{cell_change, cell_value, direction, point, row_multipliers};
 pub use runs::{Work, make_pivot, resume, solve};
-
-#[cfg(test)]
-mod tests;

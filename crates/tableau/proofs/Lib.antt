@@ -1,5 +1,6 @@
 pub mod Elements
 pub mod Made
 pub mod Zeros
+pub mod Units
 pub mod Below
 pub mod Pivoted

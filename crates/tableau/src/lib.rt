@@ -4,6 +4,7 @@
 mod dict;
 mod first;
 mod numbers;
+mod products;
 mod row;
 mod rows;
 mod table;
@@ -11,6 +12,3 @@ mod table;
 pub use dict::Dict;
 pub use first::start;
 pub use row::Row;
-
-#[cfg(test)]
-mod tests;

@@ -1,12 +1,13 @@
 // What a pivot does to the numbers of one row.
 ghost use Rattle.std.specs.Prelude.{◌≡◌, ◌≢◌, ◌<◌, ◌==◌, ℕ, length, IfOk, MatchResult};
-ghost use Rattle.fractions.specs.Rational.{zero_ℚ, one_ℚ, neg_ℚ, ◌+ℚ◌, ◌*ℚ◌, ◌/ℚ◌};
+ghost use Rattle.fractions.specs.Rational.{zero_ℚ, ◌/ℚ◌};
 ghost use Rattle.fractions.specs.Vectors.{at, without};
 ghost use Rattle.frac128.specs.Narrow.{IsNarrow};
 ghost use Rattle.dictionaries.specs.Dictionary.{solved_row, substituted};
-ghost use Rattle.dictionaries.specs.Narrow.{IsNarrowQuotient, IsNarrowStep, IsNarrowSolvedRow, IsNarrowSubstituted, dividend};
+ghost use Rattle.dictionaries.specs.Narrow.{IsNarrowQuotient, IsNarrowSolvedRow, IsNarrowSubstituted, dividend};
 ghost use Rattle.tableau.specs.Written.{IsWritten};
 
+use crate::products::plus_product;
 use frac128::{Frac, Wide};
 
 /// `a / b`.
@@ -16,17 +17,6 @@ fn quotient(a: Frac, b: Frac) -> Result<Frac, Wide>
     ensures { MatchResult result (λ f. (f ≡ a /ℚ b) × IsNarrowQuotient a b) (λ _. ¬ (IsNarrowQuotient a b)) }
 {
     a.div(b)
-}
-
-/// `a + b * c`.
-#[tactic(auto, unfolding(dictionaries::specs::Narrow::IsNarrowStep))]
-fn plus_product(a: Frac, b: Frac, c: Frac) -> Result<Frac, Wide>
-    ensures { MatchResult result (λ f. (f ≡ a +ℚ b *ℚ c) × IsNarrowStep a b c) (λ _. ¬ (IsNarrowStep a b c)) }
-{
-    match b.mul(c) {
-        Ok(product) => a.add(product),
-        Err(fault) => Err(fault),
-    }
 }
 
 /// The number at `j`, or 0 at `k`.

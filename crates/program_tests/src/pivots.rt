@@ -1,10 +1,11 @@
 // Single pivots, with all numbers after them: the values are those of a plain program over Python's `fractions`.
 
-use crate::{Dict, Row, start};
+use crate::fractions_of::fraction;
 use frac128::Frac;
 use linear_programs::{Inequality, Standard, are_regular};
 use std::alloc::Global;
 use std::test::Fail;
+use tableau::{Dict, Row, start};
 
 type Pair = (i128, i128);
 
@@ -23,7 +24,7 @@ struct Case<'a> {
 }
 
 fn number(pair: Pair) -> Result<Frac, Fail> {
-    Ok(Frac::new(pair.0, pair.1).ok_or("it fits")?)
+    Ok(fraction(pair.0, pair.1).ok_or("it fits")?)
 }
 
 fn numbers(alloc: Global, of: &[Pair]) -> Result<Vec<Frac>, Fail> {

@@ -1,11 +1,19 @@
 // Programs with their runs and ends: the values are those of a plain program over Python's `fractions`.
 
-use crate::{LpAnswer, LpStop, Next, Work, choose_next, make_pivot, resume, solve};
+ghost use Rattle.std.specs.Prelude.{◌≡◌, [], ◌∷◌, IfOk};
+ghost use Rattle.fractions.specs.Rational.{neg_ℚ};
+ghost use Rattle.dictionaries.specs.Run.{IsReached};
+
+use crate::fractions_of::fraction;
 use frac128::Frac;
 use linear_programs::{Inequality, Standard, are_regular};
+use simplex::{
+    LpAnswer, LpStop, Next, Work, cell_value, choose_next, direction, make_pivot, point, resume,
+    row_multipliers, solve,
+};
 use std::alloc::Global;
 use std::test::Fail;
-use tableau::start;
+use tableau::{Dict, start};
 
 type Pair = (i128, i128);
 
@@ -29,7 +37,7 @@ struct Case<'a> {
 }
 
 fn number(pair: Pair) -> Result<Frac, Fail> {
-    Ok(Frac::new(pair.0, pair.1).ok_or("it fits")?)
+    Ok(fraction(pair.0, pair.1).ok_or("it fits")?)
 }
 
 fn numbers(alloc: Global, of: &[Pair]) -> Result<Vec<Frac>, Fail> {
@@ -435,5 +443,145 @@ fn runs_and_ends(rt: HostRuntime) -> Result<(), Fail> {
             }
         }
     }
+    Ok(())
+}
+
+// The numbers of the two columns of a cell.
+fn mirrored(alloc: Global, number: Frac) -> Result<Vec<Frac>, Fail>
+    ensures { IfOk result (λ v. v.items ≡ number ∷ neg_ℚ number ∷ []) }
+{
+    Ok(vec![in alloc; number, number.neg()]?)
+}
+
+// A program of a cell of two columns: what the objective has of it, and two rows with their bounds.
+fn of_two_columns(
+    alloc: Global,
+    objective: Frac,
+    first: (Frac, Frac),
+    second: (Frac, Frac),
+) -> Result<Standard, Fail> {
+    let columns = vec![in alloc; (0, Some(1))]?;
+    let objective = mirrored(alloc, objective)?;
+    let first_row = mirrored(alloc, first.0)?;
+    let second_row = mirrored(alloc, second.0)?;
+    let rows = vec![in alloc;
+        Inequality::new(first_row, first.1),
+        Inequality::new(second_row, second.1),
+    ]?;
+    Ok(Standard::new(columns, objective, Frac::zero(), rows))
+}
+
+// The least number of a cell that may be negative, from its least to its greatest.
+fn least_number(alloc: Global, least: i64, greatest: i64) -> Result<Standard, Fail> {
+    let one = Frac::one();
+    let above = (one.neg(), Frac::from_whole(least).neg());
+    let below = (one, Frac::from_whole(greatest));
+    of_two_columns(alloc, one.neg(), above, below)
+}
+
+// The same without a least one.
+fn no_least_number(alloc: Global) -> Result<Standard, Fail> {
+    let one = Frac::one();
+    let none = (Frac::zero(), one);
+    of_two_columns(alloc, one.neg(), (one, one), none)
+}
+
+fn ends(alloc: Global, program: &Standard, end: &End) -> bool {
+    let mut work = Work { left: 10 };
+    is_end(&solve(alloc, program, &mut work), end)
+}
+
+// The cells' numbers at the dictionary's point, one by one.
+fn cell_values(alloc: Global, program: &Standard, dict: &Dict) -> Result<Vec<Frac>, Fail>
+    requires { IsReached program.now dict.now }
+{
+    let mut values = Vec::new(alloc);
+    for cell in program.columns() {
+        values.push(cell_value(program, dict, *cell))?;
+    }
+    Ok(values)
+}
+
+// The readers at the last dictionary of a run: the point, and the direction or the multipliers.
+fn reads(alloc: Global, program: &Standard, at: &[Pair], more: &[Pair]) -> Result<bool, Fail> {
+    let mut dict = start(alloc, program)?;
+    let mut work = Work { left: 10 };
+    if resume(alloc, program, &mut dict, &mut work).is_err() {
+        return Ok(false);
+    }
+    let _width = dict.width();
+    let values = cell_values(alloc, program, &dict)?;
+    if !same(&values, at) || !same(&point(alloc, program, &dict)?, at) {
+        return Ok(false);
+    }
+    match choose_next(program, &dict) {
+        Next::Best => {
+            let found = row_multipliers(alloc, program, &dict, dict.objective())?;
+            Ok(same(&found, more))
+        }
+        Next::Unbounded(col) => Ok(same(&direction(alloc, program, &dict, col)?, more)),
+        _ => Ok(false),
+    }
+}
+
+// The basis of a pivot that isn't narrow.
+fn blocks(alloc: Global) -> Result<bool, Fail> {
+    let case = Case {
+        objective: &[(1, 1)],
+        constant: (0, 1),
+        rows: &[(1, 1), (1, 1), (1, 4), (1 << 126, 1)],
+        pivots: 0,
+        bases: &[2, 3],
+        end: End::Wide(3, 1),
+    };
+    let program = program(alloc, &case)?;
+    let mut work = Work { left: 10 };
+    match solve(alloc, &program, &mut work) {
+        Err(LpStop::WidePivot(basis, _, _)) => Ok(
+            basis.len() == 2 && has_basis(case.bases, 0, &basis),
+        ),
+        _ => Ok(false),
+    }
+}
+
+// The run and its end, and what the readers give.
+fn runs_to(
+    alloc: Global,
+    program: &Standard,
+    end: &End,
+    at: &[Pair],
+    more: &[Pair],
+) -> Result<bool, Fail> {
+    Ok(ends(alloc, program, end) && reads(alloc, program, at, more)?)
+}
+
+const AT_2: End = End::Best(&[(2, 1)], (-2, 1), &[(1, 1), (0, 1)]);
+
+const BELOW_0: End = End::Best(&[(-3, 1)], (3, 1), &[(1, 1), (0, 1)]);
+
+const ENDLESS: End = End::Unbounded(&[(0, 1)], &[(-1, 1)]);
+
+fn a_number_above_0(alloc: Global) -> Result<bool, Fail> {
+    let program = least_number(alloc, 2, 5)?;
+    runs_to(alloc, &program, &AT_2, &[(2, 1)], &[(1, 1), (0, 1)])
+}
+
+fn a_number_below_0(alloc: Global) -> Result<bool, Fail> {
+    let program = least_number(alloc, -3, 5)?;
+    runs_to(alloc, &program, &BELOW_0, &[(-3, 1)], &[(1, 1), (0, 1)])
+}
+
+fn no_least_number_at_all(alloc: Global) -> Result<bool, Fail> {
+    let program = no_least_number(alloc)?;
+    runs_to(alloc, &program, &ENDLESS, &[(0, 1)], &[(-1, 1)])
+}
+
+#[test]
+fn cells_of_two_columns(rt: HostRuntime) -> Result<(), Fail> {
+    let alloc = rt.alloc();
+    assert!(rt; a_number_above_0(alloc)?);
+    assert!(rt; a_number_below_0(alloc)?);
+    assert!(rt; no_least_number_at_all(alloc)?);
+    assert!(rt; blocks(alloc)?);
     Ok(())
 }

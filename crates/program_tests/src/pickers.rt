@@ -3,8 +3,8 @@
 ghost use Rattle.std.specs.Prelude.{IsTrue};
 ghost use Rattle.node_pick.specs.Rules.{IsRising};
 
-use crate::{Best, Depth, NodeEvent, NodeInfo, Oldest, Picker};
 use frac128::Frac;
+use node_pick::{Best, Depth, NodeEvent, NodeInfo, Oldest, Picker};
 use std::test::Fail;
 
 // The nodes are given as "number depth bound", with - for no bound.

@@ -1,7 +1,7 @@
 // Each public call once, at small numbers.
 
-use crate::{Inequality, Standard, are_regular};
 use frac128::Frac;
+use linear_programs::{Inequality, Standard, are_regular};
 use std::alloc::Global;
 use std::test::Fail;
 

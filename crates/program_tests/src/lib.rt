@@ -1,0 +1,18 @@
+//! Tests of linear programs and models, of the simplex method, certificates and pickers. They stand here so that no crate below
+//! is proved twice.
+#![tactic(auto)]
+
+#[cfg(test)]
+mod certificates;
+#[cfg(test)]
+mod fractions_of;
+#[cfg(test)]
+mod models;
+#[cfg(test)]
+mod pickers;
+#[cfg(test)]
+mod pivots;
+#[cfg(test)]
+mod programs;
+#[cfg(test)]
+mod simplex_runs;
