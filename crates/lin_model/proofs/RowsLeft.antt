@@ -15,7 +15,9 @@ use Rattle.lin_model.specs.Inner.{AreBuilt, AreForms, Pushed}
 use Rattle.lin_model.specs.declared.stop.BuildStop.{BuildStop}
 use Rattle.lin_model.specs.declared.stop.BuildStop.TheVariants as stops
 use Rattle.linear_models.proofs.Valid.{SidesAreForms}
-use Rattle.linear_models.specs.Statement.{Constraint, bounded, first_wide, number_or, row_left, row_or_none, reaching, form_or_zero}
+use Rattle.linear_models.specs.Statement.{Constraint}
+use Rattle.linear_models.specs.Bounds.{bounded}
+use Rattle.linear_models.specs.Linear.{first_wide, number_or, row_left, row_or_none, reaching, form_or_zero}
 use Rattle.linear_models.specs.Conditions.{Condition, constraint_of, constraints, goal_or_greatest, objective_where}
 
 -- the calculations from a place on

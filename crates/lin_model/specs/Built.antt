@@ -1,7 +1,8 @@
 -- What the building of a linear model answers.
 use Rattle.std.specs.Prelude.{◌≡◌, Result, Ok, Err, Some, None, ⊤}
 use Rattle.linear_models.specs.Model.{Model}
-use Rattle.linear_models.specs.Statement.{Statement, linear, wide_row}
+use Rattle.linear_models.specs.Statement.{Statement}
+use Rattle.linear_models.specs.Linear.{linear, wide_row}
 use Rattle.lin_model.specs.declared.stop.BuildStop.{BuildStop}
 use Rattle.lin_model.specs.declared.stop.BuildStop.TheVariants as stops
 

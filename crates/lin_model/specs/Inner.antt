@@ -1,17 +1,29 @@
 -- What inner contracts cite.
-use Rattle.std.specs.Prelude.{◌≡◌, ℕ, List, ◌++◌, Some, None, Result, Ok, Err, flat_map, ⊤}
+use Rattle.std.specs.Prelude.{◌≡◌, ℕ, List, ◌++◌, [], ◌∷◌, Option, Some, None, Result, Ok, Err, flat_map, ⊤}
 use Rattle.std.specs.List.{AllByRecursion}
-use Rattle.fractions.specs.Rational.{zero_ℚ}
+use Rattle.fractions.specs.Rational.{ℚ, zero_ℚ}
 use Rattle.optimality.specs.Problem.{Relation}
 use Rattle.calculations.specs.Calculation.{Calculation, exact, narrow}
 use Rattle.affine_forms.specs.Forms.{AffineForm, IsForm, constant_form}
 use Rattle.affine_forms.specs.declared.stop.FormStop.{FormStop}
 use Rattle.affine_forms.specs.declared.stop.FormStop.TheVariants as stop
-use Rattle.linear_models.specs.Statement.{Constraint, Statement, first_wide}
+use Rattle.linear_models.specs.Box.{greater, lesser}
+use Rattle.linear_models.specs.Statement.{Constraint, Statement}
+use Rattle.linear_models.specs.Linear.{first_wide}
 use Rattle.linear_models.specs.Agreement.{IsOwn, SidesReach}
 use Rattle.linear_models.specs.Conditions.{Condition, Conditions, constraints, statement_of}
 use Rattle.lin_model.specs.declared.stop.BuildStop.{BuildStop}
 use Rattle.lin_model.specs.declared.stop.BuildStop.TheVariants as stops
+
+-- a least value raised to some numbers, one after the other
+abbrev pub raised : Option ℚ → List ℚ → Option ℚ
+raised start [] = start
+raised start (c ∷ cs) = raised (Some (greater start c)) cs
+
+-- a greatest value lowered to them
+abbrev pub lowered : Option ℚ → List ℚ → Option ℚ
+lowered start [] = start
+lowered start (c ∷ cs) = lowered (Some (lesser start c)) cs
 
 -- the statement, where its objective doesn't matter
 abbrev pub without_objective : Conditions → List (AffineForm × AffineForm) → Statement

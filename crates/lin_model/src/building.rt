@@ -7,7 +7,7 @@ ghost use Rattle.affine_forms.specs.Forms.{IsForm};
 ghost use Rattle.linear_models.specs.Agreement.{AgreesWith, Fits, IsStated};
 ghost use Rattle.linear_models.specs.Conditions.{goal_or_greatest, objective_where, statement_of};
 ghost use Rattle.linear_models.specs.Model.{IsValid};
-ghost use Rattle.linear_models.specs.Statement.{form_or_zero, objective_left, rows_left};
+ghost use Rattle.linear_models.specs.Linear.{form_or_zero, objective_left, rows_left};
 ghost use Rattle.lin_model.specs.Built.{IsBuilt};
 ghost use Rattle.lin_model.specs.Inner.{AreBuilt, AreForms};
 ghost use Rattle.lin_model.specs.Kinds.{goal_of};

@@ -20,6 +20,3 @@ pub use kinds::{Goal, Relation};
 pub use memory::Memory;
 pub use model::{FormRow, LinModel};
 pub use stop::BuildStop;
-
-#[cfg(test)]
-mod tests;

@@ -5,7 +5,7 @@ ghost use Rattle.std.specs.Result.{result_map_both};
 ghost use Rattle.calculations.specs.Calculation.{turned_into};
 ghost use Rattle.affine_forms.specs.Steps.{subtracted};
 ghost use Rattle.linear_models.specs.Conditions.{constraint_of, constraints};
-ghost use Rattle.linear_models.specs.Statement.{reaching, row_left};
+ghost use Rattle.linear_models.specs.Linear.{reaching, row_left};
 ghost use Rattle.lin_model.specs.Inner.{AreBuilt, AreForms, Pushed};
 ghost use Rattle.lin_model.specs.Kinds.{goal_of, relation_of};
 

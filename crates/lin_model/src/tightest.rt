@@ -1,12 +1,14 @@
 // The bounds that a statement gives its decisions.
-ghost use Rattle.std.specs.Prelude.{◌≡◌, ◌||◌, IfOk, length, flat_map, map};
+ghost use Rattle.std.specs.Prelude.{◌≡◌, ◌||◌, IfOk, None, length, flat_map, map};
 ghost use Rattle.std.specs.List.{range_with_len};
 ghost use Rattle.fractions.specs.Floor.{floor_ℚ};
 ghost use Rattle.fractions.specs.Rational.{zero_ℚ};
 ghost use Rattle.fractions.specs.Whole.{whole_ℚ};
 ghost use Rattle.linear_models.specs.Conditions.{constraint_of, constraints};
-ghost use Rattle.linear_models.specs.Statement.{bounded_by, greatest_of, highest, highs_in, is_in, is_marked, is_number, least_of, linear, lower_bounds, lowered, lowest, lows_in, raised, upper_bounds, where_so};
-ghost use Rattle.lin_model.specs.Inner.{without_objective};
+ghost use Rattle.linear_models.specs.Statement.{is_in};
+ghost use Rattle.linear_models.specs.Bounds.{bounded_by, greatest_of, highest, highs_in, is_marked, is_number, least_of, lower_bounds, lowest, lows_in, upper_bounds, where_so};
+ghost use Rattle.linear_models.specs.Linear.{linear};
+ghost use Rattle.lin_model.specs.Inner.{lowered, raised, without_objective};
 
 use crate::bounds::{BoundBox, greater, lesser};
 use crate::conditions::{Condition, Conditions};
@@ -73,7 +75,7 @@ fn raised_by(
 #[tactic(auto, using(crate::proofs::Rules::raising))]
 fn raised_by_rows(rows: &[Condition], sides: &[(Form, Form)], decision: u16) -> Option<Frac>
     requires { length sides.now ≡ length rows.now }
-    ensures { result ≡ highest (flat_map (lows_in decision) (constraints rows.now sides.now)) }
+    ensures { result ≡ raised None (flat_map (lows_in decision) (constraints rows.now sides.now)) }
 {
     let mut least = None;
     for (place, row) in rows.iter().enumerate() {
@@ -106,7 +108,7 @@ fn lowered_by(
 #[tactic(auto, using(crate::proofs::Rules::raising))]
 fn lowered_by_rows(rows: &[Condition], sides: &[(Form, Form)], decision: u16) -> Option<Frac>
     requires { length sides.now ≡ length rows.now }
-    ensures { result ≡ lowest (flat_map (highs_in decision) (constraints rows.now sides.now)) }
+    ensures { result ≡ lowered None (flat_map (highs_in decision) (constraints rows.now sides.now)) }
 {
     let mut greatest = None;
     for (place, row) in rows.iter().enumerate() {
@@ -126,28 +128,44 @@ fn raised_where(so: bool, least: Option<Frac>) -> Option<Frac>
     }
 }
 
-// The tightest lower bound of a decision.
+// No bound, raised to each lower bound of a decision.
 #[tactic(auto, using(crate::proofs::Rules::raising))]
-fn lower_bound(of: &Conditions, sides: &[(Form, Form)], decision: u16) -> Option<Frac>
+fn raised_by_all(of: &Conditions, sides: &[(Form, Form)], decision: u16) -> Option<Frac>
     requires { length sides.now ≡ length of.now.rows }
-    ensures { result ≡ highest (lower_bounds (without_objective of.now sides.now) decision) }
+    ensures { result ≡ raised None (lower_bounds (without_objective of.now sides.now) decision) }
 {
     let rows = raised_by_rows(of.rows(), sides, decision);
     let binary = raised_where(is_in(decision, of.binary()), rows);
     raised_where(of.not_negative() && !is_in(decision, of.explicit()), binary)
 }
 
-// The tightest upper bound of a decision.
-#[tactic(auto, using(crate::proofs::Rules::raising))]
-fn upper_bound(of: &Conditions, sides: &[(Form, Form)], decision: u16) -> Option<Frac>
+// The tightest lower bound of a decision.
+fn lower_bound(of: &Conditions, sides: &[(Form, Form)], decision: u16) -> Option<Frac>
     requires { length sides.now ≡ length of.now.rows }
-    ensures { result ≡ lowest (upper_bounds (without_objective of.now sides.now) decision) }
+    ensures { result ≡ highest (lower_bounds (without_objective of.now sides.now) decision) }
+{
+    raised_by_all(of, sides, decision)
+}
+
+// No bound, lowered to each upper bound of a decision.
+#[tactic(auto, using(crate::proofs::Rules::raising))]
+fn lowered_by_all(of: &Conditions, sides: &[(Form, Form)], decision: u16) -> Option<Frac>
+    requires { length sides.now ≡ length of.now.rows }
+    ensures { result ≡ lowered None (upper_bounds (without_objective of.now sides.now) decision) }
 {
     let rows = lowered_by_rows(of.rows(), sides, decision);
     if is_in(decision, of.binary()) {
         return Some(lesser(rows, Frac::one()));
     }
     rows
+}
+
+// The tightest upper bound of a decision.
+fn upper_bound(of: &Conditions, sides: &[(Form, Form)], decision: u16) -> Option<Frac>
+    requires { length sides.now ≡ length of.now.rows }
+    ensures { result ≡ lowest (upper_bounds (without_objective of.now sides.now) decision) }
+{
+    lowered_by_all(of, sides, decision)
 }
 
 // The number rounded down.

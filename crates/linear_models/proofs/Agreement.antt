@@ -22,7 +22,9 @@ use Rattle.linear_models.proofs.Wholes.{whole_is, is_whole}
 use Rattle.linear_models.specs.Worths.{form_at, worth_of}
 use Rattle.linear_models.specs.Box.{bound_at}
 use Rattle.linear_models.specs.Model.{IsPoint, RowHolds, is_whole_at}
-use Rattle.linear_models.specs.Statement.{Statement, stated, linear, is_in, is_marked, lower_bounds, upper_bounds, where_so, highest, lowest, least_of, greatest_of, lows_in, highs_in, reaching, form_or_zero}
+use Rattle.linear_models.specs.Statement.{Statement, stated, is_in}
+use Rattle.linear_models.specs.Bounds.{is_marked, lower_bounds, upper_bounds, where_so, highest, lowest, least_of, greatest_of, lows_in, highs_in}
+use Rattle.linear_models.specs.Linear.{linear, reaching, form_or_zero}
 use Rattle.linear_models.specs.Agreement.{IsStated}
 use Rattle.linear_models.proofs.Permits.{get_at}
 use Rattle.linear_models.proofs.Tightest.{AllBelow, AllAbove, IfThereBelow, IfThereAbove, highest_is, lowest_is, rounded_up, rounded_down}

@@ -10,7 +10,8 @@ use Rattle.optimality.proofs.SameAnswers.{same_answers_hold}
 use Rattle.affine_forms.specs.Forms.{AffineForm}
 use Rattle.linear_models.specs.Worths.{worth_of}
 use Rattle.linear_models.specs.Model.{objective_of, problem_of}
-use Rattle.linear_models.specs.Statement.{Statement, stated, linear, form_or_zero, objective_left}
+use Rattle.linear_models.specs.Statement.{Statement, stated}
+use Rattle.linear_models.specs.Linear.{linear, form_or_zero, objective_left}
 use Rattle.linear_models.specs.Agreement.{IsStated, LinearAgrees}
 use Rattle.linear_models.proofs.Permits.{points_are_permitted}
 use Rattle.linear_models.proofs.Agreement.{linear_permits}

@@ -17,7 +17,9 @@ use Rattle.affine_forms.specs.Assigned.{assigned}
 use Rattle.affine_forms.specs.Steps.{subtracted}
 use Rattle.linear_models.specs.Worths.{form_at}
 use Rattle.linear_models.specs.Model.{RowHolds}
-use Rattle.linear_models.specs.Statement.{Constraint, row_of_sides, bounded_by, bounded, is_number, lows, highs, lows_in, highs_in, row_or_none, row_left}
+use Rattle.linear_models.specs.Statement.{Constraint, row_of_sides}
+use Rattle.linear_models.specs.Bounds.{bounded_by, bounded, is_number, lows, highs, lows_in, highs_in}
+use Rattle.linear_models.specs.Linear.{row_or_none, row_left}
 use Rattle.linear_models.specs.Agreement.{IsOwn}
 use Rattle.linear_models.proofs.Differences.{form-difference}
 use Rattle.linear_models.proofs.Tightest.{AllBelow, AllAbove}

@@ -12,9 +12,9 @@ use Rattle.fractions.proofs.Floor.{floor_is_greatest}
 use Rattle.optimality.specs.Optimal.{IsWhole}
 use Rattle.linear_models.proofs.Wholes.{whole_is, is_whole}
 use Rattle.linear_models.specs.Box.{lesser, greater}
-use Rattle.linear_models.specs.Statement.{raised, lowered, highest, lowest, up, down, ceiling_ℚ}
+use Rattle.linear_models.specs.Bounds.{highest, lowest, up, down, ceiling_ℚ}
 
-some_is : {x y : ℚ} → Some x ≡ Some y → x ≡ y
+pub some_is : {x y : ℚ} → Some x ≡ Some y → x ≡ y
 some_is e = cc
 
 -- each of the numbers is at most x, or at least x
@@ -38,7 +38,7 @@ not_at_most x y e = ⊎_elim (λ (h : x ≤ℚ y). absurd (clash ((le_iff x y).1
     clash : le_ℚ x y ≡ true → ⊥
     clash q = let k : true ≡ false = sym q ∙ e in cc
 
-greater_is : (o : Option ℚ) (c x : ℚ) → (greater o c ≤ℚ x) ↔ (IfThereBelow o x × (c ≤ℚ x))
+pub greater_is : (o : Option ℚ) (c x : ℚ) → (greater o c ≤ℚ x) ↔ (IfThereBelow o x × (c ≤ℚ x))
 greater_is None c x = (λ h. (λ b e. cc, h), λ h. h.1)
 greater_is (Some b) c x = cases (le_ℚ c b) refl
   where
@@ -46,7 +46,7 @@ greater_is (Some b) c x = cases (le_ℚ c b) refl
     cases true e = (λ h. (λ d q. subst (λ t. t ≤ℚ x) (some_is q) h, le_trans _ _ _ ((le_iff c b).0 e) h), λ h. h.0 b refl)
     cases false e = (λ h. (λ d q. subst (λ t. t ≤ℚ x) (some_is q) (le_trans _ _ _ (not_at_most c b e) h), h), λ h. h.1)
 
-lesser_is : (o : Option ℚ) (c x : ℚ) → (x ≤ℚ lesser o c) ↔ (IfThereAbove o x × (x ≤ℚ c))
+pub lesser_is : (o : Option ℚ) (c x : ℚ) → (x ≤ℚ lesser o c) ↔ (IfThereAbove o x × (x ≤ℚ c))
 lesser_is None c x = (λ h. (λ b e. cc, h), λ h. h.1)
 lesser_is (Some b) c x = cases (le_ℚ b c) refl
   where
@@ -54,27 +54,21 @@ lesser_is (Some b) c x = cases (le_ℚ b c) refl
     cases true e = (λ h. (λ d q. subst (λ t. x ≤ℚ t) (some_is q) h, le_trans _ _ _ h ((le_iff b c).0 e)), λ h. h.0 b refl)
     cases false e = (λ h. (λ d q. subst (λ t. x ≤ℚ t) (some_is q) (le_trans _ _ _ h (not_at_most b c e)), h), λ h. h.1)
 
-raised_is : (o : Option ℚ) (cs : List ℚ) (x : ℚ) → (IfThereBelow o x × AllBelow cs x) ↔ IfThereBelow (raised o cs) x
-raised_is o [] x = (λ h. h.0, λ h. (h, tt))
-raised_is o (c ∷ cs) x =
-    let g = greater_is o c x in let r = raised_is (Some (greater o c)) cs x in (
-      λ h. r.0 (λ b e. subst (λ t. t ≤ℚ x) (some_is e) (g.1 (h.0, h.1.0)), h.1.1),
-      λ h. let k = r.1 h in let m = g.0 (k.0 (greater o c) refl) in (m.0, (m.1, k.1)),
-    )
-
-lowered_is : (o : Option ℚ) (cs : List ℚ) (x : ℚ) → (IfThereAbove o x × AllAbove cs x) ↔ IfThereAbove (lowered o cs) x
-lowered_is o [] x = (λ h. h.0, λ h. (h, tt))
-lowered_is o (c ∷ cs) x =
-    let g = lesser_is o c x in let r = lowered_is (Some (lesser o c)) cs x in (
-      λ h. r.0 (λ b e. subst (λ t. x ≤ℚ t) (some_is e) (g.1 (h.0, h.1.0)), h.1.1),
-      λ h. let k = r.1 h in let m = g.0 (k.0 (lesser o c) refl) in (m.0, (m.1, k.1)),
-    )
-
 pub highest_is : (cs : List ℚ) (x : ℚ) → AllBelow cs x ↔ IfThereBelow (highest cs) x
-highest_is cs x = let r = raised_is None cs x in (λ h. r.0 (λ b e. cc, h), λ h. (r.1 h).1)
+highest_is [] x = (λ h b e. cc, λ h. tt)
+highest_is (c ∷ cs) x =
+    let g = greater_is (highest cs) c x in let r = highest_is cs x in (
+      λ h b e. subst (λ t. t ≤ℚ x) (some_is e) (g.1 (r.0 h.1, h.0)),
+      λ h. let k = g.0 (h (greater (highest cs) c) refl) in (k.1, r.1 k.0),
+    )
 
 pub lowest_is : (cs : List ℚ) (x : ℚ) → AllAbove cs x ↔ IfThereAbove (lowest cs) x
-lowest_is cs x = let r = lowered_is None cs x in (λ h. r.0 (λ b e. cc, h), λ h. (r.1 h).1)
+lowest_is [] x = (λ h b e. cc, λ h. tt)
+lowest_is (c ∷ cs) x =
+    let g = lesser_is (lowest cs) c x in let r = lowest_is cs x in (
+      λ h b e. subst (λ t. x ≤ℚ t) (some_is e) (g.1 (r.0 h.1, h.0)),
+      λ h. let k = g.0 (h (lesser (lowest cs) c) refl) in (k.1, r.1 k.0),
+    )
 
 -- ---- rounding
 down_whole : (b x : ℚ) → IsWhole x → (x ≤ℚ whole_ℚ (floor_ℚ b)) ↔ (x ≤ℚ b)

@@ -13,7 +13,9 @@ use Rattle.optimality.specs.Optimal.{IsWhole}
 use Rattle.affine_forms.specs.Forms.{AffineForm, IsForm, constant_form}
 use Rattle.linear_models.specs.Box.{bound_at}
 use Rattle.linear_models.specs.Model.{IsFormOf, IsValid, is_whole_at}
-use Rattle.linear_models.specs.Statement.{Constraint, Statement, bounded, linear, form_or_zero, objective_left, is_marked, least_of, greatest_of, up, down, highest, lowest, lower_bounds, upper_bounds}
+use Rattle.linear_models.specs.Statement.{Constraint, Statement}
+use Rattle.linear_models.specs.Bounds.{bounded, is_marked, least_of, greatest_of, up, down, highest, lowest, lower_bounds, upper_bounds}
+use Rattle.linear_models.specs.Linear.{linear, form_or_zero, objective_left}
 use Rattle.linear_models.specs.Agreement.{IsStated, SidesReach}
 use Rattle.linear_models.proofs.Wholes.{is_whole}
 use Rattle.linear_models.proofs.Members.{made_at, made_past, below_or_not}

@@ -6,7 +6,8 @@ use Rattle.optimality.specs.Laws.{Agree, SameAnswers}
 use Rattle.affine_forms.specs.Forms.{AffineForm, decision_form}
 use Rattle.affine_forms.specs.Assigned.{ReachTo}
 use Rattle.linear_models.specs.Model.{Model, IsPoint, problem_of}
-use Rattle.linear_models.specs.Statement.{Constraint, Statement, stated, linear}
+use Rattle.linear_models.specs.Statement.{Constraint, Statement, stated}
+use Rattle.linear_models.specs.Linear.{linear}
 use Rattle.linear_models.specs.Conditions.{Conditions, statement_of}
 
 -- where the left side is a decision, it is one of the first n, and the left form is that decision

@@ -4,5 +4,7 @@ pub mod Model
 pub mod Standard
 pub mod Laws
 pub mod Statement
+pub mod Bounds
+pub mod Linear
 pub mod Conditions
 pub mod Agreement

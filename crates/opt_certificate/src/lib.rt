@@ -16,9 +16,6 @@ mod way;
 pub use checking::{CheckStop, Claim, check};
 pub use tree::{Tree, TreeNode};
 
-#[cfg(test)]
-mod tests;
-
 /// What a certificate claims is true of its model.
 pub fn certificates_hold()
     ensures { CertificatesHold }

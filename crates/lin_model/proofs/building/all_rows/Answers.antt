@@ -2,7 +2,7 @@ use Rattle.std.proofs.Common.{◌≡◌, sym, ap, ◌∙◌, subst, arith, List,
 use Rattle.optimality.specs.Problem.{Goal}
 use Rattle.calculations.specs.Calculation.{narrow}
 use Rattle.linear_models.specs.Conditions.{Condition, constraints, goal_or_greatest, objective_where}
-use Rattle.linear_models.specs.Statement.{form_or_zero, reaching, row_left}
+use Rattle.linear_models.specs.Linear.{form_or_zero, reaching, row_left}
 use Rattle.lin_model.specs.Inner.{AreBuilt}
 use Rattle.lin_model.proofs.RowsLeft.{all_built, last_wide, stopped_all, reaching_same, length-constraints, same_length}
 use Rattle.lin_model.proofs.building.all_rows.Goals as goal

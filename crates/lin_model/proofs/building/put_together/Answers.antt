@@ -2,7 +2,7 @@ use Rattle.std.proofs.Common.{◌≡◌, sym, ap, ◌∙◌, subst, Option}
 use Rattle.optimality.specs.Problem.{Goal}
 use Rattle.linear_models.specs.Conditions.{goal_or_greatest, objective_where, statement_of}
 use Rattle.linear_models.specs.Model.{IsValid}
-use Rattle.linear_models.specs.Statement.{form_or_zero, linear, objective_left}
+use Rattle.linear_models.specs.Linear.{form_or_zero, linear, objective_left}
 use Rattle.linear_models.proofs.Valid.{linear_is_valid}
 use Rattle.lin_model.specs.Kinds.{goal_of}
 use Rattle.lin_model.proofs.RowsLeft.{all_sides, model_is, stated_objective}

@@ -3,7 +3,7 @@ use Rattle.optimality.specs.Problem.{Goal, equal}
 use Rattle.calculations.specs.Calculation.{turned_into}
 use Rattle.affine_forms.specs.Forms.{AffineForm}
 use Rattle.affine_forms.specs.Steps.{subtracted}
-use Rattle.linear_models.specs.Statement.{reaching}
+use Rattle.linear_models.specs.Linear.{reaching}
 use Rattle.lin_model.specs.Inner.{Pushed}
 use Rattle.lin_model.specs.Kinds.{goal_of}
 use Rattle.lin_model.proofs.rows.push_reaching.Goals as goal

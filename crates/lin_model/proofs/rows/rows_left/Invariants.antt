@@ -2,7 +2,7 @@ use Rattle.std.proofs.Common.{◌≡◌, ◌++◌, suc, drop}
 use Rattle.std.specs.Prelude.{flat_map}
 use Rattle.std.specs.List.{AllByRecursion}
 use Rattle.calculations.specs.Calculation.{exact}
-use Rattle.linear_models.specs.Statement.{first_wide}
+use Rattle.linear_models.specs.Linear.{first_wide}
 use Rattle.lin_model.specs.Inner.{AreForms}
 use Rattle.lin_model.proofs.RowsLeft.{left_from}
 use Rattle.lin_model.proofs.rows.rows_left.Given as goal

@@ -1,6 +1,6 @@
 use Rattle.std.proofs.Common.{◌≡◌, map}
 use Rattle.std.specs.List.{range_with_len}
-use Rattle.linear_models.specs.Statement.{least_of}
+use Rattle.linear_models.specs.Bounds.{least_of}
 use Rattle.lin_model.specs.Inner.{without_objective}
 use Rattle.lin_model.proofs.tightest.all_least.Given as goal
 

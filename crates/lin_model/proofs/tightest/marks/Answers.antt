@@ -1,6 +1,6 @@
 use Rattle.std.proofs.Common.{ap₂, ◌∙◌, ◌++◌, ◌∷◌, [], sym, arith}
 use Rattle.std.proofs.lemmas.List.FromFn.{map-range_with_len_more}
-use Rattle.linear_models.specs.Statement.{is_marked}
+use Rattle.linear_models.specs.Bounds.{is_marked}
 use Rattle.lin_model.specs.Inner.{without_objective}
 use Rattle.lin_model.proofs.tightest.marks.Goals as goal
 
