@@ -1,0 +1,9 @@
+pub mod Nodes
+pub mod Stepping
+pub mod Joining
+pub mod Overs
+pub mod Programs
+pub mod Telling
+pub mod Openings
+pub mod Holding
+pub mod Running

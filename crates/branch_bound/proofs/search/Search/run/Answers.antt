@@ -1,0 +1,57 @@
+use Rattle.std.proofs.Common.{arith, refl, ◌≡◌, sym, ◌∙◌, subst}
+use Rattle.branch_bound.specs.Searches.{Held, HasEnded}
+use Rattle.branch_bound.specs.Ends.{MayGoOn}
+use Rattle.branch_bound.proofs.Running.{none_yet, one_more, stop_ends}
+use Rattle.std.proofs.lemmas.Bool.{false≢true}
+use Rattle.branch_bound.proofs.search.Search.run.Goals.{then-loop-spent-test+then-not-has_ended+else-units-budget, then-loop-spent-test+else-not-has_ended, else-loop-spent-test}
+use Rattle.branch_bound.proofs.search.Search.run.Goals as goal
+
+pub loop-spent-init : goal.loop-spent-init
+loop-spent-init g c = record { trail = none_yet _ _ _ _; spent = omega arith; model = refl; budget = refl; answered = refl; rule = refl }
+
+pub loop-spent-preserved : goal.loop-spent-preserved
+loop-spent-preserved g c =
+    let i = c.loop-spent.invariant in
+    record {
+      trail = one_more _ _ _ _ _ _ _ _ _ _ _ i.trail i.model i.rule c.in-Ok.ensures.ok c.in-Ok.ensures.counted;
+      spent = omega arith;
+      model = c.step.ensures.same.0 ∙ i.model;
+      budget = c.step.ensures.same.1 ∙ i.budget;
+      answered = c.step.ensures.same.2 ∙ i.answered;
+      rule = c.step.ensures.rule ∙ i.rule;
+    }
+
+pub returns-in-Err-clause-ends : goal.returns-in-Err-clause-ends
+returns-in-Err-clause-ends g c =
+    let i = c.loop-spent.invariant in
+    let n : ¬ (HasEnded c.loop-spent.self) = λ h. false≢true (sym c.if-not-has_ended.true ∙ c.has_ended.ensures.1 h) in
+    let a = i.trail.2 in
+    let b = i.trail.3 in
+    let l = c.loop-spent-test.true in
+    let u = c.units.ensures.value in
+    let v = c.budget.ensures.value in
+    let t = c.if-units-budget.true in
+    let m : MayGoOn c.args.self.now.units c.args.units c.loop-spent.self =
+    record { leaf = record { not_ended = n; not_given = i.answered ∙ c.requires }; in_budget = omega (arith, u, v, t); asked = omega (arith, a, b, l) } in
+    stop_ends c.args.self.now.units c.args.units c.step.new.self c.stopped.result (subst (λ (s : Held). MayGoOn c.args.self.now.units c.args.units s) (sym c.in-Err.ensures.stop.0) m) c.stopped.ensures
+
+pub answer-requires-clause-ended : goal.answer-requires-clause-ended
+answer-requires-clause-ended g c = c.has_ended-2.ensures.0 c.if-has_ended.true
+
+pub returns-clause-ends : goal.returns-clause-ends
+returns-clause-ends g c =
+    let i = c.loop-spent.invariant in
+    let n : ¬ (HasEnded c.loop-spent.self) = λ h. false≢true (sym c.if-has_ended.false ∙ c.has_ended-2.ensures.1 h) in
+    let a = i.trail.2 in
+    let b = i.trail.3 in
+    let s = i.spent in
+    let u = c.units-2.ensures.value in
+    let v = c.budget-2.ensures.value in
+    let t = c.if-budget-units.false in
+    let e : c.loop-spent.spent ≡ c.args.units =
+    elim c.loop-spent-test.branch [
+      | then-loop-spent-test+then-not-has_ended+else-units-budget w ↦ (let x = w.units.ensures.value in let y = w.budget.ensures.value in let z = w.if-units-budget.false in absurd (omega (arith, x, y, z, u, v, t)))
+      | then-loop-spent-test+else-not-has_ended w ↦ (absurd (n (w.has_ended.ensures.0 w.if-not-has_ended.false)))
+      | else-loop-spent-test w ↦ (let z = w.loop-spent-test.false in omega (arith, z, s))
+    ] in
+    (omega (arith, a, b, e), omega (arith, u, v, t), record { not_ended = n; not_given = i.answered ∙ c.requires })

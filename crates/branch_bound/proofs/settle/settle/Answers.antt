@@ -1,0 +1,28 @@
+use Rattle.std.proofs.Common.{◌∙◌, sym, ap, ap₂, List, length, arith}
+use Rattle.std.specs.Prelude.{None}
+use Rattle.fractions.specs.Rational.{ℚ}
+use Rattle.searches.specs.Trails.{goes_on, ended}
+use Rattle.search_ends.specs.Ends.{end_at}
+use Rattle.branch_bound.specs.States.{state_of, waiting_of}
+use Rattle.branch_bound.proofs.Joining.{becomes_end, same_value, written_back}
+use Rattle.branch_bound.proofs.settle.settle.Goals as goal
+
+pub returns-in-None-clause-becomes : goal.returns-in-None-clause-becomes
+returns-in-None-clause-becomes g c = goes_on c.in-None.ensures.end
+
+pub returns-in-Some-clause-becomes : goal.returns-in-Some-clause-becomes
+returns-in-Some-clause-becomes g c =
+    let f = c.args.frontier.now in
+    let w = c.args.work in
+    let e = c.in-Some.end in
+    let x = c.end_of-end.new.point in
+    let d = c.end_of-end.new.direction in
+    let a = c.end_of-end.auto.point in
+    let b = ap length c.deref_mut.ensures.value in
+    let i = c.end_of-end.auto.direction in
+    let j = ap length c.deref_mut-2.ensures.value in
+    let p = written_back w.point.len x w.point.items w.point.ok.0 (omega (arith, a, b)) in
+    let q = written_back w.direction.len d w.direction.items w.direction.ok.0 (omega (arith, i, j)) in
+    becomes_end c.args.model.now (state_of f None) (state_of c.finish.new.frontier None) (waiting_of f.paths.paths w.info) w.pivots w.dict w.program c.best_value-best.result
+    (end_at e x d) c.requires.ready.program (same_value f.found ∙ sym c.best_value-best.ensures) c.in-Some.ensures.end
+    (c.finish.ensures.ended ∙ ap₂ (λ (u v : List ℚ). ended (state_of f None) (waiting_of f.paths.paths w.info) w.pivots (end_at e u v)) p q)

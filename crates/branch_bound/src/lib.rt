@@ -1,0 +1,16 @@
+//! Branch and bound by units, each the opening of a node or a pivot, over any number of calls.
+#![tactic(auto)]
+
+mod answer;
+mod frontier;
+mod opening;
+mod over;
+mod progress;
+mod run;
+mod search;
+mod settle;
+mod wide;
+mod work;
+
+pub use progress::{Progress, SearchStop};
+pub use search::Search;

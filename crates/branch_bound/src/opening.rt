@@ -1,0 +1,109 @@
+ghost use Rattle.std.specs.Prelude.{◌≡◌, ◌≢◌, ◌<◌, ◌≤◌, ◌+◌, ◌^◌, ℕ, [], Some, None, length, IfOk, OnErr, option_map};
+ghost use Rattle.dictionaries.specs.Dictionary.{first_of_program};
+ghost use Rattle.node_pick.specs.Rules.{Follows, IsRising};
+ghost use Rattle.linear_models.specs.Model.{IsValid};
+ghost use Rattle.searches.specs.Trees as trees;
+ghost use Rattle.searches.specs.Trails as trails;
+ghost use Rattle.branch_bound.specs.States.{IsOpened, IsOrderly, IsPrepared, IsSame, node_of, state_of, waiting_of, way_of};
+
+use crate::frontier::{Frontier, reserve};
+use crate::work::Work;
+use frac128::Frac;
+use lin_model::LinModel;
+use linear_programs::Standard;
+use memory::Memory;
+use node_pick::{NodeEvent, NodeInfo, Picker};
+use search_paths::box_along;
+use std::alloc::Global;
+use tableau::start;
+
+// The same node.
+fn copied(info: &NodeInfo) -> NodeInfo
+    ensures { result ≡ info.now }
+{
+    NodeInfo {
+        number: info.number,
+        depth: info.depth,
+        bound: info.bound,
+    }
+}
+
+// The program of a node.
+fn program_of(
+    alloc: Global,
+    model: &LinModel,
+    frontier: &Frontier,
+    info: &NodeInfo,
+) -> Result<Standard, Memory>
+    requires { info.now.number < length frontier.now.paths.paths }
+    ensures program { IfOk result (λ p. p ≡ trails.node_program model.now (option_map way_of frontier.now.way) (waiting_of frontier.now.paths.paths info.now)) }
+    ensures columns { IfOk result (λ p. length p.columns ≡ length model.now.whole) }
+{
+    let _whole = model.whole();
+    let path = frontier.paths.path(alloc, info.number as usize)?;
+    let part = box_along(alloc, model.bounds(), &path)?;
+    model.standard(alloc, &part, frontier.way.is_some())
+}
+
+/// Takes all the memory that the work on a node needs, for its end too.
+fn prepare(
+    alloc: Global,
+    model: &LinModel,
+    frontier: &mut Frontier,
+    info: NodeInfo,
+) -> Result<Work, Memory>
+    requires { info.number < length frontier.old.paths.paths }
+    ensures same { IsSame frontier.old frontier.new }
+    ensures ready { IfOk result (λ w. IsPrepared model.now frontier.new info w) }
+{
+    reserve(frontier)?;
+    let program = program_of(alloc, model, frontier, &info)?;
+    let dict = start(alloc, &program)?;
+    let decisions = model.whole().len();
+    let point = vec![in alloc; Frac::zero(); decisions]?;
+    let direction = vec![in alloc; Frac::zero(); decisions]?;
+    Ok(Work {
+        info,
+        pivots: 0,
+        program,
+        dict,
+        point,
+        direction,
+    })
+}
+
+// The place of the node that the picker chooses.
+fn chosen(waiting: &[NodeInfo], pick: &mut Box<dyn Picker>) -> usize
+    requires waits { waiting.now ≢ [] }
+    requires rising { IsRising waiting.now }
+    ensures place { result < length waiting.now }
+    ensures follows { Follows (rule pick.old) waiting.now result }
+    ensures rule { rule pick.new ≡ rule pick.old }
+{
+    pick.choose(waiting)
+}
+
+/// Opens the node that the picker chooses.
+pub(crate) fn open(
+    alloc: Global,
+    model: &LinModel,
+    frontier: &mut Frontier,
+    pick: &mut Box<dyn Picker>,
+) -> Result<Work, Memory>
+    requires waits { frontier.old.waiting.items ≢ [] }
+    requires rising { IsRising frontier.old.waiting.items }
+    requires orderly { IsOrderly frontier.old }
+    ensures opened { IfOk result (λ w. IsOpened model.now frontier.old frontier.new (rule pick.old) w) }
+    ensures err { OnErr result (IsSame frontier.old frontier.new) }
+    ensures orderly { IsOrderly frontier.new }
+    ensures paths { frontier.new.paths.paths ≡ frontier.old.paths.paths }
+    ensures rule { rule pick.new ≡ rule pick.old }
+{
+    let place = chosen(&frontier.waiting, pick);
+    let info = copied(&frontier.waiting[place]);
+    let number = info.number;
+    let work = prepare(alloc, model, frontier, info)?;
+    frontier.waiting.remove(place);
+    pick.told(NodeEvent::Opened(number));
+    Ok(work)
+}

@@ -1,0 +1,40 @@
+ghost use Rattle.std.specs.Prelude.{◌≡◌, ◌≤◌, ◌<◌, ◌+◌, ℕ, List, true, false};
+ghost use Rattle.branch_bound.specs.Searches.{IsContinued};
+ghost use Rattle.branch_bound.specs.Ends.{EndsAs};
+
+use crate::progress::{Progress, SearchStop};
+use crate::search::Search;
+use node_pick::Picker;
+use std::alloc::Global;
+
+impl Search {
+    /// Spends at most so many units, each the opening of the node that the picker chooses, or the next pivot of the node
+    /// that is worked on. Where the search has ended, its answer is given, which takes no memory; after that it is not run
+    /// again. With `Memory` and with a pivot that is not narrow the search stands as before that unit.
+    pub fn run(
+        &mut self,
+        alloc: Global,
+        units: u64,
+        pick: &mut Box<dyn Picker>,
+    ) -> Result<Progress, SearchStop>
+        requires { self.old.answered ≡ false }
+        ensures trail { IsContinued (rule pick.old) units self.old self.new }
+        ensures ends { EndsAs self.old.units units self.new result }
+        ensures rule { rule pick.new ≡ rule pick.old }
+    {
+        let mut spent = 0;
+        while spent < units && !self.has_ended() && self.units() < self.budget() {
+            match self.step(alloc, pick) {
+                Ok(()) => spent += 1,
+                Err(stop) => return Err(self.stopped(alloc, stop)),
+            }
+        }
+        if self.has_ended() {
+            return Ok(self.answer());
+        }
+        if self.budget() <= self.units() {
+            return Err(SearchStop::Budget(self.units()));
+        }
+        Ok(Progress::More)
+    }
+}

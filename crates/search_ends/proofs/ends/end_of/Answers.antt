@@ -1,0 +1,35 @@
+use Rattle.std.proofs.Common.{◌≡◌, subst, ap, ◌∙◌, List}
+use Rattle.fractions.specs.Rational.{ℚ}
+use Rattle.fractions.specs.Vectors.{at}
+use Rattle.dictionaries.proofs.Ends.{end_is_final}
+use Rattle.searches.specs.Trails.{no_point, best, no_bound, without_point, at_best, without_bound, is_empty, is_endless, decisions_at}
+use Rattle.search_ends.specs.Ends.{ComesToWith, end_at}
+use Rattle.search_ends.proofs.ends.end_of.Goals as goal
+
+pub returns-in-Pivot-clause-end : goal.returns-in-Pivot-clause-end
+returns-in-Pivot-clause-end c = λ h. end_is_final c.args.of.now c.args.dict.now c.in-Pivot.field-0 c.in-Pivot.field-1 c.in-Pivot.ensures.on_the_way h c.in-Pivot.ensures.next
+
+pub returns-in-Infeasible-clause-end : goal.returns-in-Infeasible-clause-end
+returns-in-Infeasible-clause-end c = record { outcome = no_point; finishes = without_point c.in-Infeasible.ensures.next; comes = λ found e. is_empty }
+
+pub returns-in-Unbounded-clause-end : goal.returns-in-Unbounded-clause-end
+returns-in-Unbounded-clause-end c =
+    rw (c.read_point.ensures, c.read_direction.ensures) record {
+      outcome = no_bound _ _;
+      finishes = without_bound c.in-Unbounded.col c.in-Unbounded.ensures.next;
+      comes = λ found e. is_endless _ _;
+    }
+
+pub returns-in-Best-clause-end : goal.returns-in-Best-clause-end
+returns-in-Best-clause-end c =
+    let p = c.args.of.now in
+    let d = c.args.dict.now in
+    let x : c.read_point-in-Best.new.into ≡ decisions_at p d = c.read_point-in-Best.ensures in
+    let v : c.rest-value.result ≡ at d.objective 0 = c.rest-value.ensures ∙ ap (λ (r : List ℚ). at r 0) c.objective.ensures in
+    let k : ComesToWith c.args.model.now c.args.best (best c.read_point-in-Best.new.into c.rest-value.result) (end_at c.end_at_best.result c.read_point-in-Best.new.into c.args.direction.now) = c.end_at_best.ensures.comes c.args.direction.now in
+    record {
+      outcome = best (decisions_at p d) (at d.objective 0);
+      finishes = at_best c.in-Best.ensures.next;
+      comes = subst (λ (u : ℚ). ComesToWith c.args.model.now c.args.best (best (decisions_at p d) u) (end_at c.end_at_best.result c.read_point-in-Best.new.into c.args.direction.now)) v
+          (subst (λ (y : List ℚ). ComesToWith c.args.model.now c.args.best (best y c.rest-value.result) (end_at c.end_at_best.result c.read_point-in-Best.new.into c.args.direction.now)) x k);
+    }

@@ -1,0 +1,98 @@
+ghost use Rattle.std.specs.Prelude.{◌≡◌, ◌≢◌, ◌↔◌, length, List, IsTrue, MatchOption, IfSome, Option};
+ghost use Rattle.fractions.specs.Rational.{ℚ, denominator};
+ghost use Rattle.fractions.specs.Floor.{floor_ℚ};
+ghost use Rattle.searches.specs.Trees.{split};
+ghost use Rattle.dictionaries.specs.Bland.{HasEnded};
+ghost use Rattle.dictionaries.specs.Run.{IsReached};
+ghost use Rattle.searches.specs.Trails.{best as at_best};
+ghost use Rattle.search_ends.specs.Ends.{ComesToWith, HasNarrowParts, IsBetter, IsEndOf, end_at};
+
+use crate::broken::first_broken;
+use crate::reading::{read_direction, read_point};
+use frac128::Frac;
+use lin_model::LinModel;
+use linear_programs::Standard;
+use simplex::{Next, choose_next};
+use tableau::Dict;
+
+/// What becomes of a node: its program has no point; its value isn't better than that of a point found before; its point
+/// is a whole one and is found; it is split at a decision and a floor; or its program is unbounded.
+#[derive(Drop)]
+pub enum NodeEnd {
+    Empty,
+    Beaten(Frac),
+    Whole(Frac),
+    Split(u16, i128, Frac),
+    Endless,
+}
+
+// Whether the value is better than the best one, if there is one.
+fn is_better(best: Option<Frac>, value: Frac) -> bool
+    ensures { IsTrue result ↔ IsBetter best value }
+{
+    match best {
+        None => true,
+        Some(best) => best.is_below(value),
+    }
+}
+
+// The split at a decision and the number that isn't whole there.
+fn split_at(decision: u16, number: Frac, value: Frac) -> NodeEnd
+    requires { denominator number ≢ 1 }
+    ensures split { (point way : List ℚ) → end_at result point way ≡ split decision (floor_ℚ number) value }
+    ensures narrow { HasNarrowParts result }
+{
+    let _num = number.num();
+    NodeEnd::Split(decision, number.floor(), value)
+}
+
+// What becomes of a node whose program has its best value at the point.
+fn end_at_best(model: &LinModel, best: Option<Frac>, point: &[Frac], value: Frac) -> NodeEnd
+    requires one_each { length point.now ≡ length model.now.whole }
+    ensures comes { (way : List ℚ) → ComesToWith model.now best (at_best point.now value) (end_at result point.now way) }
+    ensures narrow { HasNarrowParts result }
+{
+    let _valid = model.whole();
+    if !is_better(best, value) {
+        return NodeEnd::Beaten(value);
+    }
+    match first_broken(model, point) {
+        None => NodeEnd::Whole(value),
+        Some(decision) => split_at(decision as u16, point[decision], value),
+    }
+}
+
+/// What becomes of a node, where its program's run has come to the dictionary, and none where the run goes on. The best
+/// value is that of the best point found before. The point and the direction, of which there is one number a decision, are
+/// written where the end has them.
+pub fn end_of(
+    model: &LinModel,
+    best: Option<Frac>,
+    of: &Standard,
+    dict: &Dict,
+    point: &mut [Frac],
+    direction: &mut [Frac],
+) -> Option<NodeEnd>
+    requires reached { IsReached of.now dict.now }
+    requires decisions { length of.now.columns ≡ length model.now.whole }
+    requires point { length point.old ≡ length model.now.whole }
+    requires direction { length direction.old ≡ length model.now.whole }
+    ensures end { MatchOption result (¬ (HasEnded dict.now)) (λ e. IsEndOf model.now best of.now dict.now (end_at e point.new direction.new)) }
+    ensures narrow { IfSome result HasNarrowParts }
+{
+    match choose_next(of, dict) {
+        Next::Pivot(_, _) => None,
+        Next::Infeasible => Some(NodeEnd::Empty),
+        Next::Unbounded(col) => {
+            read_point(of, dict, point);
+            read_direction(of, dict, col, direction);
+            Some(NodeEnd::Endless)
+        }
+        Next::Best => {
+            let _width = dict.width();
+            read_point(of, dict, point);
+            let value = dict.objective().rest();
+            Some(end_at_best(model, best, point, value))
+        }
+    }
+}

@@ -1,0 +1,88 @@
+ghost use Rattle.std.specs.Prelude.{◌≡◌, ◌<◌, ◌≤◌, ◌+◌, ◌++◌, ◌∷◌, [], length, IfOk, OnErr, OnOk, slice_index_or};
+ghost use Rattle.search_paths.specs.Tables.{HasRoom, path_at};
+
+use crate::origin::{Origin, Side, part_of};
+use crate::part::Part;
+use memory::Memory;
+use std::alloc::Global;
+use std::marker::Model;
+
+/// The paths of nodes, numbered from 0. A node is held as its parent and the part that it is of it, so that each takes the same room however long its path.
+#[derive(Drop)]
+pub struct Paths {
+    origins: Vec<Origin>,
+}
+
+impl Model for Paths {
+    ghost use Rattle.search_paths.specs.Tables.{Table, table_of, AreBefore};
+
+    ghost Value = { Table };
+
+    ghost view = { table_of };
+
+    ghost invariant = { λ t. AreBefore t.origins.items };
+}
+
+impl Paths {
+    /// No paths.
+    pub fn new(alloc: Global) -> Paths
+        ensures { result.paths ≡ [] }
+    {
+        Paths {
+            origins: Vec::new(alloc),
+        }
+    }
+
+    /// How many there are.
+    pub fn len(&self) -> usize
+        ensures { result ≡ length self.now.paths }
+    {
+        self.origins.len()
+    }
+
+    /// Makes room for so many more.
+    pub fn reserve(&mut self, count: usize) -> Result<(), Memory>
+        ensures same { self.new.paths ≡ self.old.paths }
+        ensures room { OnOk result (HasRoom self.new count) }
+    {
+        self.origins.reserve(count)?;
+        Ok(())
+    }
+
+    /// Adds the path of a root, which has no part.
+    pub fn push_root(&mut self)
+        requires { HasRoom self.old 1 }
+        ensures { self.new ≡ record { paths = self.old.paths ++ [] ∷ []; room = self.old.room } }
+    {
+        self.origins.push_reserved(Origin {
+            parent: 0,
+            decision: 0,
+            side: Side::Root,
+            floor: 0,
+        });
+    }
+
+    /// Adds the path of a part of a node that is there.
+    pub fn push_part(&mut self, parent: usize, part: Part)
+        requires room { HasRoom self.old 1 }
+        requires parent { parent < length self.old.paths }
+        ensures { self.new ≡ record { paths = self.old.paths ++ (path_at self.old parent ++ part ∷ []) ∷ []; room = self.old.room } }
+    {
+        self.origins.push_reserved(part.origin(parent));
+    }
+
+    /// The path of a node, from the root on.
+    pub fn path(&self, alloc: Global, number: usize) -> Result<Vec<Part>, Memory>
+        requires { number < length self.now.paths }
+        ensures { IfOk result (λ v. v.items ≡ path_at self.now number) }
+    {
+        let mut made = Vec::new(alloc);
+        let mut at = number;
+        while let Some(part) = part_of(&self.origins[at]) {
+            made.push(part)?;
+            at = self.origins[at].parent;
+        }
+        made.reverse();
+        Ok(made)
+    }
+}

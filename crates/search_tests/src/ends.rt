@@ -1,0 +1,95 @@
+// What searches answer, whatever rule they follow.
+
+use crate::models::{self, Pair, Shape, model};
+use branch_bound::{Progress, Search, SearchStop};
+use frac128::Frac;
+use node_pick::{Best, Depth, Oldest, Picker};
+use std::alloc::Global;
+use std::test::Fail;
+
+#[derive(Clone, Copy)]
+pub enum Said {
+    Optimal(Pair, i128),
+    Infeasible,
+    Unbounded(Pair, Pair),
+    Budget(u64),
+    Wide,
+}
+
+fn are(numbers: &[Frac], shown: Pair) -> bool {
+    numbers.len() == 2
+        && numbers[0].num() == shown.0
+        && numbers[0].den() == 1
+        && numbers[1].num() == shown.1
+        && numbers[1].den() == 1
+}
+
+pub fn is_said(given: &Result<Progress, SearchStop>, said: &Said) -> bool {
+    match (given, said) {
+        (Ok(Progress::Optimal(point, value)), Said::Optimal(at, best)) => {
+            are(point, *at) && value.num() == *best && value.den() == 1
+        }
+        (Ok(Progress::Infeasible), Said::Infeasible) => true,
+        (Ok(Progress::Unbounded(point, direction)), Said::Unbounded(at, along)) => {
+            are(point, *at) && are(direction, *along)
+        }
+        (Err(SearchStop::Budget(spent)), Said::Budget(units)) => *spent == *units,
+        (Err(SearchStop::WidePivot(path, basis, _, _)), Said::Wide) => {
+            path.is_empty() && basis.len() == 2
+        }
+        _ => false,
+    }
+}
+
+fn ends(alloc: Global, shape: &Shape, pick: Box<dyn Picker>, said: &Said) -> Result<bool, Fail> {
+    let mut pick = pick;
+    let mut search = Search::begin(alloc, model(alloc, shape)?, 1000)?;
+    let given = search.run(alloc, 2000, &mut pick);
+    Ok(is_said(&given, said))
+}
+
+fn ends_by_every_rule(
+    alloc: Global,
+    shape: &Shape,
+    deep: &Said,
+    wide: &Said,
+) -> Result<bool, Fail> {
+    Ok(
+        ends(alloc, shape, Box::new(alloc, Depth)?, deep)?
+            && ends(alloc, shape, Box::new(alloc, Best)?, wide)?
+            && ends(alloc, shape, Box::new(alloc, Oldest)?, wide)?,
+    )
+}
+
+fn same(alloc: Global, shape: &Shape, said: &Said) -> Result<bool, Fail> {
+    ends_by_every_rule(alloc, shape, said, said)
+}
+
+#[test]
+fn best_points_are_found(rt: HostRuntime) -> Result<(), Fail> {
+    let alloc = rt.alloc();
+    assert!(rt; same(alloc, &models::TWO, &Said::Optimal((4, 0), 20))?);
+    assert!(rt; same(alloc, &models::LEAST, &Said::Optimal((0, 2), -4))?);
+    // Of two best points the deepest node first and the other rules find different ones.
+    assert!(rt;
+        ends_by_every_rule(
+            alloc,
+            &models::TIED,
+            &Said::Optimal((1, 1), 1),
+            &Said::Optimal((2, 1), 1)
+        )?
+    );
+    Ok(())
+}
+
+#[test]
+fn other_ends_are_told(rt: HostRuntime) -> Result<(), Fail> {
+    let alloc = rt.alloc();
+    assert!(rt; same(alloc, &models::ODD, &Said::Budget(1000))?);
+    assert!(rt; same(alloc, &models::OPEN, &Said::Unbounded((1, 0), (1, 1)))?);
+    assert!(rt; same(alloc, &models::OPEN_WHOLE, &Said::Unbounded((0, 0), (1, 1)))?);
+    assert!(rt; same(alloc, &models::HALF, &Said::Infeasible)?);
+    assert!(rt; same(alloc, &models::NONE, &Said::Infeasible)?);
+    assert!(rt; same(alloc, &models::WIDE, &Said::Wide)?);
+    Ok(())
+}
