@@ -1,0 +1,356 @@
+// Statements and faults of names, each made by the rules by hand. A cell is told as its sheet, row and column, from 0.
+ghost use Rattle.std.specs.Prelude.{◌≡◌, ◌≢◌, ◌≤◌, ◌<◌, [], All, IfOk, length};
+ghost use Rattle.workbook.specs.Files.{SheetFile};
+
+use cell_refs::{Cell, SheetId};
+use lin_model::{Goal, Relation};
+use solver_names::{NamesFault, RowOf, Statement, side_trees, statement};
+use std::alloc::Global;
+use std::fmt::Write;
+use std::test::Fail;
+use workbook::{File, Place, Workbook};
+
+// The file of a sheet with no texts.
+fn sheet_file(alloc: Global, stem: &str) -> Result<File, Fail>
+    ensures stem { IfOk result (λ f. f.stem ≢ []) }
+    ensures size { IfOk result (λ f. length f.bytes ≤ 16777216) }
+{
+    if stem.is_empty() {
+        return Err(Fail::new("a sheet has no name"));
+    }
+    Ok(File::new(String::from_str(alloc, stem)?, Vec::new(alloc)))
+}
+
+// The files of two sheets.
+fn files(alloc: Global) -> Result<Vec<File>, Fail>
+    ensures count { IfOk result (λ v. length v.items ≡ 2) }
+    ensures stems { IfOk result (λ v. All (λ (f : SheetFile). f.stem ≢ []) v.items) }
+    ensures sizes { IfOk result (λ v. All (λ (f : SheetFile). length f.bytes ≤ 16777216) v.items) }
+{
+    let mut files = Vec::new(alloc);
+    files.push(sheet_file(alloc, "plan")?)?;
+    files.push(sheet_file(alloc, "other;two")?)?;
+    Ok(files)
+}
+
+// A workbook of two sheets with these names.
+fn opened(alloc: Global, names: &[u8]) -> Result<Workbook, Fail> {
+    if names.len() > 10000 {
+        return Err(Fail::new("the names are a long text"));
+    }
+    let files = files(alloc)?;
+    match Workbook::open(alloc, &files, names) {
+        Ok(workbook) => Ok(workbook),
+        Err(_) => Err(Fail::new("it is not opened")),
+    }
+}
+
+fn tell_cell(cell: Cell, to: &mut String) -> Result<(), Fail> {
+    write!(to, " {}.{}.{}", cell.sheet.0, cell.row, cell.col)?;
+    Ok(())
+}
+
+fn tell_place(place: Place, to: &mut String) -> Result<(), Fail> {
+    match place {
+        Place::Cell(cell) => tell_cell(cell, to),
+        Place::Side(k) => {
+            write!(to, " side {}", k)?;
+            Ok(())
+        }
+    }
+}
+
+fn tell_goal(goal: Goal, to: &mut String) -> Result<(), Fail> {
+    match goal {
+        Goal::Greatest => to.push_str(" greatest")?,
+        Goal::Least => to.push_str(" least")?,
+        Goal::Reach(value) => {
+            to.push_str(" reach ")?;
+            write!(to, "{}/{}", value.num(), value.den())?;
+        }
+    }
+    Ok(())
+}
+
+fn tell_row(row: &RowOf, to: &mut String) -> Result<(), Fail> {
+    write!(to, "; {}", row.k)?;
+    tell_cell(row.left, to)?;
+    match row.rel {
+        Relation::AtMost => to.push_str(" <=")?,
+        Relation::Equal => to.push_str(" =")?,
+        Relation::AtLeast => to.push_str(" >=")?,
+    }
+    tell_place(row.right, to)
+}
+
+fn tell_numbers(word: &str, numbers: &[u16], to: &mut String) -> Result<(), Fail> {
+    if numbers.is_empty() {
+        return Ok(());
+    }
+    to.push_str(word)?;
+    for number in numbers {
+        write!(to, " {}", *number)?;
+    }
+    Ok(())
+}
+
+fn tell_statement(s: &Statement, to: &mut String) -> Result<(), Fail> {
+    to.push_str("decide")?;
+    for cell in s.adj.cells() {
+        tell_cell(*cell, to)?;
+    }
+    if let Some(cell) = s.objective {
+        to.push_str("; for")?;
+        tell_cell(cell, to)?;
+    }
+    tell_goal(s.goal, to)?;
+    for row in &s.rows {
+        tell_row(row, to)?;
+    }
+    tell_numbers("; whole", &s.whole, to)?;
+    tell_numbers("; binary", &s.binary, to)?;
+    tell_numbers("; explicit", &s.explicit, to)?;
+    if !s.not_negative {
+        to.push_str("; free")?;
+    }
+    Ok(())
+}
+
+fn tell_fault(fault: &NamesFault, to: &mut String) -> Result<(), Fail> {
+    match fault {
+        NamesFault::NoNames => to.push_str("1")?,
+        NamesFault::BadReference(name) => {
+            to.push_str("2 ")?;
+            to.push_str(name.as_str())?;
+        }
+        NamesFault::MissingPart(k) => write!(to, "3 {}", *k)?,
+        NamesFault::BadRelation(k, code) => {
+            write!(to, "4 {} ", *k)?;
+            to.push_str(code.as_str())?;
+        }
+        NamesFault::SizeMismatch(k, left, right) => write!(to, "5 {} {} {}", *k, *left, *right)?,
+        NamesFault::NotDecision(k, cell) => {
+            write!(to, "6 {}", *k)?;
+            tell_cell(*cell, to)?;
+        }
+        NamesFault::BadOption(name) => {
+            to.push_str("7 ")?;
+            to.push_str(name.as_str())?;
+        }
+        NamesFault::TooManyDecisions(count) => write!(to, "8 {}", *count)?,
+        NamesFault::TooManyRows(count) => write!(to, "9 {}", *count)?,
+        NamesFault::Memory => to.push_str("memory")?,
+    }
+    Ok(())
+}
+
+// Names, and what they state on the first sheet.
+const CASES: &[(&[u8], &str)] = &[
+    (b"", "1"),
+    (b",solver_adj,A1\n", "1"),
+    (b"other;two,solver_adj,A1\n", "1"),
+    (b"plan,solver_opt,x\n", "1"),
+    (b"plan,solver_adj,A1\n", "decide 0.0.0 greatest"),
+    (b"plan,SOLVER_Adj,=$A$1\n", "decide 0.0.0 greatest"),
+    (
+        b"plan,solver_adj,\"B1:A2,$A$1;C3~'other;two'!A1\"\n",
+        "decide 0.0.0 0.0.1 0.1.0 0.1.1 0.2.2 1.0.0 greatest",
+    ),
+    (b"plan,solver_adj,\n", "2 solver_adj"),
+    (b"plan,solver_adj,\"A1,,A2\"\n", "2 solver_adj"),
+    (b"plan,solver_adj,A1+A2\n", "2 solver_adj"),
+    (b"plan,solver_adj,'other;two!A1\n", "2 solver_adj"),
+    (
+        b"plan,solver_adj,A1\nplan,solver_opt,A1:A2\n",
+        "2 solver_opt",
+    ),
+    (
+        b"plan,solver_adj,A1\nplan,solver_opt,=B1:B1\n",
+        "decide 0.0.0; for 0.0.1 greatest",
+    ),
+    (
+        b"plan,solver_adj,A1\nplan,solver_opt,B1\nplan,solver_typ,=2.0\n",
+        "decide 0.0.0; for 0.0.1 least",
+    ),
+    (
+        b"plan,solver_adj,A1\nplan,solver_opt,B1\nplan,solver_typ,300%\n",
+        "decide 0.0.0; for 0.0.1 reach 0/1",
+    ),
+    (
+        b"plan,solver_adj,A1\nplan,solver_opt,B1\nplan,solver_typ,3\nplan,solver_val,=-1.5\n",
+        "decide 0.0.0; for 0.0.1 reach -3/2",
+    ),
+    (
+        b"plan,solver_adj,A1\nplan,solver_opt,B1\nplan,solver_typ,3\nplan,solver_val,x\n",
+        "7 solver_val",
+    ),
+    (
+        b"plan,solver_adj,A1\nplan,solver_opt,B1\nplan,solver_typ,2\nplan,solver_val,x\n",
+        "decide 0.0.0; for 0.0.1 least",
+    ),
+    (
+        b"plan,solver_adj,A1\nplan,solver_opt,B1\nplan,solver_typ,4\n",
+        "7 solver_typ",
+    ),
+    (
+        b"plan,solver_adj,A1\nplan,solver_typ,4\n",
+        "decide 0.0.0 greatest",
+    ),
+    (
+        b"plan,solver_adj,A1\nplan,solver_typ,2\n",
+        "decide 0.0.0 greatest",
+    ),
+    (
+        b"plan,solver_adj,A1\nplan,solver_neg,2\n",
+        "decide 0.0.0 greatest; free",
+    ),
+    (
+        b"plan,solver_adj,A1\nplan,solver_neg,1e0\n",
+        "decide 0.0.0 greatest",
+    ),
+    (b"plan,solver_adj,A1\nplan,solver_neg,0\n", "7 solver_neg"),
+    (
+        b"plan,solver_adj,A1\nplan,solver_num,257\nplan,solver_neg,0\n",
+        "7 solver_neg",
+    ),
+    (b"plan,solver_adj,A1\nplan,solver_num,257\n", "7 solver_num"),
+    (b"plan,solver_adj,A1\nplan,solver_num,0.5\n", "7 solver_num"),
+    (
+        b"plan,solver_adj,A1\nplan,solver_num,x\nplan,solver_rel1,9\n",
+        "7 solver_num",
+    ),
+    (b"plan,solver_adj,A1\nplan,solver_num,1\n", "3 1"),
+    (
+        b"plan,solver_adj,A1\nplan,solver_num,1\nplan,solver_lhs1,A1\n",
+        "3 1",
+    ),
+    (
+        b"plan,solver_adj,A1\nplan,solver_num,1\nplan,solver_lhs1,A1\nplan,solver_rel1,1\n",
+        "3 1",
+    ),
+    (
+        b"plan,solver_adj,A1\nplan,solver_num,1\nplan,solver_lhs1,A1\nplan,solver_rel1,4\n",
+        "decide 0.0.0 greatest; whole 0",
+    ),
+    (
+        b"plan,solver_adj,A1\nplan,solver_num,1\nplan,solver_rel1,5\nplan,solver_rhs1,=(\n",
+        "3 1",
+    ),
+    (
+        b"plan,solver_adj,A1\nplan,solver_num,1\nplan,solver_lhs1,A1\nplan,solver_rel1,6\n",
+        "4 1 6",
+    ),
+    (
+        b"plan,solver_adj,A1\nplan,solver_num,1\nplan,solver_lhs1,A1\nplan,solver_rel1,a\"\"b\n",
+        "4 1 a\"\"b",
+    ),
+    (
+        b"plan,solver_adj,A1\nplan,solver_num,2\nplan,solver_lhs1,A1\nplan,solver_rel1,6\nplan,solver_lhs2,A\n",
+        "2 solver_lhs2",
+    ),
+    (
+        b"plan,solver_adj,A1\nplan,solver_num,2\nplan,solver_lhs1,A1\nplan,solver_rel1,6\nplan,solver_lhs2,A2\n",
+        "3 2",
+    ),
+    (
+        b"plan,solver_adj,A1\nplan,solver_num,1\nplan,solver_lhs1,A1\nplan,solver_rel1,1\nplan,solver_rhs1,=nothing\n",
+        "2 solver_rhs1",
+    ),
+    (
+        b"plan,solver_adj,A1\nplan,solver_num,1\nplan,solver_lhs1,A1\nplan,solver_rel1,6\nplan,solver_rhs1,=nothing\n",
+        "4 1 6",
+    ),
+    (
+        b"plan,solver_adj,A1\nplan,solver_num,1\nplan,solver_lhs1,A1:A3\nplan,solver_rel1,1\nplan,solver_rhs1,B1:B2\n",
+        "5 1 3 2",
+    ),
+    (
+        b"plan,solver_adj,A1\nplan,solver_num,1\nplan,solver_lhs1,A1\nplan,solver_rel1,2\nplan,solver_rhs1,B1:B2\n",
+        "5 1 1 2",
+    ),
+    (
+        b"plan,solver_adj,A1\nplan,solver_num,1\nplan,solver_lhs1,A1:A2\nplan,solver_rel1,1\nplan,solver_rhs1,B1:C1\n",
+        "decide 0.0.0 greatest; 1 0.0.0 <= 0.0.1; 2 0.1.0 <= 0.0.2",
+    ),
+    (
+        b"plan,solver_adj,A1\nplan,solver_num,1\nplan,solver_lhs1,A1:A2\nplan,solver_rel1,3\nplan,solver_rhs1,B1\n",
+        "decide 0.0.0 greatest; 1 0.0.0 >= 0.0.1; 2 0.1.0 >= 0.0.1; explicit 0",
+    ),
+    (
+        b"plan,solver_adj,A1\nplan,solver_num,2\nplan,solver_lhs1,C1:C2\nplan,solver_rel1,2\nplan,solver_rhs1,7\nplan,solver_lhs2,C3\nplan,solver_rel2,1\nplan,solver_rhs2,(B1)\n",
+        "decide 0.0.0 greatest; 1 0.0.2 = side 1; 2 0.1.2 = side 1; 3 0.2.2 <= side 2",
+    ),
+    (
+        b"plan,solver_adj,A1:A2\nplan,solver_num,1\nplan,solver_lhs1,A2:B2\nplan,solver_rel1,4\n",
+        "6 1 0.1.1",
+    ),
+    (
+        b"plan,solver_adj,A1:A2\nplan,solver_num,1\nplan,solver_lhs1,'other;two'!A1\nplan,solver_rel1,5\n",
+        "6 1 1.0.0",
+    ),
+    (
+        b"plan,solver_adj,A1:A3\nplan,solver_num,2\nplan,solver_lhs1,A2\nplan,solver_rel1,5\nplan,solver_lhs2,A2:A3\nplan,solver_rel2,4\n",
+        "decide 0.0.0 0.1.0 0.2.0 greatest; whole 1 2; binary 1",
+    ),
+    (b"plan,solver_adj,\"A1:A256,A1:B1\"\n", "8 257"),
+    (b"plan,solver_adj,A1:P17\n", "8 272"),
+    (
+        b"plan,solver_adj,A1\nplan,solver_num,1\nplan,solver_lhs1,A1:A257\nplan,solver_rel1,1\nplan,solver_rhs1,1\n",
+        "9 257",
+    ),
+    (
+        b"plan,solver_adj,A1\nplan,solver_num,2\nplan,solver_lhs1,A1:D64\nplan,solver_rel1,1\nplan,solver_rhs1,1\nplan,solver_lhs2,A1\nplan,solver_rel2,2\nplan,solver_rhs2,1\n",
+        "9 257",
+    ),
+];
+
+#[test]
+fn what_names_state(rt: HostRuntime) -> Result<(), Fail> {
+    let alloc = rt.alloc();
+    for (names, want) in CASES {
+        let book = opened(alloc, names)?;
+        let mut text = String::new(alloc);
+        if book.sheets().len() == 0 {
+            return Err(Fail::new("there is no sheet"));
+        }
+        match &statement(alloc, &book, SheetId(0)) {
+            Ok(stated) => tell_statement(stated, &mut text)?,
+            Err(fault) => tell_fault(fault, &mut text)?,
+        }
+        assert!(rt; text.as_str() == *want, "{}", text.as_str());
+    }
+    Ok(())
+}
+
+// Names, and the right sides that are expressions: their constraints, and where they start and end in the names' texts.
+const SIDES: &[(&[u8], &str)] = &[
+    (b"plan,solver_adj,A1\n", ""),
+    (
+        b"plan,solver_adj,A1\nplan,solver_num,3\nplan,solver_lhs1,A1\nplan,solver_rel1,1\nplan,solver_rhs1,B1+10\nplan,solver_lhs2,A1\nplan,solver_rel2,1\nplan,solver_rhs2,B1\nplan,solver_lhs3,A1\nplan,solver_rel3,3\nplan,solver_rhs3,=B1+10\n",
+        "1: 0 to 5; 3: 1 to 6; ",
+    ),
+    (
+        b"plan,solver_adj,A1\nplan,solver_num,2\nplan,solver_lhs1,A1\nplan,solver_rel1,4\nplan,solver_rhs1,7\nplan,solver_lhs2,A1\nplan,solver_rel2,2\nplan,solver_rhs2,\"SUM(B1,7)\"\n",
+        "2: 0 to 9; ",
+    ),
+];
+
+#[test]
+fn right_sides_that_are_expressions(rt: HostRuntime) -> Result<(), Fail> {
+    let alloc = rt.alloc();
+    for (names, want) in SIDES {
+        let book = opened(alloc, names)?;
+        let mut text = String::new(alloc);
+        if book.sheets().len() == 0 {
+            return Err(Fail::new("there is no sheet"));
+        }
+        let Ok(stated) = statement(alloc, &book, SheetId(0)) else {
+            return Err(Fail::new("there is a fault"));
+        };
+        for (k, tree) in &side_trees(alloc, &book, &stated)? {
+            write!(text, "{}: {} to {}; ", *k, tree.span.start, tree.span.end)?;
+        }
+        assert!(rt; text.as_str() == *want, "{}", text.as_str());
+    }
+    Ok(())
+}

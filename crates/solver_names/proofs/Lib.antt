@@ -1,0 +1,9 @@
+pub mod Firsts
+pub mod PartLists
+pub mod RowLists
+pub mod CellLists
+pub mod Gathered
+pub mod ReadFaults
+pub mod NoFaults
+pub mod PlacedTrees
+pub mod SideLists

@@ -1,0 +1,55 @@
+-- What holds where there is no fault.
+use Rattle.std.proofs.Common.{◌≡◌, ◌<◌, ◌≤◌, ℕ, zero, suc, inl, inr, List, [], ◌∷◌, ◌++◌, length, get_or, flat_map, None, arith}
+use Rattle.std.specs.Prelude.{nat_lt}
+use Rattle.std.proofs.lemmas.Bool.{cases_Bool, ltb-false}
+use Rattle.solver_names.specs.declared.constraints.Constraint.{Constraint}
+use Rattle.solver_names.specs.declared.faults.Fault.{Fault}
+use Rattle.solver_names.specs.declared.faults.Fault.TheVariants as fault
+use Rattle.solver_names.specs.declared.faults.Check.TheVariants as check
+use Rattle.solver_names.specs.Faults.{all_by, all_rows, bad_options, cells_unformed, decisions_of, faults, first, found_by, mismatch, no_decisions, of_constraints, too_many, too_many_decisions, too_many_rows, where_so}
+use Rattle.solver_names.specs.Read.{Read}
+use Rattle.solver_names.proofs.Firsts.{none_empty, none_first, none_later}
+
+none_at : {X : Type 0} (g : X → List Fault) (xs : List X) (k : ℕ) (d : X) → k < length xs → first (flat_map g xs) ≡ None → g (get_or xs k d) ≡ []
+none_at g [] k d h e = absurd (omega (arith, h))
+none_at g (x ∷ xs) zero d h e = none_empty (g x) (none_first (g x) (flat_map g xs) e)
+none_at g (x ∷ xs) (suc k) d h e = none_at g xs k d (omega (arith, h)) (none_later (g x) (flat_map g xs) e)
+
+within : (n : ℕ) (f : Fault) → first (where_so (nat_lt 256 n) f) ≡ None → n ≤ 256
+within n f e = elim (cases_Bool (nat_lt 256 n)) [
+  | inl more ↦ absurd (cc (e, more))
+  | inr few ↦ ltb-false 256 n few
+]
+
+module _ (r : Read) (none : first (faults r) ≡ None) where
+  behind : first (of_constraints (decisions_of r) r.constraints ++ (bad_options r ++ too_many (decisions_of r) r.constraints)) ≡ None
+  behind =
+      let rest = of_constraints (decisions_of r) r.constraints ++ (bad_options r ++ too_many (decisions_of r) r.constraints) in
+      none_later (cells_unformed r) rest (none_later (no_decisions r) (cells_unformed r ++ rest) none)
+
+  counts : first (too_many (decisions_of r) r.constraints) ≡ None
+  counts =
+      none_later (bad_options r) (too_many (decisions_of r) r.constraints)
+      (none_later (of_constraints (decisions_of r) r.constraints) (bad_options r ++ too_many (decisions_of r) r.constraints) behind)
+
+  pub few_decisions : length (decisions_of r) ≤ 256
+  few_decisions =
+      within (length (decisions_of r)) (fault.TooManyDecisions (length (decisions_of r)))
+      (none_first (too_many_decisions (decisions_of r)) (too_many_rows r.constraints) counts)
+
+  pub few_rows : length (all_rows r.constraints) ≤ 256
+  few_rows =
+      within (length (all_rows r.constraints)) (fault.TooManyRows (length (all_rows r.constraints)))
+      (none_later (too_many_decisions (decisions_of r)) (too_many_rows r.constraints) counts)
+
+  pub all_fit : (k : ℕ) (d : Constraint) → k < length r.constraints → mismatch (get_or r.constraints k d) ≡ []
+  all_fit k d h =
+      let ds = decisions_of r in
+      let cs = r.constraints in
+      let sizes = all_by check.Sizes ds cs in
+      let last = all_by check.Decisions ds cs in
+      none_at (found_by check.Sizes ds) cs k d h
+      (none_first sizes last (none_later (all_by check.Code ds cs) (sizes ++ last)
+      (none_later (all_by check.Parts ds cs) (all_by check.Code ds cs ++ (sizes ++ last))
+      (none_later (all_by check.Sides ds cs) (all_by check.Parts ds cs ++ (all_by check.Code ds cs ++ (sizes ++ last)))
+      (none_first (of_constraints ds cs) (bad_options r ++ too_many ds cs) behind)))))

@@ -1,0 +1,9 @@
+pub mod Statement
+pub mod Texts
+pub mod Constraints
+pub mod Read
+pub mod Faults
+pub mod Stated
+pub mod Answers
+pub mod Fitting
+pub mod Sides

@@ -1,0 +1,86 @@
+-- What the names of a sheet state, or the first fault in them.
+use Rattle.std.specs.Prelude.{ℕ, suc, ◌==◌, ◌&&◌, Bool, true, false, List, [], ◌∷◌, if◌then◌else◌, Option, Some, None, Result, Ok, Err}
+use Rattle.std.specs.List.{list_any}
+use Rattle.fractions.specs.Rational.{ℚ, zero_ℚ}
+use Rattle.optimality.specs.Problem.{Goal, greatest, least, reach}
+use Rattle.cell_refs.specs.Areas.{Area, within}
+use Rattle.cell_refs.specs.declared.cell.Cell.{Cell}
+use Rattle.lin_model.specs.Kinds.{relation_of}
+use Rattle.lin_model.specs.declared.kinds.Relation.{Relation}
+use Rattle.lin_model.specs.declared.kinds.Relation.TheVariants.{AtLeast}
+use Rattle.workbook.specs.State.{State}
+use Rattle.workbook.specs.declared.place.Place.{Place}
+use Rattle.solver_names.specs.declared.faults.Fault.{Fault}
+use Rattle.solver_names.specs.declared.said.Said.{Said}
+use Rattle.solver_names.specs.declared.said.Said.TheVariants.{Says}
+use Rattle.solver_names.specs.declared.constraints.Code.{Code}
+use Rattle.solver_names.specs.declared.constraints.Code.TheVariants as code
+use Rattle.solver_names.specs.declared.constraints.Constraint.{Constraint}
+use Rattle.solver_names.specs.Statement.{RowOf, Statement}
+use Rattle.solver_names.specs.Texts.{is_absent, or_else}
+use Rattle.solver_names.specs.Read.{Read, read_in}
+use Rattle.solver_names.specs.Faults.{all_rows, decisions_of, faults, first}
+
+-- ---- rows numbered from 1 on
+abbrev pub numbered : ℕ → List (Relation × Cell × Place) → List RowOf
+numbered n [] = []
+numbered n (row ∷ rows) = record { number = n; left = row.1; relation = relation_of row.0; right = row.2 } ∷ numbered (suc n) rows
+
+-- ---- marks
+-- the code of a constraint is this one
+abbrev pub is_code : Code → Said Code → Bool
+is_code (code.Related AtLeast) (Says (code.Related AtLeast)) = true
+is_code code.Whole (Says code.Whole) = true
+is_code code.Binary (Says code.Binary) = true
+is_code _ _ = false
+
+-- the cell stands in the left side
+abbrev pub is_left : Said Area → Cell → Bool
+is_left (Says a) cell = within a cell
+is_left _ cell = false
+
+-- the cell stands in the left side of a constraint with this code
+abbrev pub is_marked_by : Code → Cell → Constraint → Bool
+is_marked_by code cell c = is_code code c.code && is_left c.left cell
+
+abbrev pub is_marked : Code → List Constraint → Cell → Bool
+is_marked code cs cell = list_any (is_marked_by code cell) cs
+
+-- the numbers, from n on, of the cells that do
+abbrev pub marked_from : ℕ → Code → List Constraint → List Cell → List ℕ
+marked_from n code cs [] = []
+marked_from n code cs (cell ∷ cells) = if is_marked code cs cell then n ∷ marked_from (suc n) code cs cells else marked_from (suc n) code cs cells
+
+-- ---- what is wanted
+abbrev pub goal_by : ℕ → ℚ → Goal
+goal_by n value = if n == 3 then reach value else if n == 2 then least else greatest
+
+abbrev pub said_objective : Said Cell → Option Cell
+said_objective (Says c) = Some c
+said_objective _ = None
+
+-- greatest where nothing else is said, and where there is no objective
+abbrev pub goal_in : Read → Goal
+goal_in r = if is_absent r.objective then greatest else goal_by (or_else r.goal 1) (or_else r.value zero_ℚ)
+
+-- ---- the statement
+abbrev pub stated : ℕ → Read → Statement
+stated sheet r = record {
+  sheet = sheet;
+  decisions = decisions_of r;
+  objective = said_objective r.objective;
+  goal = goal_in r;
+  rows = numbered 1 (all_rows r.constraints);
+  whole = marked_from 0 code.Whole r.constraints (decisions_of r);
+  binary = marked_from 0 code.Binary r.constraints (decisions_of r);
+  explicit = marked_from 0 (code.Related AtLeast) r.constraints (decisions_of r);
+  not_negative = or_else r.negative 1 == 1;
+}
+
+abbrev pub unless_fault : Statement → Option Fault → Result Statement Fault
+unless_fault s None = Ok s
+unless_fault s (Some f) = Err f
+
+-- what the names of a sheet state, or the first fault
+abbrev pub statement_in : State → ℕ → Result Statement Fault
+statement_in book sheet = unless_fault (stated sheet (read_in book sheet)) (first (faults (read_in book sheet)))

@@ -1,0 +1,29 @@
+// What the names of a sheet state.
+
+use cell_refs::{Cell, SheetId};
+use lin_model::{Goal, Relation};
+use workbook::{Adj, Place};
+
+/// An expanded row: its number from 1 on, and its two sides in a relation.
+#[derive(Clone, Copy)]
+pub struct RowOf {
+    pub k: u16,
+    pub left: Cell,
+    pub rel: Relation,
+    pub right: Place,
+}
+
+/// The cells to be decided, what is wanted of the objective, and the rows. The three lists have the numbers, from 0 on and rising,
+/// of the cells that are to be whole, of those that are to be 0 or 1, and of those with a lower bound of their own.
+#[derive(Drop)]
+pub struct Statement {
+    pub sheet: SheetId,
+    pub adj: Adj,
+    pub objective: Option<Cell>,
+    pub goal: Goal,
+    pub rows: Vec<RowOf>,
+    pub whole: Vec<u16>,
+    pub binary: Vec<u16>,
+    pub explicit: Vec<u16>,
+    pub not_negative: bool,
+}
