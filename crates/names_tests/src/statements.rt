@@ -241,6 +241,10 @@ const CASES: &[(&[u8], &str)] = &[
         "4 1 6",
     ),
     (
+        b"plan,solver_adj,A1\nplan,solver_num,2\nplan,solver_lhs1,A1\nplan,solver_rel1,4\nplan,solver_lhs2,A1\nplan,solver_rel2,0\n",
+        "4 2 0",
+    ),
+    (
         b"plan,solver_adj,A1\nplan,solver_num,1\nplan,solver_lhs1,A1\nplan,solver_rel1,a\"\"b\n",
         "4 1 a\"\"b",
     ),
@@ -281,6 +285,14 @@ const CASES: &[(&[u8], &str)] = &[
         "decide 0.0.0 greatest; 1 0.0.2 = side 1; 2 0.1.2 = side 1; 3 0.2.2 <= side 2",
     ),
     (
+        b"plan,solver_adj,A1\nplan,solver_num,2\nplan,solver_lhs1,B1\nplan,solver_rel1,5\nplan,solver_lhs2,A1:B2\nplan,solver_rel2,3\nplan,solver_rhs2,C1:C3\n",
+        "5 2 4 3",
+    ),
+    (
+        b"plan,solver_adj,A1\nplan,solver_num,2\nplan,solver_lhs1,A1\nplan,solver_rel1,5\nplan,solver_lhs2,B1:A1\nplan,solver_rel2,5\n",
+        "6 2 0.0.1",
+    ),
+    (
         b"plan,solver_adj,A1:A2\nplan,solver_num,1\nplan,solver_lhs1,A2:B2\nplan,solver_rel1,4\n",
         "6 1 0.1.1",
     ),
@@ -294,6 +306,10 @@ const CASES: &[(&[u8], &str)] = &[
     ),
     (b"plan,solver_adj,\"A1:A256,A1:B1\"\n", "8 257"),
     (b"plan,solver_adj,A1:P17\n", "8 272"),
+    (
+        b"plan,solver_adj,\"A1:IV1;'other;two'!A1:IV1;A1\"\n",
+        "8 512",
+    ),
     (
         b"plan,solver_adj,A1\nplan,solver_num,1\nplan,solver_lhs1,A1:A257\nplan,solver_rel1,1\nplan,solver_rhs1,1\n",
         "9 257",
@@ -318,6 +334,32 @@ fn what_names_state(rt: HostRuntime) -> Result<(), Fail> {
             Err(fault) => tell_fault(fault, &mut text)?,
         }
         assert!(rt; text.as_str() == *want, "{}", text.as_str());
+    }
+    Ok(())
+}
+
+// Names at their limits: how many cells are to be decided, and how many rows there are.
+const LIMITS: &[(&[u8], usize, usize)] = &[
+    (b"plan,solver_adj,\"A1:IV1,A1\"\n", 256, 0),
+    (
+        b"plan,solver_adj,A1\nplan,solver_num,2\nplan,solver_lhs1,A1:IV1\nplan,solver_rel1,1\nplan,solver_rhs1,1\nplan,solver_lhs2,A1\nplan,solver_rel2,4\n",
+        1,
+        256,
+    ),
+];
+
+#[test]
+fn as_many_as_there_may_be(rt: HostRuntime) -> Result<(), Fail> {
+    let alloc = rt.alloc();
+    for (names, cells, rows) in LIMITS {
+        let book = opened(alloc, names)?;
+        if book.sheets().len() == 0 {
+            return Err(Fail::new("there is no sheet"));
+        }
+        let Ok(stated) = statement(alloc, &book, SheetId(0)) else {
+            return Err(Fail::new("there is a fault"));
+        };
+        assert!(rt; stated.adj.cells().len() == *cells && stated.rows.len() == *rows);
     }
     Ok(())
 }
