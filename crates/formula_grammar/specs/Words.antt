@@ -1,10 +1,8 @@
 -- What single symbols say: numbers, texts, errors, logicals, sheets and addresses (OpenDocument 1.2 part 2, sections 5.3 to
 -- 5.12).
-use Rattle.std.specs.Prelude.{ℕ, ◌^◌, Bool, true, false, ◌&&◌, ◌||◌, if◌then◌else◌, nat_eq, nat_lt, List, [], ◌∷◌, codes, Option, Some, None, option_map}
-use Rattle.std.specs.Str.Parse.{digits_value}
+use Rattle.std.specs.Prelude.{ℕ, Bool, true, false, ◌||◌, if◌then◌else◌, nat_eq, List, [], ◌∷◌, codes, Option, Some, None, option_map}
 use Rattle.fractions.specs.Rational.{neg_ℚ}
-use Rattle.frac128.specs.Narrow.{is_narrow}
-use Rattle.frac128.specs.Numeral.{Numeral, value, significant, all_digits}
+use Rattle.frac128.specs.Numeral.{Numeral, value, is_narrow_numeral}
 use Rattle.cell_refs.specs.declared.span.Span.{Span}
 use Rattle.cell_refs.specs.declared.error_kind.ErrorKind.{ErrorKind}
 use Rattle.cell_refs.specs.declared.error_kind.ErrorKind.TheVariants as kind
@@ -16,10 +14,6 @@ use Rattle.formula_grammar.specs.Symbols.{Setting, bytes_of}
 use Rattle.formula_grammar.specs.declared.symbol.Sign.{Sign}
 use Rattle.formula_grammar.specs.declared.symbol.Sign.TheVariants as sign
 use Rattle.formula_grammar.specs.declared.symbol.Symbol.{Symbol}
-
--- the value is narrow, and so is the whole number of the digits without the zeros at both ends
-abbrev pub is_narrow_numeral : Numeral → Bool
-is_narrow_numeral n = is_narrow (value n) && nat_lt (digits_value 10 (significant (all_digits n))) (2 ^ 127)
 
 abbrev pub number_tree : Span → Numeral → Tree
 number_tree at n = if is_narrow_numeral n then Number at (value n) else WideNumber at (value n)

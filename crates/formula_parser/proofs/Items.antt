@@ -15,7 +15,7 @@ use Rattle.formula_grammar.specs.Symbols.{Setting, from_to}
 use Rattle.formula_grammar.specs.Arrays.{SpellsItem, SpellsRow, SpellsRows}
 use Rattle.formula_grammar.specs.Arrays as arrays
 use Rattle.formula_grammar.specs.Faults.{has_part, have_part, is_lost, is_miscounted, is_wide}
-use Rattle.formula_grammar.specs.Words.{is_narrow_numeral, number_tree, negative_tree}
+use Rattle.formula_grammar.specs.Words.{number_tree, negative_tree}
 use Rattle.formula_parser.specs.declared.branch.Faults.{Faults}
 use Rattle.formula_parser.specs.Built.{branch, branch_of}
 use Rattle.formula_parser.specs.Leaves.{all_items, item_of, with_item, with_items}

@@ -13,7 +13,7 @@ use Rattle.formula_grammar.specs.declared.symbol.Sign.TheVariants as sign
 use Rattle.formula_grammar.specs.declared.symbol.Symbol.{Symbol}
 use Rattle.formula_grammar.specs.Symbols.{Setting, bytes_of, last_end, place_of}
 use Rattle.cell_refs.specs.Address.{address_in}
-use Rattle.formula_grammar.specs.Words.{Corner, Own, corner_on, error_in, is_narrow_numeral, logical_in, number_tree, quoted_text}
+use Rattle.formula_grammar.specs.Words.{Corner, Own, corner_on, error_in, logical_in, number_tree, quoted_text}
 use Rattle.formula_grammar.specs.WordReading.{if_listed, or_else, split_corner, unless_logical, word_corner}
 use Rattle.formula_grammar.specs.Loops.{Found}
 use Rattle.formula_grammar.specs.LeafReading.{array_at, is_sheet_mark, leaf_at, leaf_by, lone_word, references_at, starts_with, word_leaf}

@@ -1,42 +1,14 @@
 -- What the reading of a numeral says of its tree.
 use Rattle.std.proofs.Common.{◌≡◌, ℕ, ◌<◌, ◌^◌, Bool, true, false, cond, List, Option, Some, None, refl, sym, ap, ◌∙◌, arith}
-use Rattle.std.specs.Prelude.{◌&&◌, nat_lt}
 use Rattle.std.specs.Option.{option_map}
-use Rattle.std.specs.Str.Parse.{digits_value}
-use Rattle.std.proofs.lemmas.Bool.Decides.{nat_tests}
 use Rattle.fractions.specs.Rational.{ℚ, neg_ℚ}
 use Rattle.cell_refs.specs.declared.span.Span.{Span}
-use Rattle.frac128.specs.Narrow.{is_narrow}
-use Rattle.frac128.specs.Numeral.{Numeral, Spells, IsNarrowNumeral, all_digits, significant, value}
+use Rattle.frac128.specs.Numeral.{Numeral, Spells, IsNarrowNumeral, is_narrow_numeral, value}
 use Rattle.frac128.specs.NumeralReading.{reading}
-use Rattle.frac128.proofs.NarrowLaws.{narrow_test}
+use Rattle.frac128.proofs.NarrowNumerals.{narrow_passes, wide_fails}
 use Rattle.frac128.proofs.Spelling.{reading-sound, reading-complete}
 use Rattle.formula_ast.specs.Tree.{Number, WideNumber}
-use Rattle.formula_grammar.specs.Words.{is_narrow_numeral}
 use Rattle.formula_parser.specs.Leaves.{item_of, signed_number}
-
--- both tests hold
-both_true : (b : Bool) (m n : ℕ) → b ≡ true → m < n → (b && nat_lt m n) ≡ true
-both_true b m n e h = grind (arith, nat_tests)
-
--- and what they say
-both_say : (b : Bool) (m n : ℕ) → (b && nat_lt m n) ≡ true → (b ≡ true) × (m < n)
-both_say false m n e = absurd cc
-both_say true m n e = (refl, grind (arith, nat_tests))
-
--- a narrow numeral passes the test
-narrow_passes : (n : Numeral) → IsNarrowNumeral n → is_narrow_numeral n ≡ true
-narrow_passes n h = both_true (is_narrow (value n)) (digits_value 10 (significant (all_digits n))) (2 ^ 127) ((narrow_test (value n)).1 h.value) h.digits
-
--- another doesn't
-wide_fails : (n : Numeral) → (IsNarrowNumeral n → ⊥) → is_narrow_numeral n ≡ false
-wide_fails n h = by_case (is_narrow_numeral n) refl
-  where
-    by_case : (b : Bool) → is_narrow_numeral n ≡ b → b ≡ false
-    by_case false e = refl
-    by_case true e =
-        let k = both_say (is_narrow (value n)) (digits_value 10 (significant (all_digits n))) (2 ^ 127) e in
-        absurd (h (record { value = (narrow_test (value n)).0 k.0; digits = k.1 }))
 
 -- the item that a narrow number is
 narrow_item : (is_negative : Bool) (at : Span) (n : Numeral) (b : Bool) → is_narrow_numeral n ≡ b → b ≡ true → item_of (signed_number is_negative at n) ≡ Some (Number at (cond is_negative (neg_ℚ (value n)) (value n)))

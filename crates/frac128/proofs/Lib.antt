@@ -33,3 +33,4 @@ pub mod PrintedWhole
 pub mod PrintedDecimal
 pub mod ReadBack
 pub mod NarrowLaws
+pub mod NarrowNumerals

@@ -1,11 +1,11 @@
 -- Numerals: how a text spells one, its value, and which are narrow. A text is a list of bytes.
-use Rattle.std.specs.Prelude.{◌≡◌, ◌⊎◌, ℕ, ◌<◌, ◌^◌, Bool, true, false, if◌then◌else◌, List, [], ◌∷◌, ◌++◌, length, reverse, ◌==◌, ℤ, pos, ◌-ℤ◌}
+use Rattle.std.specs.Prelude.{◌≡◌, ◌⊎◌, ◌↔◌, ℕ, ◌<◌, ◌^◌, Bool, true, false, ◌&&◌, if◌then◌else◌, nat_lt, List, [], ◌∷◌, ◌++◌, length, reverse, ◌==◌, ℤ, pos, ◌-ℤ◌}
 use Rattle.std.specs.Str.Parse.{AllDigits, IsNumeral, digits_value}
 use Rattle.fractions.specs.Power.{power_ℚ}
 use Rattle.fractions.specs.Rational.{ℚ, ◌*ℚ◌}
 use Rattle.fractions.specs.Whole.{whole_ℚ}
 use Rattle.frac128.specs.Signed.{signed}
-use Rattle.frac128.specs.Narrow.{IsNarrow}
+use Rattle.frac128.specs.Narrow.{IsNarrow, is_narrow}
 
 -- the parts of a numeral, its digits as bytes
 pub record Numeral : Type 0 where
@@ -79,6 +79,14 @@ significant ds = reverse (without_front_zeros (reverse (without_front_zeros ds))
 pub record IsNarrowNumeral (n : Numeral) : Type 0 where
   pub value : IsNarrow (value n)
   pub digits : digits_value 10 (significant (all_digits n)) < 2 ^ 127
+
+-- the test of IsNarrowNumeral
+abbrev pub is_narrow_numeral : Numeral → Bool
+is_narrow_numeral n = is_narrow (value n) && nat_lt (digits_value 10 (significant (all_digits n))) (2 ^ 127)
+
+-- it holds exactly where the fact does
+abbrev pub NumeralTest : Type 0
+NumeralTest = (n : Numeral) → (is_narrow_numeral n ≡ true) ↔ IsNarrowNumeral n
 
 -- no text spells two numerals
 abbrev pub SpellsOne : Type 0

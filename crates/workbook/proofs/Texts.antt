@@ -6,10 +6,9 @@ use Rattle.std.specs.Str.Parse.{digits_value}
 use Rattle.std.proofs.lemmas.Bool.{eqb-true}
 use Rattle.std.proofs.lemmas.Bool.Decides.{nat_tests}
 use Rattle.fractions.specs.Rational.{ℚ}
-use Rattle.frac128.specs.Narrow.{is_narrow}
-use Rattle.frac128.specs.Numeral.{Numeral, Spells, IsNarrowNumeral, all_digits, significant, value}
+use Rattle.frac128.specs.Numeral.{Numeral, Spells, IsNarrowNumeral, value}
 use Rattle.frac128.specs.NumeralReading.{reading}
-use Rattle.frac128.proofs.NarrowLaws.{narrow_test}
+use Rattle.frac128.proofs.NarrowNumerals.{narrow_passes, wide_fails}
 use Rattle.frac128.proofs.Spelling.{reading-sound, reading-complete}
 use Rattle.cell_refs.specs.Names.{same_letters}
 use Rattle.formula_grammar.specs.Words.{logical_in}
@@ -19,29 +18,11 @@ use Rattle.recalculation.specs.Entries.{Entry, Constant, Malformed}
 use Rattle.workbook.specs.Kinds.{behind_equals, logical_or_text, number_or_other}
 
 -- ---- numerals
-both_true : (b : Bool) (m n : ℕ) → b ≡ true → m < n → (b && nat_lt m n) ≡ true
-both_true b m n e h = grind (arith, nat_tests)
-
-both_say : (b : Bool) (m n : ℕ) → (b && nat_lt m n) ≡ true → (b ≡ true) × (m < n)
-both_say false m n e = absurd cc
-both_say true m n e = (refl, grind (arith, nat_tests))
-
-abbrev passes : Numeral → Bool
-passes n = is_narrow (value n) && nat_lt (digits_value 10 (significant (all_digits n))) (2 ^ 127)
-
 narrow_has_value : (n : Numeral) → IsNarrowNumeral n → narrow_value n ≡ Some (value n)
-narrow_has_value n h =
-    let e : passes n ≡ true = both_true (is_narrow (value n)) (digits_value 10 (significant (all_digits n))) (2 ^ 127) ((narrow_test (value n)).1 h.value) h.digits in
-    ap (λ b. if b then Some (value n) else None) e
+narrow_has_value n h = ap (λ b. if b then Some (value n) else None) (narrow_passes n h)
 
 wide_has_none : (n : Numeral) → (IsNarrowNumeral n → ⊥) → narrow_value n ≡ None
-wide_has_none n h = by_case (passes n) refl
-  where
-    by_case : (b : Bool) → passes n ≡ b → narrow_value n ≡ None
-    by_case false e = ap (λ b. if b then Some (value n) else None) e
-    by_case true e =
-        let k = both_say (is_narrow (value n)) (digits_value 10 (significant (all_digits n))) (2 ^ 127) e in
-        absurd (h (record { value = (narrow_test (value n)).0 k.0; digits = k.1 }))
+wide_has_none n h = ap (λ b. if b then Some (value n) else None) (wide_fails n h)
 
 abbrev number_entry : Option ℚ → Entry
 number_entry o = option_map_or (λ (x : ℚ). Constant (sheet_value.Number x)) o Malformed
