@@ -9,7 +9,7 @@ use Rattle.formula_ast.specs.Sound.{AreItems, AreSoundWithin, IsForward, IsItem,
 use Rattle.formula_ast.specs.Tree.{Tree, Array, Number, WideNumber, span_of, trees}
 use Rattle.formula_ast.specs.Tree as tree
 use Rattle.fractions.specs.Rational.{neg_ℚ}
-use Rattle.frac128.specs.Numeral.{Numeral, value}
+use Rattle.frac128.specs.Numeral.{Numeral, is_narrow_numeral, value}
 use Rattle.formula_grammar.specs.declared.symbol.Symbol.{Symbol}
 use Rattle.formula_grammar.specs.Symbols.{Setting, from_to}
 use Rattle.formula_grammar.specs.Arrays.{SpellsItem, SpellsRow, SpellsRows}

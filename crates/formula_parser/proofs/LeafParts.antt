@@ -3,7 +3,7 @@ use Rattle.std.proofs.Common.{◌≡◌, ◌≤◌, ◌-◌, ℕ, zero, suc, min
 use Rattle.std.specs.Prelude.{IfSome, Result, ◌||◌}
 use Rattle.std.specs.Option.{option_map, option_map_or, option_and_then}
 use Rattle.cell_refs.specs.declared.span.Span.{Span}
-use Rattle.frac128.specs.Numeral.{Numeral, value}
+use Rattle.frac128.specs.Numeral.{Numeral, is_narrow_numeral, value}
 use Rattle.frac128.specs.NumeralReading.{reading}
 use Rattle.formula_ast.specs.Measures.{height_of}
 use Rattle.formula_ast.specs.Sound.{IsWithin}
