@@ -3,7 +3,6 @@ pub mod Steps
 pub mod Answers
 pub mod Assigned
 pub mod Relations
-pub mod Kept
 pub mod Single
 pub mod Lists
 pub mod Points

@@ -39,22 +39,22 @@ impl Model for Form {
 
 impl Form {
     /// The form of a number.
-    pub fn constant(c: Frac) -> Form
+    pub fn constant(alloc: Global, c: Frac) -> Form
         ensures { result ≡ constant_form c }
     {
         Form {
             base: c,
-            terms: Terms::new(),
+            terms: Terms::new(alloc),
         }
     }
 
     /// The form of a decision.
-    pub fn decision(j: u16) -> Form
+    pub fn decision(alloc: Global, j: u16) -> Form
         ensures { result ≡ decision_form j }
     {
         Form {
             base: Frac::zero(),
-            terms: Terms::one((j, Frac::one())),
+            terms: Terms::one(alloc, (j, Frac::one())),
         }
     }
 
@@ -92,6 +92,13 @@ impl Form {
         ensures { IsTrue result ↔ (self.now ≡ other.now) }
     {
         equal(self.base(), other.base()) && are_same(self.terms(), other.terms())
+    }
+
+    /// Whether it is the form of a decision.
+    pub fn is_decision(&self, j: u16) -> bool
+        ensures { IsTrue result ↔ (self.now ≡ decision_form j) }
+    {
+        equal(self.base(), Frac::zero()) && are_same(self.terms(), &[(j, Frac::one())])
     }
 
     /// The same form again.

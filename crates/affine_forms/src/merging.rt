@@ -23,27 +23,27 @@ pub(crate) fn merged(
     ensures in_place { IfErr result (λ stop. stop ≡ stops.Memory → NeedsRoomFor (merged left.now right.now)) }
     ensures few { IfErr result (λ stop. stop ≡ stops.Memory → 2 < length left.now + length right.now) }
 {
-    let mut terms = Terms::new();
+    let mut terms = Terms::new(alloc);
     let mut i = 0;
     let mut j = 0;
     while i < left.len() && j < right.len() {
         let t = left[i];
         let u = right[j];
         if t.0 < u.0 {
-            terms.push(alloc, t)?;
+            terms.push(t)?;
             i += 1;
         } else if u.0 < t.0 {
-            terms.push(alloc, u)?;
+            terms.push(u)?;
             j += 1;
         } else {
             let sum = add(t.1, u.1)?;
-            push_some(&mut terms, alloc, t.0, sum)?;
+            push_some(&mut terms, t.0, sum)?;
             i += 1;
             j += 1;
         }
     }
-    terms.append(alloc, &left[i..])?;
-    terms.append(alloc, &right[j..])?;
+    terms.append(&left[i..])?;
+    terms.append(&right[j..])?;
     Ok(terms)
 }
 
@@ -52,9 +52,9 @@ pub(crate) fn negated(alloc: Global, terms: &[(u16, Frac)]) -> Result<Terms, Mem
     ensures turned { IfOk result (λ turned. turned ≡ negated_terms terms.now) }
     ensures in_place { OnErr result (2 < length terms.now) }
 {
-    let mut turned = Terms::new();
+    let mut turned = Terms::new(alloc);
     for (j, c) in terms {
-        turned.push(alloc, (*j, c.neg()))?;
+        turned.push((*j, c.neg()))?;
     }
     Ok(turned)
 }
@@ -65,21 +65,21 @@ pub(crate) fn scaled(alloc: Global, k: Frac, terms: &[(u16, Frac)]) -> Result<Te
     ensures in_place { IfErr result (λ stop. stop ≡ stops.Memory → NeedsRoomFor (scaled_terms k terms.now)) }
     ensures few { IfErr result (λ stop. stop ≡ stops.Memory → 2 < length terms.now) }
 {
-    let mut products = Terms::new();
+    let mut products = Terms::new(alloc);
     for (j, c) in terms {
         let product = multiply(*c, k)?;
-        push_some(&mut products, alloc, *j, product)?;
+        push_some(&mut products, *j, product)?;
     }
     Ok(products)
 }
 
 // A term behind the others, where its coefficient isn't 0.
-fn push_some(terms: &mut Terms, alloc: Global, j: u16, c: Frac) -> Result<(), Memory>
+fn push_some(terms: &mut Terms, j: u16, c: Frac) -> Result<(), Memory>
     ensures pushed { OnOk result (terms.new ≡ terms.old ++ in_front j c []) }
     ensures in_place { OnErr result (2 < length (terms.old ++ in_front j c [])) }
 {
     if !c.is_zero() {
-        terms.push(alloc, (j, c))?;
+        terms.push((j, c))?;
     }
     Ok(())
 }

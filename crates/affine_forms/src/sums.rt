@@ -27,7 +27,7 @@ pub(crate) fn add_terms(
     ensures few { IfErr result (λ stop. stop ≡ stops.Memory → 2 < length terms.old + length more.now) }
 {
     if lie_behind(terms.as_slice(), more) {
-        terms.append(alloc, more)?;
+        terms.append(more)?;
         return Ok(());
     }
     *terms = merged(alloc, terms.as_slice(), more)?;

@@ -17,7 +17,8 @@ use Rattle.form_areas.specs.Places.{fault_or}
 
 -- an operand that is an error
 pub none_fault : (o : Operand) (k : ErrorKind) → wanted_in o ≡ none k → o ≡ operand.Fault k
-none_fault (operand.Number n) k e = cc
+none_fault (operand.Known n) k e = cc
+none_fault (operand.Open f) k e = cc
 none_fault operand.Test k e = cc
 none_fault (operand.Fault j) k e = let same : j ≡ k = cc in ap operand.Fault same
 

@@ -151,7 +151,7 @@ fn total_met(
     requires size { length tested.now ≡ length summed.now }
     ensures { forms.Answers (total (filter_map form_in (filter_map item_at (met criterion.now tested.now summed.now)))) result }
 {
-    let mut total = Form::constant(Frac::zero());
+    let mut total = Form::constant(alloc, Frac::zero());
     for (place, item) in tested.iter().enumerate() {
         add_where(&mut total, alloc, is_met(criterion, item), &summed[place])?;
     }
@@ -168,8 +168,8 @@ fn add_where(total: &mut Form, alloc: Global, asked: bool, item: &Abs) -> Result
     Ok(())
 }
 
-// Whether a known element meets the criterion.
-fn is_met(criterion: &Value, item: &Abs) -> bool
+/// Whether a known element meets the criterion.
+pub(crate) fn is_met(criterion: &Value, item: &Abs) -> bool
     requires { error_of (Known criterion.now) ≡ None }
     ensures { result ≡ meets criterion.now (value_in item.now) }
 {

@@ -41,7 +41,7 @@ fn items_in(arg: &AbsArg) -> usize
 {
     match arg {
         AbsArg::One(value) => match operand_of(value) {
-            Operand::Number(_) => 1,
+            Operand::Known(_) | Operand::Open(_) => 1,
             Operand::Test | Operand::Fault(_) => 0,
         },
         AbsArg::Area(grid) => count_among(grid.items()),
@@ -52,7 +52,13 @@ fn items_in(arg: &AbsArg) -> usize
 fn count_among(items: &[Abs]) -> usize
     ensures { result ≡ length (filter is_number items.now) }
 {
-    items.iter().filter(|item| is_number(item)).count()
+    let mut count = 0;
+    for item in items {
+        if is_number(item) {
+            count += 1;
+        }
+    }
+    count
 }
 
 /// The fraction that a whole number is.

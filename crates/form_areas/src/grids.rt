@@ -8,7 +8,7 @@ ghost use Rattle.form_values.specs.declared.abs.AbsArg.TheVariants.{Area};
 use form_values::{Abs, AbsArg, AbsGrid};
 
 /// How many rows and columns an argument has, at least one of each.
-pub(crate) fn size_of(arg: &AbsArg) -> (u32, u32)
+pub fn size_of(arg: &AbsArg) -> (u32, u32)
     ensures rows { result.0 ≡ (grid_of arg.now).rows }
     ensures columns { result.1 ≡ (grid_of arg.now).columns }
     ensures some_rows { 0 < result.0 }

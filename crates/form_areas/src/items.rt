@@ -47,7 +47,7 @@ fn error_as_number(value: &Abs) -> Option<ErrorKind>
 {
     match operand_of(value) {
         Operand::Fault(kind) => Some(kind),
-        Operand::Number(_) | Operand::Test => None,
+        Operand::Known(_) | Operand::Open(_) | Operand::Test => None,
     }
 }
 
@@ -87,7 +87,7 @@ fn is_open(arg: &AbsArg) -> bool
 pub(crate) fn total(alloc: Global, args: &[AbsArg]) -> Result<Form, FormStop>
     ensures { Answers (total (forms_of args.now)) result }
 {
-    let mut total = Form::constant(Frac::zero());
+    let mut total = Form::constant(alloc, Frac::zero());
     for arg in args {
         add_items(&mut total, alloc, arg)?;
     }
@@ -109,7 +109,8 @@ fn add_operand(total: &mut Form, alloc: Global, operand: &Operand) -> Result<(),
     ensures { Answers (through added total.old (option_to_list (form_in (wanted_in operand.now)))) (result_map_both (λ _. total.new) (λ stop. stop) result) }
 {
     match operand {
-        Operand::Number(number) => total.add_to(alloc, number.form()),
+        Operand::Known(number) => total.add_to(alloc, &Form::constant(alloc, *number)),
+        Operand::Open(form) => total.add_to(alloc, form),
         Operand::Test | Operand::Fault(_) => Ok(()),
     }
 }
@@ -140,7 +141,7 @@ fn add_known(total: &mut Form, alloc: Global, value: &Value) -> Result<(), FormS
     ensures { Answers (through added total.old (filter_map form_in (option_to_list (item_at (Known value.now))))) (result_map_both (λ _. total.new) (λ stop. stop) result) }
 {
     match value {
-        Value::Number(number) => total.add_to(alloc, &Form::constant(*number)),
+        Value::Number(number) => total.add_to(alloc, &Form::constant(alloc, *number)),
         Value::Text(_) | Value::Logical(_) | Value::Empty | Value::Error(_) => Ok(()),
     }
 }

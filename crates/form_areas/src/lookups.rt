@@ -36,12 +36,12 @@ pub fn lookup_at(
     ensures within { IfOk result (IsWithin (grid_of keys.now).rows (grid_of keys.now).columns) }
     ensures refused { IfErr result IsUndecidedOrMemory }
 {
-    looked_up(alloc, key, keys, &operand_in(kind))
+    looked_up(alloc, key, keys, kind)
 }
 
-// The same with what stands where the kind's number is wanted.
-fn looked_up(alloc: Global, key: &AbsArg, keys: &AbsArg, kind: &Operand) -> Result<Pick, OpRefusal>
-    ensures answer { Answers (lookup_form (grid_of keys.now) (value_of key.now) (wanted_in kind.now)) result }
+// The same place.
+fn looked_up(alloc: Global, key: &AbsArg, keys: &AbsArg, kind: &AbsArg) -> Result<Pick, OpRefusal>
+    ensures answer { Answers (lookup_pick_form key.now keys.now (number_of kind.now)) result }
     ensures within { IfOk result (IsWithin (grid_of keys.now).rows (grid_of keys.now).columns) }
     ensures refused { IfErr result IsUndecidedOrMemory }
 {
@@ -49,13 +49,14 @@ fn looked_up(alloc: Global, key: &AbsArg, keys: &AbsArg, kind: &Operand) -> Resu
         Ok(key) => key,
         Err(kind) => return Ok(Pick::Fault(kind)),
     };
-    if let Operand::Fault(kind) = kind {
+    let kind = operand_in(kind);
+    if let Operand::Fault(kind) = &kind {
         return Ok(Pick::Fault(*kind));
     }
     if !may_find(keys) {
         return Ok(Pick::Fault(ErrorKind::NotAvailable));
     }
-    by_keys(alloc, key, keys, kind)
+    by_keys(alloc, key, keys, &kind)
 }
 
 // Whether some key may be found: there is one row or one column, and an element that may be a key.

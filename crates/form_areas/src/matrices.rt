@@ -13,6 +13,7 @@ ghost use Rattle.form_table.specs.Table.{of_two, row_of};
 ghost use Rattle.form_table.specs.Wanted.{grid_of};
 ghost use Rattle.form_values.specs.Known.{all_known};
 ghost use Rattle.form_values.specs.Trials.{Answers, each_tried};
+ghost use Rattle.form_values.specs.declared.abs.AbsArg.TheVariants.{Area};
 ghost use Rattle.formula_ast.specs.Functions.{Takes};
 ghost use Rattle.formula_ast.specs.declared.func.Func.TheVariants as func;
 ghost use Rattle.sheet_funcs.specs.Products.{places_of};
@@ -118,11 +119,11 @@ fn product_at(
 ) -> Result<Form, OpRefusal>
     ensures { Answers (product_at (grid_of left.now) (grid_of right.now) (row, column)) result }
 {
-    let mut total = Form::constant(Frac::zero());
+    let mut total = Form::constant(alloc, Frac::zero());
     for inner in 0..columns_of(left) {
         let first = factor_of(left, row, inner);
         let second = factor_of(right, inner, column);
-        let product = times(alloc, first.form(), second.form())?;
+        let product = times(alloc, first.form(alloc).get(), second.form(alloc).get())?;
         add_form(&mut total, alloc, &product)?;
     }
     Ok(total)
@@ -145,6 +146,13 @@ pub fn transpose(alloc: Global, args: &[AbsArg]) -> Result<AbsArg, OpRefusal>
     let [arg] = args else {
         unreachable!();
     };
+    Ok(transposed(alloc, arg)?)
+}
+
+/// The elements of any argument with rows and columns exchanged.
+pub fn transposed(alloc: Global, arg: &AbsArg) -> Result<AbsArg, Memory>
+    ensures { IfOk result (λ across. across ≡ Area (transposed (grid_of arg.now))) }
+{
     let (rows, columns) = size_of(arg);
     let items = transposed_items(alloc, arg)?;
     Ok(area(columns, rows, items))

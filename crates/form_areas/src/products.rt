@@ -82,7 +82,7 @@ fn are_of_size(first: &AbsArg, others: &[AbsArg]) -> bool
 fn dot(alloc: Global, args: &[AbsArg], count: usize) -> Result<Form, OpRefusal>
     ensures { Answers (dot (map (factors_at (map grid_of args.now)) (below count))) result }
 {
-    let mut total = Form::constant(Frac::zero());
+    let mut total = Form::constant(alloc, Frac::zero());
     for place in 0..count {
         let product = product_in(alloc, args, place)?;
         add_form(&mut total, alloc, &product)?;
@@ -105,10 +105,10 @@ fn product_in(alloc: Global, args: &[AbsArg], place: usize) -> Result<Form, OpRe
     ensures { Answers (product_of (factors_at (map grid_of args.now) place)) result }
 {
     let [first, others @ ..] = args else {
-        return Ok(Form::constant(Frac::one()));
+        return Ok(Form::constant(alloc, Frac::one()));
     };
     let factor = factor_at(first.elements(), place);
-    let product = factor.form().copy(alloc)?;
+    let product = factor.form(alloc).get().copy(alloc)?;
     product_from(alloc, product, others, place)
 }
 
@@ -124,7 +124,7 @@ fn product_from(
     let mut product = first;
     for other in others {
         let factor = factor_at(other.elements(), place);
-        product = times(alloc, &product, factor.form())?;
+        product = times(alloc, &product, factor.form(alloc).get())?;
     }
     Ok(product)
 }
@@ -155,8 +155,8 @@ pub(crate) fn factor_at(items: &[Abs], place: usize) -> Number<'_>
     ensures { form_in result ≡ factor (slice_index_or items.now place (Known Empty)) }
 {
     match items.get(place) {
-        Some(Abs::Known(Value::Number(number))) => Number::Known(Form::constant(*number)),
+        Some(Abs::Known(Value::Number(number))) => Number::Known(*number),
         Some(Abs::Affine(form)) => Number::Open(form),
-        _ => Number::Known(Form::constant(Frac::zero())),
+        _ => Number::Known(Frac::zero()),
     }
 }

@@ -11,7 +11,7 @@ use form_values::{Abs, AbsArg};
 use sheet_model::Value;
 
 /// The one value of an argument, or the error that it is.
-pub(crate) fn value_or_error(arg: &AbsArg) -> Result<&Abs, ErrorKind>
+pub fn value_or_error(arg: &AbsArg) -> Result<&Abs, ErrorKind>
     ensures { MatchResult result (λ value. (value.now ≡ value_of arg.now) × (error_of value.now ≡ None)) (λ kind. value_of arg.now ≡ Known (Error kind)) }
 {
     match value_of(arg) {

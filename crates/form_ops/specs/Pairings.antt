@@ -1,5 +1,5 @@
 -- What is made of one number and of two, and the error that a known second number makes certain.
-use Rattle.std.specs.Prelude.{pos, Option}
+use Rattle.std.specs.Prelude.{pos, Option, ⊤}
 use Rattle.fractions.specs.Rational.{ℚ, inv_ℚ}
 use Rattle.fractions.specs.Whole.{whole_ℚ}
 use Rattle.cell_refs.specs.declared.error_kind.ErrorKind.{ErrorKind}
@@ -39,3 +39,9 @@ certain_error pairing.Power = no_exponent
 certain_error pairing.Remainder = zero_divisor
 certain_error pairing.Rounding = no_places
 certain_error _ = no_error
+
+-- of an open number nothing affine is made
+abbrev pub NeverAffine : Pairing → Type 0
+NeverAffine pairing.Remainder = ⊤
+NeverAffine pairing.Rounding = ⊤
+NeverAffine _ = ⊥

@@ -1,4 +1,5 @@
 -- Why there is no value, where an operation on forms or on known values has none; and known values.
+use Rattle.std.specs.Prelude.{⊤}
 use Rattle.cell_refs.specs.declared.error_kind.ErrorKind.TheVariants as kind
 use Rattle.affine_forms.specs.declared.stop.FormStop.{FormStop}
 use Rattle.affine_forms.specs.declared.stop.FormStop.TheVariants as form_stop
@@ -24,3 +25,8 @@ function_refusal function_stop.Memory = Memory
 abbrev pub only_known : Arg → Abs
 only_known (arg.One v) = Known v
 only_known (arg.Area g) = Known (Error kind.Value)
+
+-- it isn't for want of memory
+abbrev pub IsNoWant : OpRefusal → Type 0
+IsNoWant Memory = ⊥
+IsNoWant _ = ⊤

@@ -1,6 +1,7 @@
 // IF of an open test.
-ghost use Rattle.std.specs.Prelude.{◌≡◌, IfOk, IsTrue, option_map};
-ghost use Rattle.affine_forms.specs.Forms.{has_terms};
+ghost use Rattle.std.specs.Prelude.{◌≡◌, IfOk, option_map};
+ghost use Rattle.affine_forms.specs.Answers.{AnswersInPlace};
+ghost use Rattle.affine_forms.specs.Steps.{multiple_of};
 ghost use Rattle.form_ops.specs.Operands.{form_in};
 ghost use Rattle.form_ops.specs.Sides.{side_value};
 ghost use Rattle.form_ops.specs.Truths.{IsTrueChoice};
@@ -28,7 +29,6 @@ pub fn if_test(
     holding: &AbsArg,
     failing: &AbsArg,
 ) -> Result<AbsArg, OpRefusal>
-    requires { IsTrue (has_terms form.now) }
     ensures answer { Answers (if_test form.now relation holding.now failing.now) result }
     ensures right { IsTrueChoice form.now relation holding.now failing.now result }
 {
@@ -43,7 +43,6 @@ fn if_open(
     holding: &Side,
     failing: &Side,
 ) -> Result<AbsArg, OpRefusal>
-    requires { IsTrue (has_terms form.now) }
     ensures { Answers (if_open form.now relation (side_value holding.now) (side_value failing.now)) result }
 {
     if same_side(holding, failing) {
@@ -67,9 +66,7 @@ fn number_branch<'a>(side: &Side<'a>) -> Option<Number<'a>>
     ensures { option_map form_in result ≡ number_branch (side_value side.now) }
 {
     match side {
-        Side::One(Abs::Known(Value::Number(number))) => {
-            Some(Number::Known(Form::constant(*number)))
-        }
+        Side::One(Abs::Known(Value::Number(number))) => { Some(Number::Known(*number)) }
         Side::One(Abs::Affine(form)) => Some(Number::Open(form)),
         Side::One(Abs::Known(_) | Abs::Test(_, _)) | Side::Area(_) => None,
     }
@@ -83,7 +80,6 @@ fn of_branches(
     holding: &Side,
     failing: &Side,
 ) -> Result<AbsArg, OpRefusal>
-    requires { IsTrue (has_terms form.now) }
     ensures { Answers (of_branches form.now relation (side_value holding.now) (side_value failing.now) (number_branch (side_value holding.now)) (number_branch (side_value failing.now))) result }
 {
     match (number_branch(holding), number_branch(failing)) {
@@ -92,7 +88,7 @@ fn of_branches(
             form,
             relation,
             (holding, failing),
-            (first.form(), second.form()),
+            (first.form(alloc).get(), second.form(alloc).get()),
         ),
         _ => Err(OpRefusal::Undecided(0)),
     }
@@ -106,7 +102,6 @@ fn chosen_by(
     branches: (&Side, &Side),
     numbers: (&Form, &Form),
 ) -> Result<AbsArg, OpRefusal>
-    requires { IsTrue (has_terms form.now) }
     ensures { Answers (chosen_by form.now relation (side_value branches.entry.0.now) (side_value branches.entry.1.now) numbers.entry.0.now numbers.entry.1.now) result }
 {
     let (holding, failing) = branches;
@@ -126,7 +121,6 @@ fn branch_where(
     first: &Form,
     second: &Form,
 ) -> Result<AbsArg, OpRefusal>
-    requires { IsTrue (has_terms form.now) }
     ensures { Answers (branch_where form.now (side_value branch.now) first.now second.now) result }
 {
     if differ_by_multiple(alloc, form, first, second)? {
@@ -142,15 +136,24 @@ fn differ_by_multiple(
     first: &Form,
     second: &Form,
 ) -> Result<bool, OpRefusal>
-    requires { IsTrue (has_terms form.now) }
     ensures { Answers (made (λ b. b) (differ_by_multiple form.now first.now second.now)) result }
 {
     let difference = match first.sub(alloc, second) {
         Ok(difference) => difference,
         Err(stop) => return Err(form_refusal(stop)),
     };
-    match difference.multiple_of(form) {
+    match is_multiple(&difference, form) {
         Ok(holds) => Ok(holds),
         Err(Wide) => Err(OpRefusal::Wide),
+    }
+}
+
+// Whether a form is a multiple of another, which none is of a form without terms.
+fn is_multiple(form: &Form, of: &Form) -> Result<bool, Wide>
+    ensures { AnswersInPlace (multiple_of form.now of.now) result }
+{
+    match of.terms() {
+        [] => Ok(false),
+        _ => form.multiple_of(of),
     }
 }

@@ -1,7 +1,7 @@
 // Comparisons.
 ghost use Rattle.std.specs.Prelude.{◌≡◌, if◌then◌else◌, option_map};
 ghost use Rattle.form_ops.specs.Operands.{form_in};
-ghost use Rattle.form_table.specs.Operators.{compared, compared_row, compared_sides, is_logical, relation_of};
+ghost use Rattle.form_table.specs.Operators.{comparable, compared, compared_row, compared_sides, is_logical, relation_of};
 ghost use Rattle.form_values.specs.Trials.{Answers, given, undecided};
 ghost use Rattle.form_values.specs.declared.abs.Abs.TheVariants.{Known};
 ghost use Rattle.sheet_model.specs.Operators.{asks_for};
@@ -35,7 +35,7 @@ fn compared_row(alloc: Global, op: Op, a: &Abs, b: &Abs) -> Result<Abs, OpRefusa
     match (a, b) {
         (Abs::Test(_, _), _) => open_beside(op, Ordering::Greater, 0, b),
         (_, Abs::Test(_, _)) => open_beside(op, Ordering::Less, 1, a),
-        _ => compared_sides(alloc, op, comparable(a), comparable(b)),
+        _ => compared_sides(alloc, op, a, b),
     }
 }
 
@@ -50,17 +50,14 @@ fn open_beside(op: Op, order: Ordering, argument: u16, other: &Abs) -> Result<Ab
 }
 
 // Two sides compared as numbers: one that is no number is above one that is.
-fn compared_sides(
-    alloc: Global,
-    op: Op,
-    a: Option<Number>,
-    b: Option<Number>,
-) -> Result<Abs, OpRefusal>
-    ensures { Answers (compared_sides op (option_map form_in a.entry) (option_map form_in b.entry)) result }
+fn compared_sides(alloc: Global, op: Op, a: &Abs, b: &Abs) -> Result<Abs, OpRefusal>
+    ensures { Answers (compared_sides op (comparable a.now) (comparable b.now)) result }
 {
-    match (a, b) {
+    match (comparable(a), comparable(b)) {
         (Some(first), Some(second)) => {
-            as_test(relation_of(op), first.form().sub(alloc, second.form()))
+            let first = first.form(alloc);
+            let second = second.form(alloc);
+            as_test(relation_of(op), first.get().sub(alloc, second.get()))
         }
         (Some(_), None) => Ok(logical(asks_for(op, Ordering::Less))),
         (None, _) => Ok(logical(asks_for(op, Ordering::Greater))),

@@ -179,8 +179,12 @@ fn with_operand(
 {
     let Taken { error, test, best } = taken;
     match operand {
-        Operand::Number(number) => {
-            let best = best_with(alloc, extremum, best, number.form())?;
+        Operand::Known(number) => {
+            let best = best_with(alloc, extremum, best, &Form::constant(alloc, *number))?;
+            Ok(Taken { error, test, best })
+        }
+        Operand::Open(form) => {
+            let best = best_with(alloc, extremum, best, form)?;
             Ok(Taken { error, test, best })
         }
         Operand::Test => Ok(Taken {

@@ -1,5 +1,8 @@
 // What is made of one number.
+ghost use Rattle.std.specs.Prelude.{◌≡◌, IfErr};
 ghost use Rattle.form_ops.specs.Operands.{wanted_in};
+ghost use Rattle.form_ops.specs.Refusals.{IsNoWant};
+ghost use Rattle.form_ops.specs.declared.forms.Change.TheVariants as changes;
 ghost use Rattle.form_ops.specs.Pairings.{change_row};
 ghost use Rattle.form_table.specs.Wanted.{on_form};
 ghost use Rattle.form_values.specs.Trials.{Answers};
@@ -22,10 +25,12 @@ pub(crate) enum Change {
 
 /// What is made of what stands where a number is wanted.
 pub(crate) fn on_form(alloc: Global, change: Change, operand: &Operand) -> Result<Abs, OpRefusal>
-    ensures { Answers (on_form (change_row change) (wanted_in operand.now)) result }
+    ensures answer { Answers (on_form (change_row change) (wanted_in operand.now)) result }
+    ensures in_place { change ≡ changes.Bend → IfErr result IsNoWant }
 {
     match operand {
-        Operand::Number(number) => changed(alloc, change, number.form()),
+        Operand::Known(number) => changed(alloc, change, &Form::constant(alloc, *number)),
+        Operand::Open(form) => changed(alloc, change, form),
         Operand::Test => Err(OpRefusal::Undecided(0)),
         Operand::Fault(kind) => Ok(fault(*kind)),
     }
@@ -33,7 +38,8 @@ pub(crate) fn on_form(alloc: Global, change: Change, operand: &Operand) -> Resul
 
 // What is made of a form.
 fn changed(alloc: Global, change: Change, form: &Form) -> Result<Abs, OpRefusal>
-    ensures { Answers (change_row change form.now) result }
+    ensures answer { Answers (change_row change form.now) result }
+    ensures in_place { change ≡ changes.Bend → IfErr result IsNoWant }
 {
     match change {
         Change::Minus => Ok(Abs::entry(form.neg(alloc)?)),

@@ -1,5 +1,5 @@
 // N, ISNUMBER and ISBLANK.
-ghost use Rattle.std.specs.Prelude.{◌≡◌, false, length};
+ghost use Rattle.std.specs.Prelude.{◌≡◌, IsOk, false, length};
 ghost use Rattle.std.specs.List.{list_all};
 ghost use Rattle.form_table.specs.Items.{is_number};
 ghost use Rattle.form_table.specs.Logic.{is_blank, n_abs, n_form};
@@ -71,6 +71,7 @@ pub fn isnumber(args: &[AbsArg]) -> Result<AbsArg, OpRefusal>
     requires open_argument { list_all all_known args.now ≡ false }
     ensures answer { Answers (row_of func.IsNumber args.now) result }
     ensures right { IsTrueCall func.IsNumber args.now result }
+    ensures given { IsOk result }
 {
     let [arg] = args else {
         unreachable!();
@@ -101,6 +102,7 @@ pub fn isblank(args: &[AbsArg]) -> Result<AbsArg, OpRefusal>
     requires open_argument { list_all all_known args.now ≡ false }
     ensures answer { Answers (row_of func.IsBlank args.now) result }
     ensures right { IsTrueCall func.IsBlank args.now result }
+    ensures given { IsOk result }
 {
     let [arg] = args else {
         unreachable!();

@@ -26,7 +26,7 @@ pub use extremes::{max, min};
 pub use information::{is_number, isblank, isnumber, n_};
 pub use logic::{and_, not_, or_};
 pub use number_tests::inverse;
-pub use operand::{Number, Operand, constant_of, known_number, operand_of};
+pub use operand::{Held, Number, Operand, constant_of, known_number, operand_of};
 pub use operators::{infix, minus, percent};
 pub use results::{as_entry, as_one, fault, form_refusal};
 pub use rounding::{abs_, int, mod_, power, round};

@@ -9,33 +9,57 @@ use cell_refs::ErrorKind;
 use form_values::Abs;
 use frac128::Frac;
 use sheet_model::{Value, to_number};
+use std::alloc::Global;
 
-/// A number as a form: one without terms is known.
+/// A number: one that is known, or an open form.
 #[derive(Drop)]
 pub enum Number<'a> {
-    Known(Form),
+    Known(Frac),
     Open(&'a Form),
 }
 
-impl Number<'_> {
+impl<'a> Number<'a> {
     ghost use Rattle.std.specs.Prelude.{◌≡◌};
-    ghost use Rattle.form_ops.specs.Operands.{form_in};
+    ghost use Rattle.form_ops.specs.Operands.{form_held, form_in};
 
-    /// The form.
-    pub fn form(&self) -> &Form
-        ensures { result.now ≡ form_in self.now }
+    /// The number as a form.
+    pub fn form(&self, alloc: Global) -> Held<'a>
+        ensures { form_held result ≡ form_in self.now }
     {
         match self {
-            Number::Known(form) => form,
-            Number::Open(form) => form,
+            Number::Known(number) => Held::Made(Form::constant(alloc, *number)),
+            Number::Open(form) => Held::Lent(*form),
         }
     }
 }
 
-/// What stands where a number is wanted: a number, an open logical, or an error.
+/// A form that was made, or one that is lent.
+#[derive(Drop)]
+pub enum Held<'a> {
+    Made(Form),
+    Lent(&'a Form),
+}
+
+impl Held<'_> {
+    ghost use Rattle.std.specs.Prelude.{◌≡◌};
+    ghost use Rattle.form_ops.specs.Operands.{form_held};
+
+    /// The form.
+    pub fn get(&self) -> &Form
+        ensures { result.now ≡ form_held self.now }
+    {
+        match self {
+            Held::Made(form) => form,
+            Held::Lent(form) => form,
+        }
+    }
+}
+
+/// What stands where a number is wanted: a known number, an open form, an open logical, or an error.
 #[derive(Drop)]
 pub enum Operand<'a> {
-    Number(Number<'a>),
+    Known(Frac),
+    Open(&'a Form),
     Test,
     Fault(ErrorKind),
 }
@@ -46,10 +70,10 @@ pub fn operand_of(value: &Abs) -> Operand<'_>
 {
     match value {
         Abs::Known(known) => match to_number(known) {
-            Ok(number) => Operand::Number(Number::Known(Form::constant(number))),
+            Ok(number) => Operand::Known(number),
             Err(kind) => Operand::Fault(kind),
         },
-        Abs::Affine(form) => Operand::Number(Number::Open(form)),
+        Abs::Affine(form) => Operand::Open(form),
         Abs::Test(_, _) => Operand::Test,
     }
 }
@@ -59,8 +83,8 @@ pub(crate) fn comparable(value: &Abs) -> Option<Number<'_>>
     ensures { option_map form_in result ≡ comparable value.now }
 {
     match value {
-        Abs::Known(Value::Number(number)) => Some(Number::Known(Form::constant(*number))),
-        Abs::Known(Value::Empty) => Some(Number::Known(Form::constant(Frac::zero()))),
+        Abs::Known(Value::Number(number)) => Some(Number::Known(*number)),
+        Abs::Known(Value::Empty) => Some(Number::Known(Frac::zero())),
         Abs::Affine(form) => Some(Number::Open(form)),
         Abs::Known(_) | Abs::Test(_, _) => None,
     }
@@ -81,7 +105,8 @@ pub fn known_number(operand: &Operand) -> Option<Frac>
     ensures { result ≡ known_number (wanted_in operand.now) }
 {
     match operand {
-        Operand::Number(number) => constant_of(number.form()),
+        Operand::Known(number) => Some(*number),
+        Operand::Open(form) => constant_of(form),
         Operand::Test | Operand::Fault(_) => None,
     }
 }

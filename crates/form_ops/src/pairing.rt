@@ -1,8 +1,9 @@
 // What is made of two numbers.
-ghost use Rattle.std.specs.Prelude.{◌≡◌, ◌≢◌};
+ghost use Rattle.std.specs.Prelude.{◌≡◌, ◌≢◌, IfErr};
 ghost use Rattle.cell_refs.specs.declared.error_kind.ErrorKind.{ErrorKind};
 ghost use Rattle.form_ops.specs.Operands.{wanted_in};
-ghost use Rattle.form_ops.specs.Pairings.{certain_error, pairing_row};
+ghost use Rattle.form_ops.specs.Pairings.{NeverAffine, certain_error, pairing_row};
+ghost use Rattle.form_ops.specs.Refusals.{IsNoWant};
 ghost use Rattle.form_table.specs.Operators.{power_row, product_row, quotient_row, raised_to};
 ghost use Rattle.form_table.specs.Rounding.{round_row};
 ghost use Rattle.form_table.specs.Wanted.{certain_by, form, known_number, on_both, on_forms, wanted};
@@ -50,7 +51,8 @@ pub(crate) fn on_operands(
     first: &Operand,
     second: &Operand,
 ) -> Result<Abs, OpRefusal>
-    ensures { Answers (on_forms (certain_error pairing) (pairing_row pairing) (wanted_in first.now) (wanted_in second.now)) result }
+    ensures answer { Answers (on_forms (certain_error pairing) (pairing_row pairing) (wanted_in first.now) (wanted_in second.now)) result }
+    ensures in_place { NeverAffine pairing → IfErr result IsNoWant }
 {
     if let Operand::Fault(kind) = first {
         return Ok(fault(*kind));
@@ -111,10 +113,14 @@ fn on_both(
     first: &Operand,
     second: &Operand,
 ) -> Result<Abs, OpRefusal>
-    ensures { Answers (on_both (pairing_row pairing) (wanted_in first.now) (wanted_in second.now)) result }
+    ensures answer { Answers (on_both (pairing_row pairing) (wanted_in first.now) (wanted_in second.now)) result }
+    ensures in_place { NeverAffine pairing → IfErr result IsNoWant }
 {
     match first {
-        Operand::Number(number) => on_second(alloc, pairing, number.form(), second),
+        Operand::Known(number) => {
+            on_second(alloc, pairing, &Form::constant(alloc, *number), second)
+        }
+        Operand::Open(form) => on_second(alloc, pairing, form, second),
         Operand::Test | Operand::Fault(_) => Err(OpRefusal::Undecided(0)),
     }
 }
@@ -126,17 +132,20 @@ fn on_second(
     first: &Form,
     second: &Operand,
 ) -> Result<Abs, OpRefusal>
-    ensures { Answers (on_both (pairing_row pairing) (form first.now) (wanted_in second.now)) result }
+    ensures answer { Answers (on_both (pairing_row pairing) (form first.now) (wanted_in second.now)) result }
+    ensures in_place { NeverAffine pairing → IfErr result IsNoWant }
 {
     match second {
-        Operand::Number(number) => paired(alloc, pairing, first, number.form()),
+        Operand::Known(number) => paired(alloc, pairing, first, &Form::constant(alloc, *number)),
+        Operand::Open(form) => paired(alloc, pairing, first, form),
         Operand::Test | Operand::Fault(_) => Err(OpRefusal::Undecided(1)),
     }
 }
 
 // What is made of two forms.
 fn paired(alloc: Global, pairing: Pairing, first: &Form, second: &Form) -> Result<Abs, OpRefusal>
-    ensures { Answers (pairing_row pairing first.now second.now) result }
+    ensures answer { Answers (pairing_row pairing first.now second.now) result }
+    ensures in_place { NeverAffine pairing → IfErr result IsNoWant }
 {
     match pairing {
         Pairing::Sum => as_entry(first.add(alloc, second)),
@@ -191,7 +200,8 @@ fn raised(alloc: Global, first: &Form, exponent: Option<Frac>) -> Result<Abs, Op
 
 // A form that is rounded to an open number of places.
 fn rounding(first: &Form) -> Result<Abs, OpRefusal>
-    ensures { (second : _) → Answers (round_row first.now second) result }
+    ensures answer { (second : _) → Answers (round_row first.now second) result }
+    ensures in_place { IfErr result IsNoWant }
 {
     match constant_of(first) {
         Some(_) => Err(OpRefusal::Undecided(1)),

@@ -1,11 +1,12 @@
 // Numbers rounded, and powers.
-ghost use Rattle.std.specs.Prelude.{◌≡◌, false, length};
+ghost use Rattle.std.specs.Prelude.{◌≡◌, IfErr, false, length};
 ghost use Rattle.std.specs.List.{list_all};
 ghost use Rattle.form_ops.specs.Truths.{IsTrueCall};
 ghost use Rattle.form_table.specs.Table.{row_of};
 ghost use Rattle.form_values.specs.Known.{all_known};
 ghost use Rattle.form_values.specs.Trials.{Answers, one};
-ghost use Rattle.form_ops.specs.Pairings.{certain_error, pairing_row};
+ghost use Rattle.form_ops.specs.Pairings.{NeverAffine, certain_error, pairing_row};
+ghost use Rattle.form_ops.specs.Refusals.{IsNoWant};
 ghost use Rattle.form_table.specs.Wanted.{number_of, on_forms};
 ghost use Rattle.formula_ast.specs.Functions.{Takes};
 ghost use Rattle.formula_ast.specs.declared.func.Func.TheVariants as func;
@@ -23,6 +24,7 @@ pub fn abs_(alloc: Global, args: &[AbsArg]) -> Result<AbsArg, OpRefusal>
     requires open_argument { list_all all_known args.now ≡ false }
     ensures answer { Answers (row_of func.Abs args.now) result }
     ensures right { IsTrueCall func.Abs args.now result }
+    ensures in_place { IfErr result IsNoWant }
 {
     let [arg] = args else {
         unreachable!();
@@ -36,6 +38,7 @@ pub fn int(alloc: Global, args: &[AbsArg]) -> Result<AbsArg, OpRefusal>
     requires open_argument { list_all all_known args.now ≡ false }
     ensures answer { Answers (row_of func.Int args.now) result }
     ensures right { IsTrueCall func.Int args.now result }
+    ensures in_place { IfErr result IsNoWant }
 {
     let [arg] = args else {
         unreachable!();
@@ -49,6 +52,7 @@ pub fn mod_(alloc: Global, args: &[AbsArg]) -> Result<AbsArg, OpRefusal>
     requires open_argument { list_all all_known args.now ≡ false }
     ensures answer { Answers (row_of func.Mod args.now) result }
     ensures right { IsTrueCall func.Mod args.now result }
+    ensures in_place { IfErr result IsNoWant }
 {
     let [dividend, divisor] = args else {
         unreachable!();
@@ -62,6 +66,7 @@ pub fn round(alloc: Global, args: &[AbsArg]) -> Result<AbsArg, OpRefusal>
     requires open_argument { list_all all_known args.now ≡ false }
     ensures answer { Answers (row_of func.Round args.now) result }
     ensures right { IsTrueCall func.Round args.now result }
+    ensures in_place { IfErr result IsNoWant }
 {
     rounded(alloc, args)
 }
@@ -69,7 +74,8 @@ pub fn round(alloc: Global, args: &[AbsArg]) -> Result<AbsArg, OpRefusal>
 // A number rounded to a whole number, or at a place.
 fn rounded(alloc: Global, args: &[AbsArg]) -> Result<AbsArg, OpRefusal>
     requires { Takes func.Round (length args.now) }
-    ensures { Answers (row_of func.Round args.now) result }
+    ensures answer { Answers (row_of func.Round args.now) result }
+    ensures in_place { IfErr result IsNoWant }
 {
     match args {
         [number] => as_one(on_form(alloc, Change::Bend, &operand_in(number))),
@@ -98,7 +104,8 @@ fn on_two(
     first: &AbsArg,
     second: &AbsArg,
 ) -> Result<AbsArg, OpRefusal>
-    ensures { Answers (one (on_forms (certain_error pairing) (pairing_row pairing) (number_of first.now) (number_of second.now))) result }
+    ensures answer { Answers (one (on_forms (certain_error pairing) (pairing_row pairing) (number_of first.now) (number_of second.now))) result }
+    ensures in_place { NeverAffine pairing → IfErr result IsNoWant }
 {
     as_one(on_operands(alloc, pairing, &operand_in(first), &operand_in(second)))
 }

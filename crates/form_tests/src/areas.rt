@@ -190,7 +190,7 @@ fn value(rt: &HostRuntime, shown: &str) -> Result<Abs, Fail> {
     if let Some(kind) = kind(shown) {
         return Ok(Abs::Known(Value::Error(kind)));
     }
-    let x = Form::decision(0);
+    let x = Form::decision(alloc, 0);
     let greatest = Frac::new(i128::MAX, 1).ok_or("it fits")?;
     Ok(match shown {
         "" => Abs::Known(Value::Empty),
@@ -198,7 +198,7 @@ fn value(rt: &HostRuntime, shown: &str) -> Result<Abs, Fail> {
         "FALSE" => Abs::Known(Value::Logical(false)),
         "x" => Abs::entry(x),
         "-x" => Abs::entry(x.neg(alloc)?),
-        "y" => Abs::entry(Form::decision(1)),
+        "y" => Abs::entry(Form::decision(alloc, 1)),
         "w" => Abs::entry(x.scale(alloc, greatest)?),
         "-w" => Abs::entry(x.scale(alloc, greatest.neg())?),
         "t" => Abs::test(Rel::Ge, x),
@@ -367,7 +367,7 @@ fn decisions_and_numbers(rt: &HostRuntime, count: u16) -> Result<Vec<AbsArg>, Fa
     let mut decisions = Vec::new(rt.alloc());
     let mut numbers = Vec::new(rt.alloc());
     for j in 0..count {
-        decisions.push(Abs::entry(Form::decision(j)))?;
+        decisions.push(Abs::entry(Form::decision(rt.alloc(), j)))?;
         numbers.push(Abs::Known(Value::Number(Frac::from_whole(j as i64 + 1))))?;
     }
     let decisions = AbsGrid::new(count as u32, 1, decisions).ok_or("not full")?;

@@ -31,11 +31,11 @@ fn numbers(rt: &HostRuntime, shown: Shown) -> Result<Vec<Frac>, Fail> {
 }
 
 fn form(rt: &HostRuntime, shown: Shown) -> Result<Form, Fail> {
-    let mut form = Form::constant(Frac::zero());
+    let mut form = Form::constant(rt.alloc(), Frac::zero());
     for (place, number) in numbers(rt, shown)?.iter().enumerate() {
         let part = match u16::try_from(place) {
-            Ok(0) => Form::constant(*number),
-            Ok(j) => Form::decision(j - 1).scale(rt.alloc(), *number)?,
+            Ok(0) => Form::constant(rt.alloc(), *number),
+            Ok(j) => Form::decision(rt.alloc(), j - 1).scale(rt.alloc(), *number)?,
             Err(_) => return Err("too many decisions".into()),
         };
         form.add_to(rt.alloc(), &part)?;
@@ -69,7 +69,7 @@ fn answer(
                 return Err("a form without a term".into());
             }
             match left.multiple_of(&right) {
-                Ok(is) => Ok(Form::constant(Frac::from_whole(is as i64))),
+                Ok(is) => Ok(Form::constant(alloc, Frac::from_whole(is as i64))),
                 Err(wide) => Err(wide.into()),
             }
         }
@@ -78,7 +78,7 @@ fn answer(
                 return Err("a decision without a number".into());
             }
             match left.eval(&at) {
-                Ok(value) => Ok(Form::constant(value)),
+                Ok(value) => Ok(Form::constant(alloc, value)),
                 Err(wide) => Err(wide.into()),
             }
         }

@@ -6,10 +6,10 @@ use frac128::Frac;
 use sheet_model::{Arg, Value};
 use std::test::Fail;
 
-fn element(shown: &str) -> Result<Abs, Fail> {
+fn element(rt: &HostRuntime, shown: &str) -> Result<Abs, Fail> {
     Ok(match shown {
-        "x" => Abs::entry(Form::decision(0)),
-        "x>=0" => Abs::test(Rel::Ge, Form::decision(0)),
+        "x" => Abs::entry(Form::decision(rt.alloc(), 0)),
+        "x>=0" => Abs::test(Rel::Ge, Form::decision(rt.alloc(), 0)),
         "" => Abs::Known(Value::Empty),
         _ => Abs::Known(Value::Number(Frac::read(shown)?)),
     })
@@ -18,11 +18,11 @@ fn element(shown: &str) -> Result<Abs, Fail> {
 // One element is a single value, and more are a grid of one column.
 fn argument(rt: &HostRuntime, shown: &[&str]) -> Result<AbsArg, Fail> {
     if let [only] = shown {
-        return Ok(AbsArg::One(element(only)?));
+        return Ok(AbsArg::One(element(rt, only)?));
     }
     let mut items = Vec::new(rt.alloc());
     for text in shown {
-        items.push(element(text)?)?;
+        items.push(element(rt, text)?)?;
     }
     let rows = u32::try_from(shown.len())?;
     Ok(AbsArg::Area(AbsGrid::new(rows, 1, items).ok_or("not full")?))

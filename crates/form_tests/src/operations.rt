@@ -42,15 +42,15 @@ fn value(rt: &HostRuntime, shown: &str) -> Result<Abs, Fail> {
     if let Some(text) = shown.strip_prefix('\'') {
         return Ok(Abs::Known(Value::Text(Text::new(String::from_str(alloc, text)?))));
     }
-    let x = Form::decision(0);
+    let x = Form::decision(alloc, 0);
     Ok(match shown {
         "" => Abs::Known(Value::Empty),
         "TRUE" => Abs::Known(Value::Logical(true)),
         "FALSE" => Abs::Known(Value::Logical(false)),
         "#N/A" => Abs::Known(Value::Error(ErrorKind::NotAvailable)),
         "x" => Abs::entry(x),
-        "y" => Abs::entry(Form::decision(1)),
-        "x+1" => Abs::entry(x.add(alloc, &Form::constant(Frac::one()))?),
+        "y" => Abs::entry(Form::decision(alloc, 1)),
+        "x+1" => Abs::entry(x.add(alloc, &Form::constant(alloc, Frac::one()))?),
         "2x" => Abs::entry(x.scale(alloc, Frac::from_whole(2))?),
         "w" => Abs::entry(x.scale(alloc, Frac::new(i128::MAX, 1).ok_or("it fits")?)?),
         "t" => Abs::test(Rel::Ge, x),

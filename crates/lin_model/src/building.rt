@@ -30,8 +30,8 @@ fn objective_left(alloc: Global, goal: Option<Goal>, objective: &Form) -> Result
 {
     let _terms = objective.terms();
     match goal {
-        None => Ok(Form::constant(Frac::zero())),
-        Some(Goal::Reach(_)) => Ok(Form::constant(Frac::zero())),
+        None => Ok(Form::constant(alloc, Frac::zero())),
+        Some(Goal::Reach(_)) => Ok(Form::constant(alloc, Frac::zero())),
         Some(_) => objective.copy(alloc),
     }
 }

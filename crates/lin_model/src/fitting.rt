@@ -33,11 +33,7 @@ fn is_own(row: &Condition, left: &Form, n: u16) -> bool
 fn is_decision(form: &Form, decision: u16, n: u16) -> bool
     ensures { IsTrue result ↔ ((decision < n) × (form.now ≡ decision_form decision)) }
 {
-    if decision >= n {
-        return false;
-    }
-    let own = Form::decision(decision);
-    form.same(&own)
+    decision < n && form.is_decision(decision)
 }
 
 // Whether a row and its sides fit n decisions.

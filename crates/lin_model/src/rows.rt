@@ -95,7 +95,7 @@ pub(crate) fn push_reaching(
             alloc,
             objective,
             Relation::Equal,
-            &Form::constant(value),
+            &Form::constant(alloc, value),
             rows,
         ),
     }

@@ -273,12 +273,12 @@ impl LinModel {
         ensures form { IfOk result (λ f. f ≡ wanted self.now plain) }
     {
         if plain {
-            return Ok(Form::constant(Frac::zero()));
+            return Ok(Form::constant(alloc, Frac::zero()));
         }
         match self.goal() {
             Goal::Greatest => self.objective().copy(alloc),
             Goal::Least => self.objective().neg(alloc),
-            Goal::Reach(_) => Ok(Form::constant(Frac::zero())),
+            Goal::Reach(_) => Ok(Form::constant(alloc, Frac::zero())),
         }
     }
 }

@@ -54,8 +54,8 @@ fn numbers(rt: &HostRuntime, shown: &[i128]) -> Result<Vec<Frac>, Fail> {
 }
 
 fn form(rt: &HostRuntime, coefficients: Pair) -> Result<Form, Fail> {
-    let first = Form::decision(0).scale(rt.alloc(), number(coefficients.0)?)?;
-    let second = Form::decision(1).scale(rt.alloc(), number(coefficients.1)?)?;
+    let first = Form::decision(rt.alloc(), 0).scale(rt.alloc(), number(coefficients.0)?)?;
+    let second = Form::decision(rt.alloc(), 1).scale(rt.alloc(), number(coefficients.1)?)?;
     Ok(first.add(rt.alloc(), &second)?)
 }
 
@@ -64,7 +64,10 @@ fn model(rt: &HostRuntime, shape: &Shape) -> Result<LinModel, Fail> {
     let mut sides = Vec::new(rt.alloc());
     for (left, relation, right) in shape.rows {
         rows.push(Condition::new(None, *relation))?;
-        sides.push((form(rt, *left)?, Form::constant(number(*right)?)))?;
+        sides.push((
+            form(rt, *left)?,
+            Form::constant(rt.alloc(), number(*right)?),
+        ))?;
     }
     let mut whole = Vec::new(rt.alloc());
     whole.extend_from_slice(shape.whole)?;

@@ -249,15 +249,15 @@ fn numbers(rt: &HostRuntime, shown: Shown) -> Result<Vec<Frac>, Fail> {
 }
 
 fn form(rt: &HostRuntime, shown: Shown) -> Result<Form, Fail> {
-    let mut form = Form::constant(Frac::zero());
+    let mut form = Form::constant(rt.alloc(), Frac::zero());
     let mut next: u16 = 0;
     for number in &numbers(rt, shown)? {
         if next > 3 {
             return Err("three decisions".into());
         }
         let part = match next {
-            0 => Form::constant(*number),
-            _ => Form::decision(next - 1).scale(rt.alloc(), *number)?,
+            0 => Form::constant(rt.alloc(), *number),
+            _ => Form::decision(rt.alloc(), next - 1).scale(rt.alloc(), *number)?,
         };
         form.add_to(rt.alloc(), &part)?;
         next += 1;

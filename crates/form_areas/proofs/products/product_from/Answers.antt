@@ -15,8 +15,8 @@ pub returns-in_err-product : goal.returns-in_err-product
 returns-in_err-product c =
     let a = c.other-item.result in
     let f = factor (slice_index_or (grid_of a).items c.args.place (Known Empty)) in
-    factor_stops (through_tried times c.args.first (factors_at (map grid_of c.args.others.now) c.args.place)) c.loop-other.product c.form.result.now f _ _ _ c.from_residual.result
-    (c.form.ensures ∙ c.factor_at-factor.ensures ∙ ap (λ xs. factor (slice_index_or xs c.args.place (Known Empty))) (c.elements.ensures ∙ grid_items a))
+    factor_stops (through_tried times c.args.first (factors_at (map grid_of c.args.others.now) c.args.place)) c.loop-other.product c.get.result.now f _ _ _ c.from_residual.result
+    (c.get.ensures ∙ c.form.ensures ∙ c.factor_at-factor.ensures ∙ ap (λ xs. factor (slice_index_or xs c.args.place (Known Empty))) (c.elements.ensures ∙ grid_items a))
     (ap (λ xs. factors_at (map grid_of xs) c.args.place) (rest_from c.args.others.now c.loop-other.other-index a (omega arith) c.other-item.is))
     c.loop-other.invariant c.from_residual.ensures.1 c.in_err-product.ensures
 
@@ -24,7 +24,7 @@ pub loop-other-preserved : goal.loop-other-preserved
 loop-other-preserved c =
     let a = c.other-item.result in
     let f = factor (slice_index_or (grid_of a).items c.args.place (Known Empty)) in
-    factor_goes _ c.loop-other.product c.form.result.now f c.in_ok-product.product _ _
-    (c.form.ensures ∙ c.factor_at-factor.ensures ∙ ap (λ xs. factor (slice_index_or xs c.args.place (Known Empty))) (c.elements.ensures ∙ grid_items a))
+    factor_goes _ c.loop-other.product c.get.result.now f c.in_ok-product.product _ _
+    (c.get.ensures ∙ c.form.ensures ∙ c.factor_at-factor.ensures ∙ ap (λ xs. factor (slice_index_or xs c.args.place (Known Empty))) (c.elements.ensures ∙ grid_items a))
     (ap (λ xs. factors_at (map grid_of xs) c.args.place) (rest_from c.args.others.now c.loop-other.other-index a (omega arith) c.other-item.is))
     c.loop-other.invariant c.in_ok-product.ensures

@@ -9,7 +9,9 @@ use Rattle.form_ops.proofs.comparing.compared_sides.Goals as goal
 
 pub returns-in-Some-Some : goal.returns-in-Some-Some
 returns-in-Some-Some c =
-    let f = c.form.result.now in
-    let g = c.form-in-Some-Some.result.now in
-    compared_numbers c.args.op _ _ f g _ (ap (option_map form_in) c.in-Some-Some.is-0 ∙ ap Some (sym c.form.ensures)) (ap (option_map form_in) c.in-Some-Some.is-1 ∙ ap Some (sym c.form-in-Some-Some.ensures))
+    let f = c.get.result.now in
+    let g = c.get-in-Some-Some.result.now in
+    compared_numbers c.args.op _ _ f g _
+    (sym c.comparable.ensures ∙ ap (option_map form_in) c.in-Some-Some.is-0 ∙ ap Some (sym c.form-first.ensures) ∙ ap Some (sym c.get.ensures))
+    (sym c.comparable-2.ensures ∙ ap (option_map form_in) c.in-Some-Some.is-1 ∙ ap Some (sym c.form-second.ensures) ∙ ap Some (sym c.get-in-Some-Some.ensures))
     (rw (c.as_test.ensures, c.relation_of.ensures) (form_answers (test (relation_of c.args.op)) (subtracted f g) c.sub.result c.sub.ensures.answer))
