@@ -1,11 +1,11 @@
 -- How many texts begin a formula, after one is put or taken away.
-use Rattle.std.proofs.Common.{◌≡◌, ℕ, suc, ◌+◌, ◌≤◌, Bool, true, false, cond, List, [], ◌∷◌, length, Option, Some, None, refl, sym, ap, subst, ◌∙◌, arith}
+use Rattle.std.proofs.Common.{◌≡◌, ℕ, ◌+◌, Bool, true, false, cond, List, [], ◌∷◌, length, Option, Some, None, refl, sym, ap, subst, ◌∙◌, arith}
 use Rattle.std.specs.Prelude.{filter, if◌then◌else◌, unwrap_or, T, ◌&&◌, not}
 use Rattle.std.specs.Ordering.{is_eq, is_lt, eq_by_cmp}
 use Rattle.std.specs.declared.cmp.Ordering.{Ordering}
 use Rattle.std.specs.declared.cmp.Ordering.TheVariants.{Less, Equal, Greater}
-use Rattle.std.specs.Cmp.{IsTotalOrder, alike_right, eq_by_cmp_equiv}
-use Rattle.std.specs.FinMap.{FinMap, get, entries, insert, remove, find, put, is_sorted, entries_sorted, entries-insert, get-entries, from_sorted, get-from_sorted, entries-from_sorted, get-remove, same_map}
+use Rattle.std.specs.Cmp.{alike_right, eq_by_cmp_equiv}
+use Rattle.std.specs.FinMap.{get, entries, insert, remove, find, put, is_sorted, entries_sorted, entries-insert, get-entries, from_sorted, get-from_sorted, entries-from_sorted, get-remove, same_map}
 use Rattle.std.specs.FinMap.Entries.{by_order, where_key, below_all, is_sorted-where_key, find-where_key}
 use Rattle.cell_refs.specs.declared.cell.Cell.{Cell}
 use Rattle.cell_refs.specs.Cells.{cell_cmp}

@@ -1,14 +1,10 @@
 -- Texts put into their cells, the last of them first.
-use Rattle.std.proofs.Common.{◌≡◌, ◌+◌, ◌≤◌, ℕ, suc, Bool, true, false, cond, List, [], ◌∷◌, ◌++◌, map, length, Some, refl, sym, ap, subst, ◌∙◌, arith}
-use Rattle.std.specs.Prelude.{All, if◌then◌else◌, filter}
-use Rattle.std.specs.FinMap.{contains_key, empty, entries, from_entries, insert, len-empty, len-entries}
+use Rattle.std.proofs.Common.{◌≡◌, ◌+◌, ◌≤◌, ℕ, Bool, true, false, cond, List, [], ◌∷◌, ◌++◌, length, Some, refl, sym, ap, subst, ◌∙◌, arith}
+use Rattle.std.specs.FinMap.{contains_key, empty, from_entries, insert}
 use Rattle.std.proofs.lemmas.List.{length_push}
 use Rattle.std.proofs.lemmas.List.Elements.{All-pop}
 use Rattle.cell_refs.specs.declared.cell.Cell.{Cell}
-use Rattle.cell_refs.specs.Cells.{cell_cmp}
 use Rattle.recalculation.specs.Entries.{Contents}
-use Rattle.cell_refs.specs.declared.limits.TheConstants.{FORMULAS, TEXTS}
-use Rattle.workbook.specs.Contents.{content_of}
 use Rattle.workbook.specs.Gathered.{IsFieldText}
 use Rattle.workbook.specs.Held.{put_all}
 use Rattle.workbook.specs.Opened.{TextsFit}

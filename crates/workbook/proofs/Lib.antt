@@ -12,3 +12,5 @@ pub mod NextCells
 pub mod Widths
 pub mod OneWay
 pub mod Exchanges
+pub mod Restored
+pub mod Severally

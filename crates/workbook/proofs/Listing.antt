@@ -1,10 +1,9 @@
 -- Sheets and names that are listed one after the other, up to the first that is refused.
-use Rattle.std.proofs.Common.{◌≡◌, ◌+◌, ◌≤◌, ◌<◌, ℕ, zero, suc, Bool, true, false, List, [], ◌∷◌, ◌++◌, map, length, take, drop, get_or, Option, Some, None, Ok, Err, refl, sym, ap, subst, ◌∙◌, append_assoc, append-nil, arith}
+use Rattle.std.proofs.Common.{◌≡◌, ◌+◌, ◌≤◌, ◌<◌, ℕ, zero, suc, Bool, true, false, List, [], ◌∷◌, ◌++◌, length, take, drop, get_or, Option, Some, None, Ok, Err, refl, sym, ap, subst, ◌∙◌, append_assoc, append-nil, arith}
 use Rattle.std.specs.Prelude.{◌||◌, All, is_some, not, option_map, slice_get, if◌then◌else◌}
 use Rattle.std.specs.List.{list_any}
 use Rattle.std.proofs.lemmas.List.{drop_all, drop_more, take_more, map-append}
 use Rattle.std.proofs.lemmas.List.Elements.{All-push}
-use Rattle.std.proofs.lemmas.Option.{get_or_from_slice_get, slice_get_within}
 use Rattle.cell_refs.specs.Names.{IsNamed, place_in, same_letters}
 use Rattle.cell_refs.proofs.Places.{missing, same}
 use Rattle.sheet_csv.specs.Sheet.{Record, sheet_records}
@@ -14,11 +13,9 @@ use Rattle.sheet_csv.specs.declared.fault.SheetFault.TheVariants as sheet_fault
 use Rattle.std.specs.declared.result.Result.{Result}
 use Rattle.cell_refs.specs.declared.limits.TheConstants.{COLUMNS, ROWS}
 use Rattle.cell_refs.specs.declared.limits.TheConstants.{TEXT_BYTES}
-use Rattle.workbook.specs.declared.fault.OpenFault.{OpenFault}
-use Rattle.workbook.specs.declared.fault.OpenFault.TheVariants as fault
 use Rattle.workbook.specs.Files.{SheetFile, bad_name_row, here_or_later, is_new, name_in, names_in, stems_of, with_name}
 use Rattle.workbook.specs.Gathered.{records_of}
-use Rattle.workbook.specs.Opened.{IsFirstUnread, ReadsFiles, sheet_fault_of}
+use Rattle.workbook.specs.Opened.{ReadsFiles, sheet_fault_of}
 use Rattle.workbook.specs.Opening.{IsRead, first_twin, sheet_limits}
 use Rattle.workbook.specs.State.{Name}
 

@@ -1,5 +1,5 @@
 -- Opening a workbook, step by step.
-use Rattle.std.proofs.Common.{◌≡◌, ◌≢◌, ◌+◌, ◌≤◌, ◌<◌, ℕ, zero, suc, Bool, true, false, cond, List, [], ◌∷◌, ◌++◌, map, length, take, Option, Some, None, Ok, Err, refl, sym, ap, subst, ◌∙◌, arith}
+use Rattle.std.proofs.Common.{◌≡◌, ◌+◌, ◌≤◌, ◌<◌, ℕ, suc, Bool, true, false, cond, List, [], ◌∷◌, ◌++◌, length, Option, Some, None, Err, refl, sym, ap, subst, ◌∙◌, arith}
 use Rattle.std.specs.Prelude.{◌||◌, if◌then◌else◌, All, not, position, nat_lt}
 use Rattle.std.specs.List.{position_or_len}
 use Rattle.std.specs.FinMap.{empty, entries, from_entries, len-empty, len-entries}
@@ -12,13 +12,13 @@ use Rattle.sheet_csv.specs.declared.fault.SheetFault.TheVariants as sheet_fault
 use Rattle.recalculation.specs.Entries.{Contents}
 use Rattle.workbook.specs.declared.fault.OpenFault.{OpenFault}
 use Rattle.workbook.specs.declared.fault.OpenFault.TheVariants as fault
-use Rattle.cell_refs.specs.declared.limits.TheConstants.{FORMULAS, NAMES, TEXTS}
+use Rattle.cell_refs.specs.declared.limits.TheConstants.{FORMULAS, TEXTS}
 use Rattle.workbook.specs.Files.{SheetFile, bad_name_row, is_name, name_in, name_on, names_in, sheet_in, state_in, stems_of, with_name, texts_in_files, texts_in_record, texts_in_records}
 use Rattle.workbook.specs.Gathered.{FitsSheet, IsFieldText, records_of, texts_in_sheets}
 use Rattle.workbook.specs.Opened.{GathersTexts, ListsSheets, ReadsFiles, ReadsNames, TextsFit}
-use Rattle.workbook.specs.Opening.{ContentsFit, IsFirstFault, IsRead, NamesAreRead, Opens, SheetsAreRead, first_twin, formulas_in, sheet_limits}
+use Rattle.workbook.specs.Opening.{ContentsFit, IsRead, Opens, SheetsAreRead, first_twin, formulas_in, sheet_limits}
 use Rattle.workbook.specs.Scoped.{IsShort}
-use Rattle.workbook.specs.State.{Name, State, formula_count, is_formula_text, text_count}
+use Rattle.workbook.specs.State.{Name, State, formula_count, text_count}
 use Rattle.workbook.specs.Held.{put_all}
 use Rattle.workbook.proofs.Filling.{put_empty}
 use Rattle.workbook.proofs.Gathering.{few_formulas}

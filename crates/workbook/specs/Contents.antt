@@ -1,5 +1,5 @@
 -- What a workbook answers of its cells and names.
-use Rattle.std.specs.Prelude.{◌≡◌, ◌≢◌, ℕ, Bool, true, List, [], Option, Some, None, unwrap_or}
+use Rattle.std.specs.Prelude.{◌≡◌, ◌≢◌, ℕ, true, List, [], Option, Some, None, unwrap_or}
 use Rattle.std.specs.FinMap.{get, contains_key}
 use Rattle.std.specs.declared.cmp.Ordering.TheVariants.{Less}
 use Rattle.cell_refs.specs.declared.cell.Cell.{Cell}

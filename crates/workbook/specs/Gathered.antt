@@ -1,5 +1,5 @@
 -- The texts of sheets that have been read.
-use Rattle.std.specs.Prelude.{◌≡◌, ◌≢◌, ◌<◌, ◌≤◌, ℕ, suc, List, [], ◌∷◌, ◌++◌, length, map, All, ⊤}
+use Rattle.std.specs.Prelude.{◌≢◌, ◌<◌, ◌≤◌, ℕ, suc, List, [], ◌∷◌, ◌++◌, length, map, All, ⊤}
 use Rattle.cell_refs.specs.declared.cell.Cell.{Cell}
 use Rattle.sheet_csv.specs.Sheet.{Record, sheet_records}
 use Rattle.cell_refs.specs.declared.limits.TheConstants.{TEXTS}

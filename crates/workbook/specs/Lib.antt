@@ -15,3 +15,4 @@ pub mod Listed
 pub mod Replacing
 pub mod Determined
 pub mod Exchanging
+pub mod Several

@@ -1,5 +1,5 @@
 -- The steps of opening a workbook.
-use Rattle.std.specs.Prelude.{◌≡◌, ◌<◌, ◌≤◌, ◌+◌, ℕ, List, [], length, map, slice_get, take, All, Option, Some, None, Result, Ok, Err, Vec}
+use Rattle.std.specs.Prelude.{◌≡◌, ◌<◌, ◌≤◌, ◌+◌, ℕ, List, [], length, slice_get, take, All, Some, None, Result, Ok, Err, Vec}
 use Rattle.std.specs.Global.{Global}
 use Rattle.cell_refs.specs.declared.cell.Cell.{Cell}
 use Rattle.sheet_csv.specs.Sheet.{Record, sheet_records}
@@ -9,7 +9,7 @@ use Rattle.sheet_csv.specs.declared.fault.SheetFault.TheVariants as sheet_fault
 use Rattle.workbook.specs.declared.fault.OpenFault.{OpenFault}
 use Rattle.workbook.specs.declared.fault.OpenFault.TheVariants as fault
 use Rattle.cell_refs.specs.declared.limits.TheConstants.{FORMULAS, NAMES, TEXTS}
-use Rattle.workbook.specs.Files.{SheetFile, bad_name_row, names_in, stems_of, texts_in_files}
+use Rattle.workbook.specs.Files.{SheetFile, bad_name_row, names_in, stems_of}
 use Rattle.workbook.specs.Gathered.{IsFieldText, records_of, texts_in_sheets}
 use Rattle.workbook.specs.Opening.{IsRead, first_twin, formulas_in, name_limits, sheet_limits}
 use Rattle.workbook.specs.Scoped.{IsShort}

@@ -1,6 +1,6 @@
 -- How a workbook is opened: each fault exactly where it stands, the first of them in this order: two sheets of one name, a sheet's
 -- file, too many texts, too many formulas, the file of names, a record in it, too many names.
-use Rattle.std.specs.Prelude.{◌≡◌, ℕ, suc, ◌<◌, ◌≤◌, Bool, List, [], ◌∷◌, ◌++◌, length, filter, slice_get, take, All, Option, Some, None, Result, Ok, Err}
+use Rattle.std.specs.Prelude.{◌≡◌, ℕ, ◌<◌, ◌≤◌, List, [], ◌∷◌, ◌++◌, length, filter, slice_get, take, All, Option, Some, None, Result, Ok, Err}
 use Rattle.std.specs.List.{list_any}
 use Rattle.cell_refs.specs.declared.cell.Cell.{Cell}
 use Rattle.cell_refs.specs.declared.limits.TheConstants.{COLUMNS, ROWS}

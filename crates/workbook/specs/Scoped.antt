@@ -1,5 +1,5 @@
 -- What stands for names in formulas, as it is held.
-use Rattle.std.specs.Prelude.{◌≡◌, ◌≤◌, ℕ, List, length, Option, Some, None}
+use Rattle.std.specs.Prelude.{◌≤◌, ℕ, List, length, Option, Some, None}
 use Rattle.cell_refs.specs.Areas.{IsOnSheet}
 use Rattle.workbook.specs.Kinds.{Meant, Amount, Cells, first_of}
 use Rattle.workbook.specs.State.{Name, text_of}

@@ -1,10 +1,8 @@
 -- A workbook: its sheets, the texts of its cells and its names.
-use Rattle.std.specs.Prelude.{ℕ, ◌&&◌, ◌==◌, Bool, true, false, List, [], ◌∷◌, map, filter, length, Option, Some, None, option_map, slice_index, if◌then◌else◌, refl}
+use Rattle.std.specs.Prelude.{ℕ, ◌&&◌, ◌==◌, Bool, true, false, List, [], ◌∷◌, filter, length, Option, Some, None, option_map, slice_index, if◌then◌else◌}
 use Rattle.std.specs.List.{find}
-use Rattle.std.specs.FinMap.{FinMap, get, entries, insert, remove, code}
-use Rattle.std.specs.Coded.{Coded, code_by, coded×, coded_list, coded_ℕ}
+use Rattle.std.specs.FinMap.{entries, insert, remove}
 use Rattle.cell_refs.specs.declared.cell.Cell.{Cell}
-use Rattle.cell_refs.specs.Cells.{coded_cell}
 use Rattle.cell_refs.specs.Names.{same_letters}
 use Rattle.recalculation.specs.Entries.{Contents}
 

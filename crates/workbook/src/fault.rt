@@ -1,5 +1,6 @@
 // Why a workbook is not opened, and why an edit is refused.
 
+use cell_refs::Cell;
 use sheet_csv::SheetFault;
 use thiserror::Error;
 
@@ -39,6 +40,16 @@ pub enum EditFault {
     BadName,
     #[error("there would be too many names")]
     TooManyNames,
+    #[error("memory ran out")]
+    Memory,
+}
+
+/// Why texts are not put into their cells.
+#[derive(Clone, Copy, Debug, PartialEq, Eq, Error)]
+pub enum AllFault {
+    /// The first cell whose text, after those before it, has no room.
+    #[error("a text has no room")]
+    NoRoom(Cell),
     #[error("memory ran out")]
     Memory,
 }

@@ -1,5 +1,5 @@
 // What is held of a cell.
-ghost use Rattle.std.specs.Prelude.{◌≡◌, ◌+◌, if◌then◌else◌, IsSome, None, OnErr, OnOk, Some, is_some, length, option_map};
+ghost use Rattle.std.specs.Prelude.{◌≡◌, ◌+◌, if◌then◌else◌, IfOk, IsSome, None, OnErr, OnOk, Some, is_some, length, option_map};
 ghost use Rattle.std.specs.BTreeMap.{is_at};
 ghost use Rattle.cell_refs.specs.declared.cell.Cell.{Cell};
 ghost use Rattle.cell_refs.specs.Cells.{cell_cmp};
@@ -67,16 +67,21 @@ pub(crate) fn take_away(cells: &mut BTreeMap<Cell, Held>, cell: Cell)
     drop(cells.remove(&cell));
 }
 
-/// Puts into a cell what is held of it, in place of what was.
-pub(crate) fn put_in(cells: &mut BTreeMap<Cell, Held>, cell: Cell, held: Held) -> Result<(), Memory>
+/// Puts into a cell what is held of it, and answers what was.
+pub(crate) fn put_in(
+    cells: &mut BTreeMap<Cell, Held>,
+    cell: Cell,
+    held: Held,
+) -> Result<Option<Held>, Memory>
     ensures put { OnOk result ((q : Cell) → held_at cells.new.entries q
         ≡ (if is_at (cell_cmp cell) q then Some held else held_at cells.old.entries q)) }
     ensures len { OnOk result (length cells.new.entries
         ≡ length cells.old.entries + (if is_some (held_at cells.old.entries cell) then 0 else 1)) }
+    ensures was { IfOk result (λ was. was ≡ held_at cells.old.entries cell) }
     ensures err { OnErr result (cells.new.entries ≡ cells.old.entries) }
 {
     match cells.insert(cell, held) {
-        Ok(_) => Ok(()),
+        Ok(was) => Ok(was),
         Err(_) => Err(Memory),
     }
 }

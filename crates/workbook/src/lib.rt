@@ -14,11 +14,12 @@ mod naming;
 mod open;
 mod place;
 mod say;
+mod several;
 mod words;
 mod workbook;
 
 pub use adj::{Adj, DECISIONS};
-pub use fault::{EditFault, OpenFault};
+pub use fault::{AllFault, EditFault, OpenFault};
 pub use file::File;
 pub use kind::Kind;
 pub use open::files_open_in_one_way;

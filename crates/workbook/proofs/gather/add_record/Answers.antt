@@ -1,6 +1,6 @@
-use Rattle.std.proofs.Common.{◌≡◌, ◌+◌, ◌++◌, ◌∙◌, ap, drop, subst, sym}
+use Rattle.std.proofs.Common.{◌+◌, ◌++◌, ◌∙◌, ap, drop, sym}
 use Rattle.workbook.specs.Files.{texts_in_record}
-use Rattle.workbook.proofs.Gathering.{Texts, field_passed, field_put}
+use Rattle.workbook.proofs.Gathering.{field_passed, field_put}
 use Rattle.workbook.proofs.gather.add_record.Goals.{then-not-is_empty+in_ok-from_str+in_ok-push, else-not-is_empty}
 use Rattle.workbook.proofs.gather.add_record.Goals as goal
 

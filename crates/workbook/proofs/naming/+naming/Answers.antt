@@ -1,7 +1,6 @@
 -- The parts, one by one.
 use Rattle.std.proofs.Common.{◌∙◌, ap, arith, rules, sym}
 use Rattle.std.proofs.lemmas.List.{take_all}
-use Rattle.formula_ast.specs.Sound.{count}
 use Rattle.formula_ast.specs.Tree.{span_of, trees}
 use Rattle.formula_ast.proofs.Parts.{node_count-le}
 use Rattle.workbook.specs.Kinds.{all_with_names, meant}

@@ -1,4 +1,4 @@
-use Rattle.std.proofs.Common.{refl, ap, Some, None}
+use Rattle.std.proofs.Common.{refl, Some, None}
 use Rattle.workbook.proofs.Texts.{says_number, says_other, says_wide}
 use Rattle.workbook.proofs.say.constant.Goals as goal
 

@@ -1,4 +1,3 @@
-use Rattle.std.proofs.Common.{◌∙◌}
 use Rattle.std.specs.Prelude.{codes}
 use Rattle.formula_parser.proofs.Letters.{tested}
 use Rattle.workbook.proofs.Texts.{first_word, no_word, second_word}

@@ -3,7 +3,6 @@ use Rattle.std.specs.Prelude.{option_map}
 use Rattle.std.specs.List.{find}
 use Rattle.cell_refs.specs.declared.cell.SheetId.{SheetId}
 use Rattle.workbook.specs.State.{is_called}
-use Rattle.workbook.proofs.NameLaws.{names_of}
 use Rattle.workbook.proofs.names.Names.find.Given as goal
 
 -- the name is none of those so far
