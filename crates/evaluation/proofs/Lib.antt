@@ -1,4 +1,3 @@
-pub mod AreaCells
 pub mod Composing
 pub mod LookLists
 pub mod Chosen
@@ -6,6 +5,5 @@ pub mod Elements
 pub mod Picking
 pub mod Picked
 pub mod LookMet
-pub mod LookRows
 pub mod Nodes
 pub mod Unread

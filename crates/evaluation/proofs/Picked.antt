@@ -20,9 +20,9 @@ use Rattle.recalculation.specs.Looking.{known_or_empty, are_known}
 use Rattle.recalculation.proofs.GridCells.{IsWhole, cell_value_in, gathered, map_append, range_below}
 use Rattle.recalculation.proofs.Lists.{each_weaker}
 use Rattle.evaluation.specs.Composed.{picked_outcome}
-use Rattle.evaluation.specs.Parts.{IsFullGrid}
+use Rattle.cell_grids.specs.Full.{IsFullGrid}
 use Rattle.evaluation.proofs.Elements.{elements_are}
-use Rattle.evaluation.proofs.LookRows.{full_whole}
+use Rattle.cell_grids.proofs.LookRows.{full_whole}
 
 module _ (f : Cell → Value) (g : CellGrid) (whole : IsWhole g) (left right : ℕ) (order : left ≤ right) (last : right < g.columns) where
   -- those of a row
@@ -49,10 +49,10 @@ part_values f g whole top left bottom right within =
     rows_values f g whole left right within.columns_in_order within.last_column (from_to top bottom) (range_below g.rows top (bottom + 1 - top) (omega (arith, rows, last)))
 
 -- so where all are known they are what is picked
-pub picked_is : (known : Cell → Option Value) (g now : CellGrid) → g ≡ now → IsFullGrid g → (top left bottom right : ℕ) → IsWithin now.rows now.columns (Picks top left bottom right) → (o : Option (List Value))
+pub picked_is : (known : Cell → Option Value) (now : CellGrid) → IsFullGrid now → (top left bottom right : ℕ) → IsWithin now.rows now.columns (Picks top left bottom right) → (o : Option (List Value))
     → o ≡ elements known (picked_cells now (Picks top left bottom right))
     → option_map (λ items. single (Elements (record { rows = bottom + 1 - top; columns = right + 1 - left; items = items }))) o ≡ picked_outcome known now (Picks top left bottom right)
-picked_is known g now same full top left bottom right within o is =
+picked_is known now full top left bottom right within o is =
     ap (option_map one) (is ∙ elements_are known cells) ∙ by (are_known known cells)
   where
     one : List Value → Arg
@@ -63,13 +63,13 @@ picked_is known g now same full top left bottom right within o is =
 
     by : (b : Bool) → option_map one (if b then Some (map (known_or_empty known) cells) else None)
         ≡ (if b then Some (taken_from (values_in (known_or_empty known) now) (Picks top left bottom right)) else None)
-    by true = ap (λ items. Some (one items)) (part_values (known_or_empty known) now (full_whole now (subst IsFullGrid same full)) top left bottom right within)
+    by true = ap (λ items. Some (one items)) (part_values (known_or_empty known) now (full_whole now full) top left bottom right within)
     by false = refl
 
 -- how many cells are picked
-pub picked_count : (g now : CellGrid) → g ≡ now → IsFullGrid g → (top left bottom right : ℕ) → IsWithin now.rows now.columns (Picks top left bottom right)
+pub picked_count : (now : CellGrid) → IsFullGrid now → (top left bottom right : ℕ) → IsWithin now.rows now.columns (Picks top left bottom right)
     → length (picked_cells now (Picks top left bottom right)) ≡ (bottom + 1 - top) * (right + 1 - left)
-picked_count g now same full top left bottom right within =
+picked_count now full top left bottom right within =
     let value = λ (b : Cell). Empty in
     sym (length-map (picked_cells now (Picks top left bottom right)) value)
-    ∙ ap length (part_values value now (full_whole now (subst IsFullGrid same full)) top left bottom right within) ∙ part_size (values_in value now) top left bottom right
+    ∙ ap length (part_values value now (full_whole now full) top left bottom right within) ∙ part_size (values_in value now) top left bottom right

@@ -74,7 +74,7 @@ fn rows_part(alloc: Global, args: &[Part]) -> Result<Part, Memory>
         return whole_part(alloc, Func::Rows, args);
     };
     match &part.reference {
-        Some(grid) => Ok(Part::plain(alloc, number(grid.rows))),
+        Some(grid) => Ok(Part::plain(alloc, number(grid.rows()))),
         None => whole_part(alloc, Func::Rows, args),
     }
 }
@@ -88,7 +88,7 @@ fn columns_part(alloc: Global, args: &[Part]) -> Result<Part, Memory>
         return whole_part(alloc, Func::Columns, args);
     };
     match &part.reference {
-        Some(grid) => Ok(Part::plain(alloc, number(grid.cols))),
+        Some(grid) => Ok(Part::plain(alloc, number(grid.cols()))),
         None => whole_part(alloc, Func::Columns, args),
     }
 }

@@ -10,10 +10,8 @@ mod literals;
 mod looks;
 mod operators;
 mod part;
-mod reference;
 mod values;
 
 pub use cells::Cells;
 pub use formula::evaluate;
 pub use part::Part;
-pub use reference::Reference;

@@ -8,8 +8,8 @@ ghost use Rattle.sheet_model.specs.declared.grid.Arg.TheVariants.{Area as Elemen
 
 use crate::cells::Cells;
 use crate::part::Part;
-use crate::reference::Reference;
 use crate::values::known_grid;
+use cell_grids::Reference;
 use cell_refs::Area;
 use formula_ast::{Expr, Node};
 use sheet_model::{Arg, Grid, Memory, Text, Value};
@@ -44,7 +44,7 @@ pub(crate) fn reference_part<C: Cells>(
     let reference = Reference::of_areas(alloc, areas)?;
     let outcome = known_grid(alloc, cells, &reference)?;
     Ok(Part {
-        looks: Vec::from_slice(alloc, &reference.cells)?,
+        looks: Vec::from_slice(alloc, reference.cells())?,
         outcome,
         reference: Some(reference),
     })
@@ -57,7 +57,7 @@ pub(crate) fn table_part(alloc: Global, areas: &[Area]) -> Result<Part, Memory>
 {
     let reference = Reference::of_areas(alloc, areas)?;
     Ok(Part {
-        looks: Vec::from_slice(alloc, &reference.cells)?,
+        looks: Vec::from_slice(alloc, reference.cells())?,
         outcome: None,
         reference: Some(reference),
     })

@@ -3,7 +3,7 @@ ghost use Rattle.std.specs.Prelude.{◌≡◌, IfOk, None, Some, option_map};
 ghost use Rattle.recalculation.specs.Evaluation.{cell_value, filled};
 ghost use Rattle.evaluation.specs.Composed.{plain};
 
-use crate::reference::Reference;
+use cell_grids::Reference;
 use cell_refs::Cell;
 use frac128::Frac;
 use sheet_model::{Arg, Memory, Value};

@@ -1,5 +1,6 @@
 // What is known of the values of cells.
 ghost use Rattle.std.specs.Prelude.{◌≡◌, ◌<◌, ◌*◌, IfOk, IfSome, length, map, option_map};
+ghost use Rattle.cell_grids.specs.Full.{IsFullGrid};
 ghost use Rattle.recalculation.specs.Looking.{are_known, known_or_empty};
 ghost use Rattle.recalculation.specs.Looks.{elements};
 ghost use Rattle.recalculation.specs.Evaluation.{values_in};
@@ -8,7 +9,7 @@ ghost use Rattle.sheet_model.specs.Operators.{single};
 ghost use Rattle.sheet_model.specs.declared.grid.Arg.TheVariants.{Area as Elements};
 
 use crate::cells::Cells;
-use crate::reference::Reference;
+use cell_grids::Reference;
 use cell_refs::Cell;
 use sheet_model::{Arg, Grid, Memory, Value};
 use std::alloc::Global;
@@ -68,7 +69,7 @@ pub(crate) fn known_grid<C: Cells>(
 ) -> Result<Option<Arg>, Memory>
     ensures { IfOk result (λ found. found ≡ (referred (C.known cells.now) reference.now).outcome) }
 {
-    let Some(values) = values_of(alloc, cells, &reference.cells)? else {
+    let Some(values) = values_of(alloc, cells, reference.cells())? else {
         return Ok(None);
     };
     Ok(Some(in_grid(reference, values)))
@@ -82,16 +83,17 @@ pub(crate) fn filled_grid<C: Cells>(
 ) -> Result<Arg, Memory>
     ensures { IfOk result (λ grid. grid ≡ Elements (values_in (known_or_empty (C.known cells.now)) reference.now)) }
 {
-    let values = filled_values(alloc, cells, &reference.cells)?;
+    let values = filled_values(alloc, cells, reference.cells())?;
     Ok(in_grid(reference, values))
 }
 
 // Values in the rows and columns of a reference.
 fn in_grid(reference: &Reference, values: Vec<Value>) -> Arg
-    requires { length values.items ≡ length reference.now.cells }
+    requires full { IsFullGrid reference.now }
+    requires count { length values.items ≡ length reference.now.cells }
     ensures { result ≡ Elements (record { rows = reference.now.rows; columns = reference.now.columns; items = values.items }) }
 {
-    match Grid::new(reference.rows, reference.cols, values) {
+    match Grid::new(reference.rows(), reference.cols(), values) {
         Some(grid) => Arg::Area(grid),
         None => unreachable!(),
     }

@@ -1,10 +1,13 @@
 -- The answer of a walk is that of recalculation.
-use Rattle.std.proofs.Common.{◌≡◌, ℕ, Bool, true, false, List, Option, Some, None, refl, sym, ap, subst, ◌∙◌}
-use Rattle.std.specs.Prelude.{◌&&◌, not, is_some, slice_get}
+use Rattle.std.proofs.Common.{◌≡◌, ℕ, Bool, true, false, cond, List, [], ◌∷◌, Option, Some, None, refl, sym, ap, subst, ◌∙◌}
+use Rattle.std.specs.Prelude.{◌&&◌, IfOk, MatchOption, Ok, Err, Result, not, is_some, slice_get}
+use Rattle.std.specs.BTreeMap.{is_at}
 use Rattle.std.specs.FinMap.{contains_key}
+use Rattle.std.proofs.lemmas.Bool.{or_parts}
 use Rattle.std.specs.FinSet as set
 use Rattle.cell_refs.specs.declared.cell.Cell.{Cell}
 use Rattle.cell_refs.specs.Cells.{cell_cmp}
+use Rattle.memory.specs.declared.Memory.{Memory}
 use Rattle.sheet_model.specs.declared.value.Value.{Value}
 use Rattle.recalculation.specs.Entries.{Book, Entry, Constant, Formula, Malformed, entry, no_overriding, nothing}
 use Rattle.recalculation.specs.Narrow.{IsLeastWide, Looked, LooksAt, LooksFrom, NoneIsWide, entry_is_wide, further, is_wide, itself, known}
@@ -14,7 +17,7 @@ use Rattle.recalculation.proofs.Knowns.{known_right}
 use Rattle.recalculation.proofs.Wide.{looked_referred, wide_looked_at}
 use Rattle.dep_table.specs.Order.{HasCircular, HasFree, Reaches, further as refers_further, itself as reaches_from}
 use Rattle.recalc.specs.declared.rows.Row.{Row}
-use Rattle.recalc.specs.Rows.{AreRows, HasRow, row_at}
+use Rattle.recalc.specs.Rows.{AreRows, HasRow, row_at, some_wide}
 use Rattle.recalc.specs.Walks.{HasNone, IsAnswer, IsLeast, Reached, further as reaches_further, itself as reaches_itself, wide_in}
 
 -- only formulas look at cells, and only they are wide
@@ -40,18 +43,27 @@ referred_on : (book : Book) (from b : Cell) → Looked book no_overriding from b
 referred_on book from _ itself = reaches_from
 referred_on book from _ (further b c before look) = refers_further b c (referred_on book from b before) (looked_referred book no_overriding b c look)
 
-module _ (book : Book) (rows : List (Cell × Row)) (are : AreRows book rows) (from : Cell)
+-- a row among rows of which none is wide
+no_wide_row : (rows : List (Cell × Row)) (b : Cell) → some_wide rows ≡ false → wide_in (row_at rows b) ≡ false
+no_wide_row [] b h = refl
+no_wide_row (e ∷ rows) b h = by (is_at (cell_cmp b) e.0) (or_parts e.1.is_wide (some_wide rows) h) (no_wide_row rows b)
+  where
+    by : (t : Bool) → (e.1.is_wide ≡ false) × (some_wide rows ≡ false) → (some_wide rows ≡ false → wide_in (row_at rows b) ≡ false) → wide_in (cond t (Some e.1) (row_at rows b)) ≡ false
+    by true p later = p.0
+    by false p later = later p.1
+
+module _ (book : Book) (keeps_looks : Bool) (rows : List (Cell × Row)) (are : AreRows book keeps_looks rows) (from : Cell)
     (has : (b : Cell) → Reaches book nothing from b → is_formula (entry book b) ≡ true → HasRow rows b) where
   -- a cell with a row
-  with_row : (b c : Cell) (o : Option Row) → row_at rows b ≡ o → is_some o ≡ true → Reached rows from b → LooksAt book no_overriding b c → Reached rows from c
-  with_row b c None e h before look = absurd cc
-  with_row b c (Some row) e h before look = reaches_further b c row before e ((are.right b row e).looks c look)
+  with_row : keeps_looks ≡ true → (b c : Cell) (o : Option Row) → row_at rows b ≡ o → is_some o ≡ true → Reached rows from b → LooksAt book no_overriding b c → Reached rows from c
+  with_row on b c None e h before look = absurd cc
+  with_row on b c (Some row) e h before look = reaches_further b c row before e ((are.right b row e).looks on c look)
 
   -- what is looked at is reached, and the other way round
-  reached : (b : Cell) → Looked book no_overriding from b → Reached rows from b
-  reached _ itself = reaches_itself
-  reached _ (further b c before look) =
-      with_row b c (row_at rows b) refl (has b (referred_on book from b before) (looks_formula (is_circular book nothing b) (known book no_overriding) (entry book b) c look.2)) (reached b before) look
+  reached : keeps_looks ≡ true → (b : Cell) → Looked book no_overriding from b → Reached rows from b
+  reached on _ itself = reaches_itself
+  reached on _ (further b c before look) =
+      with_row on b c (row_at rows b) refl (has b (referred_on book from b before) (looks_formula (is_circular book nothing b) (known book no_overriding) (entry book b) c look.2)) (reached on b before) look
 
   looked : (b : Cell) → contains_key book.texts b ≡ true → Reached rows from b → Looked book no_overriding from b
   looked _ text reaches_itself = itself
@@ -73,15 +85,30 @@ module _ (book : Book) (rows : List (Cell × Row)) (are : AreRows book rows) (fr
       by (Some row) e = (are.right b row e).wide
       by None e = sym (wide_formula (is_circular book nothing b) (known book no_overriding) (entry book b) (λ h. sym (ap is_some e) ∙ has b (referred_on book from b look) h))
 
-  pub none_is_wide : HasNone rows from → NoneIsWide book no_overriding from
-  none_is_wide h b look = sym (wide_same b look) ∙ h b (reached b look)
+  pub none_is_wide : keeps_looks ≡ true → HasNone rows from → NoneIsWide book no_overriding from
+  none_is_wide on h b look = sym (wide_same b look) ∙ h b (reached on b look)
 
-  pub least_is_wide : (c : Cell) → IsLeast rows from c → IsLeastWide book no_overriding from c
-  least_is_wide c least = record {
+  -- where no row is wide
+  pub none_at_all : some_wide rows ≡ false → NoneIsWide book no_overriding from
+  none_at_all none b look = sym (wide_same b look) ∙ no_wide_row rows b none
+
+  pub least_is_wide : keeps_looks ≡ true → (c : Cell) → IsLeast rows from c → IsLeastWide book no_overriding from c
+  least_is_wide on c least = record {
     looked = looked c (wide_text c least.wide) least.reached;
     wide = sym (wide_same c (looked c (wide_text c least.wide) least.reached)) ∙ least.wide;
-    least = λ b look wide. least.least b (reached b look) (wide_same b look ∙ wide);
+    least = λ b look wide. least.least b (reached on b look) (wide_same b look ∙ wide);
   }
+
+-- the answer of a walk through rows with the cells at which they look
+pub answered : (book : Book) (rows : List (Cell × Row)) (are : AreRows book true rows) (from : Cell) (has : (b : Cell) → Reaches book nothing from b → is_formula (entry book b) ≡ true → HasRow rows b)
+    (least : Option Cell) → IsAnswer rows from least → MatchOption least (NoneIsWide book no_overriding from) (IsLeastWide book no_overriding from)
+answered book rows are from has None h = none_is_wide book true rows are from has refl h
+answered book rows are from has (Some c) h = least_is_wide book true rows are from has refl c h
+
+pub answers : (book : Book) (rows : List (Cell × Row)) (are : AreRows book true rows) (from : Cell) (has : (b : Cell) → Reaches book nothing from b → is_formula (entry book b) ≡ true → HasRow rows b)
+    (answer : Result (Option Cell) Memory) → IfOk answer (IsAnswer rows from) → IfOk answer (λ least. MatchOption least (NoneIsWide book no_overriding from) (IsLeastWide book no_overriding from))
+answers book rows are from has (Ok least) h = answered book rows are from has least h
+answers book rows are from has (Err e) h = tt
 
 -- a narrow value is the value
 pub shown_value : (book : Book) (a : Cell) (v : Value) → known book no_overriding a ≡ Some v → val book no_overriding a ≡ v
@@ -117,9 +144,9 @@ pub free_there : (book : Book) (l : Cell → Bool) (from : Cell) (items order : 
 free_there book l from items order e same h =
     subst (HasFree book nothing (Reaches book nothing from)) (sym same) (subst (λ k. HasFree book k (Reaches book k from) items) e h)
 
--- the answer of a walk, by what it is
-pub answer_some : (rows : List (Cell × Row)) (from : Cell) (least : Option Cell) (c : Cell) → least ≡ Some c → IsAnswer rows from least → IsLeast rows from c
-answer_some rows from least c e h = subst (IsAnswer rows from) e h
+-- the cell that is found, by what it is
+pub found_wide : (book : Book) (from : Cell) (wide : Option Cell) (c : Cell) → wide ≡ Some c → MatchOption wide (NoneIsWide book no_overriding from) (IsLeastWide book no_overriding from) → IsLeastWide book no_overriding from c
+found_wide book from wide c e h = subst (λ o. MatchOption o (NoneIsWide book no_overriding from) (IsLeastWide book no_overriding from)) e h
 
-pub answer_none : (rows : List (Cell × Row)) (from : Cell) (least : Option Cell) → least ≡ None → IsAnswer rows from least → HasNone rows from
-answer_none rows from least e h = subst (IsAnswer rows from) e h
+pub found_none : (book : Book) (from : Cell) (wide : Option Cell) → wide ≡ None → MatchOption wide (NoneIsWide book no_overriding from) (IsLeastWide book no_overriding from) → NoneIsWide book no_overriding from
+found_none book from wide e h = subst (λ o. MatchOption o (NoneIsWide book no_overriding from) (IsLeastWide book no_overriding from)) e h

@@ -67,8 +67,8 @@ pub same_cell : (a b : Cell) → Some a ≡ Some b → a ≡ b
 same_cell a b e = ap (λ (o : Option Cell). elim o as (λ _. Cell) [ Some c ↦ c | None ↦ a ]) e
 
 -- without entries all rows are right
-pub no_rows : (book : Book) (rows : List (Cell × Row)) → rows ≡ [] → AreRows book rows
-no_rows book rows none = record { right = λ a row e. absurd (let h : None ≡ Some row = sym (ap (λ r. row_at r a) none) ∙ e in cc) }
+pub no_rows : (book : Book) (keeps_looks : Bool) (rows : List (Cell × Row)) → rows ≡ [] → AreRows book keeps_looks rows
+no_rows book keeps_looks rows none = record { right = λ a row e. absurd (let h : None ≡ Some row = sym (ap (λ r. row_at r a) none) ∙ e in cc) }
 
 -- ---- areas
 next : (i : ℕ) → suc i + 1 ≡ suc (i + 1)

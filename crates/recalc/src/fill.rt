@@ -9,7 +9,7 @@ ghost use Rattle.recalculation.specs.Walks.{is_circular, is_formula, refers};
 ghost use Rattle.recalc.specs.Rows.{AreRows, HasRow, IsComputed, row_at, seen_in};
 ghost use Rattle.workbook.specs.Kinds.{book_of};
 
-use crate::rows::{Row, put};
+use crate::rows::{Row, kept_looks, put};
 use crate::seen::Seen;
 use cell_refs::{Cell, ErrorKind};
 use dep_table::CellSet;
@@ -20,21 +20,22 @@ use std::alloc::Global;
 use std::collections::BTreeMap;
 use workbook::Workbook;
 
-/// Fills in the rows of formulas that aren't circular, in an order of them.
+/// Fills in the rows of formulas that aren't circular, in an order of them, with the cells at which they look if these are kept.
 pub(crate) fn fill(
     alloc: Global,
     book: &Workbook,
     order: &[Cell],
+    keeps_looks: bool,
     rows: &mut BTreeMap<Cell, Row>,
 ) -> Result<(), Memory>
     requires order { IsOrder (book_of book.now) nothing order.now }
-    requires right { AreRows (book_of book.now) rows.old.entries }
-    ensures right { OnOk result (AreRows (book_of book.now) rows.new.entries) }
+    requires right { AreRows (book_of book.now) keeps_looks rows.old.entries }
+    ensures right { OnOk result (AreRows (book_of book.now) keeps_looks rows.new.entries) }
     ensures kept { OnOk result ((a : Cell) → HasRow rows.old.entries a → HasRow rows.new.entries a) }
     ensures filled { OnOk result ((p : ℕ) (a : Cell) → slice_get order.now p ≡ Some a → HasRow rows.new.entries a) }
 {
     for &cell in order {
-        put_row(alloc, book, cell, rows)?;
+        put_row(alloc, book, cell, keeps_looks, rows)?;
     }
     Ok(())
 }
@@ -44,31 +45,32 @@ fn put_row(
     alloc: Global,
     book: &Workbook,
     cell: Cell,
+    keeps_looks: bool,
     rows: &mut BTreeMap<Cell, Row>,
 ) -> Result<(), Memory>
     requires free { is_circular (book_of book.now) nothing cell ≡ false }
     requires ready { (b : Cell) → refers (entry (book_of book.now) cell) b ≡ true → is_formula (entry (book_of book.now) b) ≡ true → HasRow rows.old.entries b }
-    requires right { AreRows (book_of book.now) rows.old.entries }
-    ensures right { OnOk result (AreRows (book_of book.now) rows.new.entries) }
+    requires right { AreRows (book_of book.now) keeps_looks rows.old.entries }
+    ensures right { OnOk result (AreRows (book_of book.now) keeps_looks rows.new.entries) }
     ensures kept { OnOk result ((a : Cell) → HasRow rows.old.entries a → HasRow rows.new.entries a) }
     ensures filled { OnOk result (is_formula (entry (book_of book.now) cell) ≡ true → HasRow rows.new.entries cell) }
 {
     let Some(tree) = book.tree(cell) else {
         return Ok(());
     };
-    let row = row_of(alloc, &Seen { book, rows }, tree)?;
+    let row = row_of(alloc, &Seen { book, rows }, tree, keeps_looks)?;
     put(rows, cell, row)?;
     Ok(())
 }
 
 // The row of a formula over those of others.
-fn row_of(alloc: Global, seen: &Seen, tree: &Expr) -> Result<Row, Memory>
-    ensures { IfOk result (λ row. IsComputed (seen_in (book_of seen.now.book.now) seen.now.rows.now.entries) tree.now row) }
+fn row_of(alloc: Global, seen: &Seen, tree: &Expr, keeps_looks: bool) -> Result<Row, Memory>
+    ensures { IfOk result (λ row. IsComputed (seen_in (book_of seen.now.book.now) seen.now.rows.now.entries) tree.now keeps_looks row) }
 {
     let part = evaluate(alloc, seen, tree)?;
-    let looks = Vec::from_slice(alloc, part.looks())?;
+    let looks = kept_looks(alloc, part.looks(), keeps_looks)?;
+    let is_wide = part.outcome().is_none() && seen.all_known(part.looks());
     let value = part.into_value(alloc)?;
-    let is_wide = value.is_none() && seen.all_known(&looks);
     Ok(Row {
         value,
         is_wide,

@@ -10,7 +10,7 @@ ghost use Rattle.sheet_model.specs.declared.value.Value.TheVariants.{Error};
 
 use crate::looks::arguments::{all_looks, copied, push_all};
 use crate::part::Part;
-use crate::reference::Reference;
+use cell_grids::Reference;
 use cell_refs::Cell;
 use sheet_funcs::{meets, value_or_error};
 use sheet_model::{Arg, Memory, Value};
@@ -63,10 +63,10 @@ fn push_met(
         return Ok(());
     };
     let (rows, cols) = size_of(tested);
-    if rows != grid.rows || cols != grid.cols {
+    if rows != grid.rows() || cols != grid.cols() {
         return Ok(());
     }
-    push_met_among(criterion, elements_of(tested), &grid.cells, to)
+    push_met_among(criterion, elements_of(tested), grid.cells(), to)
 }
 
 // Puts behind other cells those in the places where a value meets the criterion.

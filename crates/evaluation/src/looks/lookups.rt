@@ -1,21 +1,21 @@
 // What VLOOKUP and HLOOKUP look at, and their values.
-ghost use Rattle.std.specs.Prelude.{◌≡◌, ◌<◌, ◌++◌, ◌∷◌, IfOk, None, OnOk, if◌then◌else◌, length};
+ghost use Rattle.std.specs.Prelude.{◌≡◌, ◌<◌, ◌++◌, ◌∷◌, IfOk, None, if◌then◌else◌, length};
 ghost use Rattle.std.specs.Option.{option_and_then};
 ghost use Rattle.evaluation.specs.Composed.{lookup_outcome, narrow_called, picked_outcome, record_outcome};
 ghost use Rattle.formula_ast.specs.Functions.{Takes};
 ghost use Rattle.formula_ast.specs.declared.func.Func.TheVariants as func;
 ghost use Rattle.recalculation.specs.Looking.{by_value};
-ghost use Rattle.recalculation.specs.Looks.{all_looks, column_cells, exchanged, lookup_looks, outcomes, picked_cells, record_looks, then_cells};
+ghost use Rattle.recalculation.specs.Looks.{all_looks, exchanged, lookup_looks, outcomes, picked_cells, record_looks, then_cells};
 ghost use Rattle.sheet_funcs.specs.Lookups.{record_pick};
 ghost use Rattle.sheet_funcs.specs.Within.{IsWithin};
 
 use crate::calls::{narrow_called, whole_part};
 use crate::cells::Cells;
 use crate::looks::arguments::{copied, outcomes, push_all, push_looks};
-use crate::looks::picks::{cell_at, picked_part};
+use crate::looks::picks::picked_part;
 use crate::part::Part;
-use crate::reference::Reference;
 use crate::values::values_of;
+use cell_grids::Reference;
 use cell_refs::{Cell, ErrorKind};
 use formula_ast::Func;
 use sheet_funcs::{Pick, record_at};
@@ -46,7 +46,7 @@ pub(crate) fn lookup_part<C: Cells>(
         });
     };
     if across {
-        return record_part(alloc, cells, &exchanged(alloc, grid)?, key, rest);
+        return record_part(alloc, cells, &grid.exchanged(alloc)?, key, rest);
     }
     record_part(alloc, cells, grid, key, rest)
 }
@@ -80,7 +80,7 @@ fn record_part<C: Cells>(
 {
     let mut looks = copied(alloc, &key.looks)?;
     push_looks(rest, &mut looks)?;
-    let keys = first_column(alloc, grid)?;
+    let keys = grid.first_column(alloc)?;
     push_all(&keys, &mut looks)?;
     let Some(values) = values_of(alloc, cells, &keys)? else {
         return Ok(Part::without(looks));
@@ -116,54 +116,9 @@ fn found(grid: &Reference, keys: &[Value], key: &Arg, others: &[Arg]) -> Pick
     ensures pick { result ≡ record_pick grid.now.columns keys.now (key.now ∷ others.now) }
     ensures within { IsWithin grid.now.rows grid.now.columns result }
 {
-    prove!(grid.rows <= u32::MAX);
+    prove!(grid.rows() <= u32::MAX);
     let [place, rest @ ..] = others else {
         return Pick::Fault(ErrorKind::Value);
     };
-    record_at(keys, grid.cols, key, place, rest)
-}
-
-// The cells of the first column.
-fn first_column(alloc: Global, grid: &Reference) -> Result<Vec<Cell>, Memory>
-    ensures cells { IfOk result (λ keys. keys.items ≡ column_cells grid.now 0) }
-    ensures count { IfOk result (λ keys. length keys.items ≡ grid.now.rows) }
-{
-    prove!(grid.cols > 0);
-    let mut keys = Vec::new(alloc);
-    push_column(grid, 0, &mut keys)?;
-    Ok(keys)
-}
-
-// Puts the cells of a column behind others.
-fn push_column(grid: &Reference, column: u32, to: &mut Vec<Cell>) -> Result<(), Memory>
-    requires { column < grid.now.columns }
-    ensures { OnOk result (to.new.items ≡ to.old.items ++ column_cells grid.now column) }
-{
-    for row in 0..grid.rows {
-        to.push(cell_at(grid, row, column))?;
-    }
-    Ok(())
-}
-
-// The reference with rows and columns exchanged.
-fn exchanged(alloc: Global, grid: &Reference) -> Result<Reference, Memory>
-    ensures { IfOk result (λ across. across ≡ exchanged grid.now) }
-{
-    let cells = exchanged_cells(alloc, grid)?;
-    Ok(Reference {
-        rows: grid.cols,
-        cols: grid.rows,
-        cells,
-    })
-}
-
-// Its cells.
-fn exchanged_cells(alloc: Global, grid: &Reference) -> Result<Vec<Cell>, Memory>
-    ensures { IfOk result (λ cells. cells.items ≡ (exchanged grid.now).cells) }
-{
-    let mut cells = Vec::new(alloc);
-    for column in 0..grid.cols {
-        push_column(grid, column, &mut cells)?;
-    }
-    Ok(cells)
+    record_at(keys, grid.cols(), key, place, rest)
 }

@@ -1,11 +1,12 @@
 // What INDEX looks at, and its value.
-ghost use Rattle.std.specs.Prelude.{[], ◌∷◌, ◌≡◌, ◌<◌, ◌≤◌, ◌++◌, IfOk, None, OnOk, flat_map, length};
+ghost use Rattle.std.specs.Prelude.{◌≡◌, ◌<◌, ◌++◌, IfOk, None, length};
+ghost use Rattle.cell_grids.specs.Full.{IsFullGrid};
 ghost use Rattle.evaluation.specs.Composed.{index_outcome, picked_outcome};
 ghost use Rattle.formula_ast.specs.Functions.{Takes};
 ghost use Rattle.formula_ast.specs.declared.func.Func.TheVariants as func;
 ghost use Rattle.recalculation.specs.Looking.{by_value};
-ghost use Rattle.recalculation.specs.Looks.{cell_in, index_looks, picked_cells};
-ghost use Rattle.sheet_funcs.specs.Picks.{from_to, pick_of};
+ghost use Rattle.recalculation.specs.Looks.{index_looks, picked_cells};
+ghost use Rattle.sheet_funcs.specs.Picks.{pick_of};
 ghost use Rattle.sheet_funcs.specs.Within.{IsWithin};
 ghost use Rattle.sheet_funcs.specs.declared.pick.Pick.TheVariants.{Part as Picked};
 
@@ -13,8 +14,8 @@ use crate::calls::whole_part;
 use crate::cells::Cells;
 use crate::looks::arguments::{all_looks, outcomes, push_all};
 use crate::part::Part;
-use crate::reference::Reference;
 use crate::values::{single_grid, values_of};
+use cell_grids::Reference;
 use cell_refs::{Cell, ErrorKind};
 use formula_ast::Func;
 use sheet_funcs::{Pick, index_at};
@@ -47,7 +48,7 @@ fn pick_at(grid: &Reference, at: &[Arg]) -> Pick
     if at.len() != 1 && at.len() != 2 {
         return Pick::Fault(ErrorKind::Value);
     }
-    index_at(grid.rows, grid.cols, at)
+    index_at(grid.rows(), grid.cols(), at)
 }
 
 /// A call that looks at some cells and then at those that it picks.
@@ -62,8 +63,7 @@ pub(crate) fn picked_part<C: Cells>(
     ensures { IfOk result (λ part. part ≡ record { looks = looks.items ++ picked_cells grid.now pick; outcome = picked_outcome (C.known cells.now) grid.now pick; reference = None }) }
 {
     let mut looks = looks;
-    let mut picked = Vec::new(alloc);
-    push_picked(grid, pick, &mut picked)?;
+    let picked = grid.picked(alloc, pick)?;
     let outcome = picked_outcome(alloc, cells, grid, pick, &picked)?;
     push_all(&picked, &mut looks)?;
     Ok(Part {
@@ -81,6 +81,7 @@ fn picked_outcome<C: Cells>(
     pick: Pick,
     picked: &[Cell],
 ) -> Result<Option<Arg>, Memory>
+    requires full { IsFullGrid grid.now }
     requires within { IsWithin grid.now.rows grid.now.columns pick }
     requires cells { picked.now ≡ picked_cells grid.now pick }
     ensures { IfOk result (λ outcome. outcome ≡ picked_outcome (C.known cells.now) grid.now pick) }
@@ -104,55 +105,12 @@ fn part_outcome<C: Cells>(
     right: u32,
     picked: &[Cell],
 ) -> Result<Option<Arg>, Memory>
+    requires full { IsFullGrid grid.now }
     requires within { IsWithin grid.now.rows grid.now.columns (Picked top left bottom right) }
     requires cells { picked.now ≡ picked_cells grid.now (Picked top left bottom right) }
     ensures { IfOk result (λ outcome. outcome ≡ picked_outcome (C.known cells.now) grid.now (Picked top left bottom right)) }
 {
-    prove!(bottom < grid.rows && right < grid.cols);
+    prove!(bottom < grid.rows() && right < grid.cols());
     let values = values_of(alloc, cells, picked)?;
     Ok(single_grid(bottom + 1 - top, right + 1 - left, values))
-}
-
-// Puts behind other cells those of a part of a reference.
-fn push_picked(grid: &Reference, pick: Pick, to: &mut Vec<Cell>) -> Result<(), Memory>
-    requires { IsWithin grid.now.rows grid.now.columns pick }
-    ensures { OnOk result (to.new.items ≡ to.old.items ++ picked_cells grid.now pick) }
-{
-    let Pick::Part(top, left, bottom, right) = pick else {
-        return Ok(());
-    };
-    prove!(bottom < grid.rows);
-    for row in top..bottom + 1 {
-        push_row(grid, row, left, right, to)?;
-    }
-    Ok(())
-}
-
-// Puts behind other cells those of a row, from one column to another.
-fn push_row(
-    grid: &Reference,
-    row: u32,
-    left: u32,
-    right: u32,
-    to: &mut Vec<Cell>,
-) -> Result<(), Memory>
-    requires row { row < grid.now.rows }
-    requires order { left ≤ right }
-    requires right { right < grid.now.columns }
-    ensures { OnOk result (to.new.items ≡ to.old.items ++ flat_map (λ column. cell_in grid.now row column) (from_to left right)) }
-{
-    prove!(right < grid.cols);
-    for column in left..right + 1 {
-        to.push(cell_at(grid, row, column))?;
-    }
-    Ok(())
-}
-
-/// The cell in a row and a column, each from 0.
-pub(crate) fn cell_at(grid: &Reference, row: u32, column: u32) -> Cell
-    requires row { row < grid.now.rows }
-    requires column { column < grid.now.columns }
-    ensures { cell_in grid.now row column ≡ result ∷ [] }
-{
-    grid.cells[row as usize * grid.cols as usize + column as usize]
 }

@@ -12,7 +12,7 @@ abbrev here : Cell
 here = record { sheet = record { 0 = 0 }; row = 0; col = 0 }
 
 pub loop-cell-init : goal.loop-cell-init
-loop-cell-init c = record { right = no_rows _ c.new-rows.result.entries c.new-rows.ensures.empty; filled = λ p a less at. none_before p less }
+loop-cell-init c = record { right = no_rows _ c.args.keeps_looks c.new-rows.result.entries c.new-rows.ensures.empty; filled = λ p a less at. none_before p less }
 
 pub put_circular-requires-clause-circular : goal.put_circular-requires-clause-circular
 put_circular-requires-clause-circular c =

@@ -7,7 +7,7 @@ use Rattle.recalc.proofs.fill.fill.Given as goal
 
 abbrev pub invariant-loop-cell : goal.invariant-loop-cell
 invariant-loop-cell l = record {
-  right : AreRows (book_of l.book) l.rows.entries;
+  right : AreRows (book_of l.book) l.keeps_looks l.rows.entries;
   kept : (a : Cell) → HasRow l.fn.rows.entries a → HasRow l.rows.entries a;
   filled : (p : ℕ) (a : Cell) → p < l.cell-index → slice_get l.order p ≡ Some a → HasRow l.rows.entries a;
 }

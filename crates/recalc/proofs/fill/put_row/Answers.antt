@@ -11,7 +11,7 @@ pub returns-clause-right : goal.returns-clause-right
 returns-clause-right c =
     let book = book_of c.args.book.now in
     let says = tree_entry (entry book c.args.cell) c.in-Some.tree.now c.in-Some.ensures in
-    put_right book c.args.rows.now.entries c.put.new.rows.entries c.args.cell c.in_ok-row.row c.requires.right c.in_ok-put.ensures
-    (computed_right book c.args.cell c.in-Some.tree.now says c.requires.free (seen_in book c.args.rows.now.entries)
-    (λ b h. seen_known book c.args.rows.now.entries c.requires.right b (c.requires.ready b (ap (λ e. refers e b) says ∙ h)))
+    put_right book c.args.keeps_looks c.args.rows.now.entries c.put.new.rows.entries c.args.cell c.in_ok-row.row c.requires.right c.in_ok-put.ensures
+    (computed_right book c.args.keeps_looks c.args.cell c.in-Some.tree.now says c.requires.free (seen_in book c.args.rows.now.entries)
+    (λ b h. seen_known book c.args.keeps_looks c.args.rows.now.entries c.requires.right b (c.requires.ready b (ap (λ e. refers e b) says ∙ h)))
     c.in_ok-row.row c.in_ok-row.ensures)

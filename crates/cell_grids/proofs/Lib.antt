@@ -1,0 +1,2 @@
+pub mod AreaCells
+pub mod LookRows

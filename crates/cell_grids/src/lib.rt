@@ -1,0 +1,9 @@
+//! References: cells in rows and columns, and what is picked of them.
+#![tactic(auto)]
+
+mod areas;
+mod columns;
+mod picked;
+mod reference;
+
+pub use reference::Reference;
