@@ -5,8 +5,7 @@ use Rattle.std.specs.Fmt.{digits}
 use Rattle.cell_refs.specs.declared.cell.Cell.{Cell}
 use Rattle.sheet_model.specs.declared.value.Value.TheVariants as value
 use Rattle.commands.specs.declared.answer.Answer.TheVariants as answer
-use Rattle.commands.specs.declared.locating.Refusal.{Refusal}
-use Rattle.commands.specs.declared.locating.Refusal.TheVariants as refusal
+use Rattle.commands.specs.declared.answer.Answer.{Answer}
 use Rattle.commands.specs.Addresses.{Address, address_in}
 use Rattle.commands.specs.Commands.{Set, Show, Unknown, command_of}
 use Rattle.commands.specs.Lines.{answer_text}
@@ -50,18 +49,18 @@ no_closing_quote = refl
 sheets : List (List ℕ)
 sheets = codes "plan" ∷ codes "My Plan" ∷ []
 
-named : List ℕ → Result Cell Refusal
+named : List ℕ → Result Cell Answer
 named text = cell_named sheets text
 
 of_the_second : named (codes "'my plan'!C4096") ≡ Ok (record { sheet = record { 0 = 1 }; row = 4095; col = 2 })
 unfolding named sheets
 of_the_second = refl
 
-past_the_last_column : named (codes "plan!IW1") ≡ Err refusal.OutOfSheet
+past_the_last_column : named (codes "plan!IW1") ≡ Err answer.OutOfSheet
 unfolding named sheets
 past_the_last_column = refl
 
-the_sheet_first : named (codes "nosuch!A0") ≡ Err refusal.UnknownSheet
+the_sheet_first : named (codes "nosuch!A0") ≡ Err answer.UnknownSheet
 unfolding named sheets
 the_sheet_first = refl
 

@@ -1,4 +1,4 @@
--- Which command a record of a script is.
+-- Which command a record of a script is: by its first field and the number of its fields.
 use Rattle.std.specs.Prelude.{ℕ, List, [], ◌∷◌, if◌then◌else◌, bytes_eq, codes, string_bytes}
 use Rattle.commands.specs.declared.command.Command.{Command}
 use Rattle.commands.specs.declared.command.Command.TheVariants as command
@@ -11,23 +11,31 @@ pub data Spoken : Type 0 where
   Solve : (sheet : List ℕ) → Spoken
   Unknown : Spoken
 
--- a word with one text behind it
-abbrev pub with_one : List ℕ → List ℕ → Spoken
-with_one word text =
-    if bytes_eq word (codes "clear") then Clear text
-    else if bytes_eq word (codes "show") then Show text
-    else if bytes_eq word (codes "solve") then Solve text
-    else Unknown
+-- ---- the table: words with one text behind them, and with two
+abbrev pub Text : Type 0
+Text = List ℕ
 
--- a word with two
-abbrev pub with_two : List ℕ → List ℕ → List ℕ → Spoken
-with_two word address text = if bytes_eq word (codes "set") then Set address text else Unknown
+abbrev pub with_one : List (Text × (Text → Spoken))
+with_one = (codes "clear", Clear) ∷ (codes "show", Show) ∷ (codes "solve", Solve) ∷ []
+
+abbrev pub with_two : List (Text × (Text → Text → Spoken))
+with_two = (codes "set", Set) ∷ []
+
+-- what a table has for a word, and the other where the word isn't in it
+abbrev pub in_table : {A : Type 0} → Text → A → List (Text × A) → A
+in_table word other [] = other
+in_table word other (row ∷ rows) = if bytes_eq word row.0 then row.1 else in_table word other rows
 
 -- the command that a record is
-abbrev pub command_of : List (List ℕ) → Spoken
-command_of (word ∷ text ∷ []) = with_one word text
-command_of (word ∷ address ∷ text ∷ []) = with_two word address text
+abbrev pub command_of : List Text → Spoken
+command_of (word ∷ a ∷ []) = in_table word (λ x. Unknown) with_one a
+command_of (word ∷ a ∷ b ∷ []) = in_table word (λ x y. Unknown) with_two a b
 command_of _ = Unknown
+
+-- it is one of the table
+abbrev pub IsSaid : Spoken → Type 0
+IsSaid Unknown = ⊥
+IsSaid _ = Unit {0}
 
 -- a command by its texts
 abbrev pub spoken : Command → Spoken

@@ -39,9 +39,11 @@ said sheets answer.UnknownCommand = codes "refused unknown-command"
 said sheets answer.BadAddress = codes "refused bad-address"
 said sheets answer.UnknownSheet = codes "refused unknown-sheet"
 said sheets answer.OutOfSheet = codes "refused out-of-sheet"
+said sheets answer.BadName = codes "refused bad-name"
 said sheets answer.FieldTooLong = codes "refused field-too-long"
 said sheets answer.TooManyCells = codes "refused too-many-cells"
 said sheets answer.TooManyFormulas = codes "refused too-many-formulas"
+said sheets answer.TooManyNames = codes "refused too-many-names"
 said sheets answer.Unbuilt = codes "refused unbuilt"
 said sheets (answer.WideCell c) = codes "refused wide " ++ cell_with_sheet sheets c
 

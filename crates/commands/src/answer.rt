@@ -18,9 +18,11 @@ pub enum Answer {
     BadAddress,
     UnknownSheet,
     OutOfSheet,
+    BadName,
     FieldTooLong,
     TooManyCells,
     TooManyFormulas,
+    TooManyNames,
     /// The sheet is not one that can be solved yet.
     Unbuilt,
     /// A number in the calculation of this cell does not fit 128 bits.

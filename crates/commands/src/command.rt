@@ -1,7 +1,8 @@
 // The commands of a script.
-ghost use Rattle.std.specs.Prelude.{◌≡◌, IfOk, map};
-ghost use Rattle.commands.specs.Commands.{command_of, spoken, with_one, with_two};
+ghost use Rattle.std.specs.Prelude.{◌≡◌, IfOk, OnErr};
+ghost use Rattle.commands.specs.Commands.{IsSaid, Unknown, command_of, in_table, spoken, with_one, with_two};
 
+use sheet_csv::Record;
 use sheet_model::Memory;
 use std::alloc::Global;
 
@@ -18,20 +19,22 @@ pub enum Command {
 }
 
 impl Command {
-    /// The command of the record with these fields.
-    pub fn of(alloc: Global, fields: &[&str]) -> Result<Command, Memory>
-        ensures { IfOk result (λ c. spoken c ≡ command_of (map (λ t. t.now) fields.now)) }
+    /// The command of a record. No memory is wanted where it is none.
+    pub fn of(alloc: Global, fields: &Record) -> Result<Command, Memory>
+        ensures command { IfOk result (λ c. spoken c ≡ command_of fields.now) }
+        ensures memory { OnErr result (IsSaid (command_of fields.now)) }
     {
-        match fields {
-            [word, text] => Command::with_one(alloc, word, text),
-            [word, address, text] => Command::with_two(alloc, word, address, text),
+        match fields.len() {
+            2 => Command::with_one(alloc, fields.text(0), fields.text(1)),
+            3 => Command::with_two(alloc, fields.text(0), fields.text(1), fields.text(2)),
             _ => Ok(Command::Unknown),
         }
     }
 
     // The command of a word and one text behind it.
     fn with_one(alloc: Global, word: &str, text: &str) -> Result<Command, Memory>
-        ensures { IfOk result (λ c. spoken c ≡ with_one word.now text.now) }
+        ensures command { IfOk result (λ c. spoken c ≡ in_table word.now (λ x. Unknown) with_one text.now) }
+        ensures memory { OnErr result (IsSaid (in_table word.now (λ x. Unknown) with_one text.now)) }
     {
         if word == "clear" {
             return Ok(Command::Clear(String::from_str(alloc, text)?));
@@ -46,14 +49,15 @@ impl Command {
     }
 
     // The command of a word and two texts behind it.
-    fn with_two(alloc: Global, word: &str, address: &str, text: &str) -> Result<Command, Memory>
-        ensures { IfOk result (λ c. spoken c ≡ with_two word.now address.now text.now) }
+    fn with_two(alloc: Global, word: &str, first: &str, second: &str) -> Result<Command, Memory>
+        ensures command { IfOk result (λ c. spoken c ≡ in_table word.now (λ x y. Unknown) with_two first.now second.now) }
+        ensures memory { OnErr result (IsSaid (in_table word.now (λ x y. Unknown) with_two first.now second.now)) }
     {
-        if word != "set" {
-            return Ok(Command::Unknown);
+        if word == "set" {
+            let first = String::from_str(alloc, first)?;
+            let second = String::from_str(alloc, second)?;
+            return Ok(Command::Set(first, second));
         }
-        let address = String::from_str(alloc, address)?;
-        let text = String::from_str(alloc, text)?;
-        Ok(Command::Set(address, text))
+        Ok(Command::Unknown)
     }
 }

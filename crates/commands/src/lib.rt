@@ -12,5 +12,5 @@ pub use answer::Answer;
 pub use command::Command;
 pub use laws::addresses_are_spelled;
 pub use lines::line;
-pub use locating::{Refusal, locate};
+pub use locating::locate;
 pub use sheet_model::Memory;

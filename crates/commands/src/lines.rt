@@ -37,9 +37,11 @@ fn say(answer: &Answer, sheets: &SheetNames, to: &mut String) -> Result<(), Memo
         Answer::BadAddress => say_text("refused bad-address", to),
         Answer::UnknownSheet => say_text("refused unknown-sheet", to),
         Answer::OutOfSheet => say_text("refused out-of-sheet", to),
+        Answer::BadName => say_text("refused bad-name", to),
         Answer::FieldTooLong => say_text("refused field-too-long", to),
         Answer::TooManyCells => say_text("refused too-many-cells", to),
         Answer::TooManyFormulas => say_text("refused too-many-formulas", to),
+        Answer::TooManyNames => say_text("refused too-many-names", to),
         Answer::Unbuilt => say_text("refused unbuilt", to),
         Answer::WideCell(cell) => say_wide(cell, sheets, to),
     }

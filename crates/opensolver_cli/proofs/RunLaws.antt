@@ -14,7 +14,7 @@ use Rattle.opensolver_cli.specs.Headline.{EndsAs, EndsOver, IsCounted, IsReadFau
 use Rattle.opensolver_cli.specs.Inputs.{FindsAll, IsFaultOf, IsSourceLeft}
 use Rattle.opensolver_cli.specs.Outside.{IsScriptLeft, Outside}
 use Rattle.opensolver_cli.specs.Stops.{status_of, stop_line}
-use Rattle.opensolver_cli.specs.Words.{Named}
+use Rattle.opensolver_cli.specs.Words.{Asked, Job, Named, Pick, Script}
 use Rattle.opensolver_cli.specs.declared.status.Status.{Status}
 use Rattle.opensolver_cli.specs.declared.status.Status.TheVariants as status
 use Rattle.opensolver_cli.specs.declared.stop.End.TheVariants as end
@@ -41,119 +41,119 @@ leaves named before after f big =
     (record { files = f.same; reads = m.0; writes = f.writes }, script_left before after m.1)
 
 -- the bytes are told, or they aren't
-over : (named : Named) (content : Option Files) (left : Option (List ℕ)) (before after : Outside) (r : Status) → content ≡ before.files → left ≡ before.left → IsFound named before after
-    → IfSome content (λ files. IfSome left (λ script. EndsAs named files script before after r)) → RunsAs (Some named) before after r
-over named None left before after r f l is h = (subst (λ (z : Option Files). EndsOver named z before.left before after r) f tt, leaves named before after is)
-over named (Some files) None before after r f l is h =
-    let told : EndsOver named (Some files) before.left before after r = subst (λ (z : Option (List ℕ)). EndsOver named (Some files) z before after r) l tt in
-    (subst (λ (z : Option Files). EndsOver named z before.left before after r) f told, leaves named before after is)
-over named (Some files) (Some script) before after r f l is h =
-    let order : Order named before after (Some files) = subst (Order named before after) (sym f) is.order in
-    let told : EndsOver named (Some files) before.left before after r =
-    subst (λ (z : Option (List ℕ)). EndsOver named (Some files) z before after r) l (h, λ stop no. script_left before after (order stop no)) in
-    (subst (λ (z : Option Files). EndsOver named z before.left before after r) f told, leaves named before after is)
+over : (job : Job) (content : Option Files) (left : Option (List ℕ)) (before after : Outside) (r : Status) → content ≡ before.files → left ≡ before.left → IsFound job.named before after
+    → IfSome content (λ files. IfSome left (λ script. EndsAs job files script before after r)) → RunsAs (Some (Script job)) before after r
+over job None left before after r f l is h = (subst (λ (z : Option Files). EndsOver job z before.left before after r) f tt, leaves job.named before after is)
+over job (Some files) None before after r f l is h =
+    let told : EndsOver job (Some files) before.left before after r = subst (λ (z : Option (List ℕ)). EndsOver job (Some files) z before after r) l tt in
+    (subst (λ (z : Option Files). EndsOver job z before.left before after r) f told, leaves job.named before after is)
+over job (Some files) (Some script) before after r f l is h =
+    let order : Order job.named before after (Some files) = subst (Order job.named before after) (sym f) is.order in
+    let told : EndsOver job (Some files) before.left before after r =
+    subst (λ (z : Option (List ℕ)). EndsOver job (Some files) z before after r) l (h, λ stop no. script_left before after (order stop no)) in
+    (subst (λ (z : Option Files). EndsOver job z before.left before after r) f told, leaves job.named before after is)
 
 -- ---- all was found
-answered : (named : Named) (files : Files) (script : List ℕ) (before after : Outside) (book : State) (records : List Record) (r : Status) → after.files ≡ Some files → after.files ≡ before.files
-    → (found named files script ≡ Ok (book, records)) × (after.left ≡ Some []) → AnswersRecords (setting_of named book files) records before.pieces after.pieces (Some files) r
-    → EndsAs named files script before after r
-answered named files script before after book records status.Done kept same is h = (book, records, record { finds = is.0; to_its_end = is.1 }, rw kept h)
-answered named files script before after book records status.Refused kept same is h = (book, records, record { finds = is.0; to_its_end = is.1 }, rw kept h)
-answered named files script before after book records status.Usage kept same is h = absurd h
-answered named files script before after book records status.ReadFault kept same is h = absurd h
-answered named files script before after book records status.WriteFault kept same is h = inr (book, records, record { finds = is.0; to_its_end = is.1 }, rw kept h)
-answered named files script before after book records status.Memory kept same is (inl none) = inl (record { printed = none; files = same })
-answered named files script before after book records status.Memory kept same is (inr cut) = inr (inr (book, records, record { finds = is.0; to_its_end = is.1 }, rw kept cut))
-answered named files script before after book records status.Limit kept same is h = absurd h
-answered named files script before after book records status.BadInput kept same is h = absurd h
+answered : (job : Job) (files : Files) (script : List ℕ) (before after : Outside) (book : State) (records : List Record) (r : Status) → after.files ≡ Some files → after.files ≡ before.files
+    → (found job.named files script ≡ Ok (book, records)) × (after.left ≡ Some []) → AnswersRecords (setting_of job book files) records before.pieces after.pieces (Some files) r
+    → EndsAs job files script before after r
+answered job files script before after book records status.Done kept same is h = (book, records, record { finds = is.0; to_its_end = is.1 }, rw kept h)
+answered job files script before after book records status.Refused kept same is h = (book, records, record { finds = is.0; to_its_end = is.1 }, rw kept h)
+answered job files script before after book records status.Usage kept same is h = absurd h
+answered job files script before after book records status.ReadFault kept same is h = absurd h
+answered job files script before after book records status.WriteFault kept same is h = inr (book, records, record { finds = is.0; to_its_end = is.1 }, rw kept h)
+answered job files script before after book records status.Memory kept same is (inl none) = inl (record { printed = none; files = same })
+answered job files script before after book records status.Memory kept same is (inr cut) = inr (inr (book, records, record { finds = is.0; to_its_end = is.1 }, rw kept cut))
+answered job files script before after book records status.Limit kept same is h = absurd h
+answered job files script before after book records status.BadInput kept same is h = absurd h
 
-all_answered : (named : Named) (content : Option Files) (left : Option (List ℕ)) (before after : Outside) (book : State) (records : List Record) (r : Status) → after.files ≡ content → after.files ≡ before.files
-    → IfSome content (λ files. IfSome left (λ script. FindsAll named files script after.left (Ok (book, records))))
-    → ((n : Named) (files : Files) → AnswersRecords (setting_of n book files) records before.pieces after.pieces (Some files) r)
-    → IfSome content (λ files. IfSome left (λ script. EndsAs named files script before after r))
-all_answered named None left before after book records r kept same is h = tt
-all_answered named (Some files) None before after book records r kept same is h = tt
-all_answered named (Some files) (Some script) before after book records r kept same is h = answered named files script before after book records r kept same is (h named files)
+all_answered : (job : Job) (content : Option Files) (left : Option (List ℕ)) (before after : Outside) (book : State) (records : List Record) (r : Status) → after.files ≡ content → after.files ≡ before.files
+    → IfSome content (λ files. IfSome left (λ script. FindsAll job.named files script after.left (Ok (book, records))))
+    → ((n : Named) (p : Pick) (files : Files) → AnswersRecords (setting_of (record { named = n; budget = job.budget; pick = p }) book files) records before.pieces after.pieces (Some files) r)
+    → IfSome content (λ files. IfSome left (λ script. EndsAs job files script before after r))
+all_answered job None left before after book records r kept same is h = tt
+all_answered job (Some files) None before after book records r kept same is h = tt
+all_answered job (Some files) (Some script) before after book records r kept same is h = answered job files script before after book records r kept same is (h job.named job.pick files)
 
-pub run_answered : (named : Named) (before after : Outside) (book : State) (records : List Record) (r : Status) → IsFound named before after
-    → IfSome before.files (λ files. IfSome before.left (λ script. FindsAll named files script after.left (Ok (book, records))))
-    → ((n : Named) (files : Files) → AnswersRecords (setting_of n book files) records before.pieces after.pieces (Some files) r) → RunsAs (Some named) before after r
-run_answered named before after book records r f is h =
-    over named before.files before.left before after r refl refl f (all_answered named before.files before.left before after book records r f.same f.same is h)
+pub run_answered : (job : Job) (before after : Outside) (book : State) (records : List Record) (r : Status) → IsFound job.named before after
+    → IfSome before.files (λ files. IfSome before.left (λ script. FindsAll job.named files script after.left (Ok (book, records))))
+    → ((n : Named) (p : Pick) (files : Files) → AnswersRecords (setting_of (record { named = n; budget = job.budget; pick = p }) book files) records before.pieces after.pieces (Some files) r) → RunsAs (Some (Script job)) before after r
+run_answered job before after book records r f is h =
+    over job before.files before.left before after r refl refl f (all_answered job before.files before.left before after book records r f.same f.same is h)
 
 -- ---- the run stops before the first record
-stopped : (named : Named) (files : Files) (script : List ℕ) (before after : Outside) (stop : Stop) (r : Status) → found named files script ≡ Err stop
-    → Says (stop_line named stop) (status_of stop) before.pieces after.pieces r → after.files ≡ before.files → EndsAs named files script before after r
-stopped named files script before after (TooMuch kind) status.Usage is h same = absurd (cc h.0)
-stopped named files script before after (BadInput of why) status.Usage is h same = absurd (cc h.0)
-stopped named files script before after stop status.Limit is h same = (stop, is, (h.0, record { printed = h.1; files = same }))
-stopped named files script before after stop status.BadInput is h same = (stop, is, (h.0, record { printed = h.1; files = same }))
-stopped named files script before after stop status.WriteFault is h same = inl (stop, is, record { printed = h; files = same })
-stopped named files script before after stop status.Memory is h same = inr (inl (stop, is, record { printed = h; files = same }))
-stopped named files script before after stop status.Done is h same = absurd h
-stopped named files script before after stop status.Refused is h same = absurd h
-stopped named files script before after stop status.ReadFault is h same = absurd h
+stopped : (job : Job) (files : Files) (script : List ℕ) (before after : Outside) (stop : Stop) (r : Status) → found job.named files script ≡ Err stop
+    → Says (stop_line job.named stop) (status_of stop) before.pieces after.pieces r → after.files ≡ before.files → EndsAs job files script before after r
+stopped job files script before after (TooMuch kind) status.Usage is h same = absurd (cc h.0)
+stopped job files script before after (BadInput of why) status.Usage is h same = absurd (cc h.0)
+stopped job files script before after stop status.Limit is h same = (stop, is, (h.0, record { printed = h.1; files = same }))
+stopped job files script before after stop status.BadInput is h same = (stop, is, (h.0, record { printed = h.1; files = same }))
+stopped job files script before after stop status.WriteFault is h same = inl (stop, is, record { printed = h; files = same })
+stopped job files script before after stop status.Memory is h same = inr (inl (stop, is, record { printed = h; files = same }))
+stopped job files script before after stop status.Done is h same = absurd h
+stopped job files script before after stop status.Refused is h same = absurd h
+stopped job files script before after stop status.ReadFault is h same = absurd h
 
-all_stopped : (named : Named) (content : Option Files) (left : Option (List ℕ)) (before after : Outside) (stop : Stop) (r : Status) → after.files ≡ before.files
-    → IfSome content (λ files. IfSome left (λ script. FindsAll named files script after.left (Err (end.Stopped stop)))) → Says (stop_line named stop) (status_of stop) before.pieces after.pieces r
-    → IfSome content (λ files. IfSome left (λ script. EndsAs named files script before after r))
-all_stopped named None left before after stop r same is h = tt
-all_stopped named (Some files) None before after stop r same is h = tt
-all_stopped named (Some files) (Some script) before after stop r same is h = stopped named files script before after stop r is h same
+all_stopped : (job : Job) (content : Option Files) (left : Option (List ℕ)) (before after : Outside) (stop : Stop) (r : Status) → after.files ≡ before.files
+    → IfSome content (λ files. IfSome left (λ script. FindsAll job.named files script after.left (Err (end.Stopped stop)))) → Says (stop_line job.named stop) (status_of stop) before.pieces after.pieces r
+    → IfSome content (λ files. IfSome left (λ script. EndsAs job files script before after r))
+all_stopped job None left before after stop r same is h = tt
+all_stopped job (Some files) None before after stop r same is h = tt
+all_stopped job (Some files) (Some script) before after stop r same is h = stopped job files script before after stop r is h same
 
-pub run_stopped : (named : Named) (before after : Outside) (stop : Stop) (r : Status) → IsFound named before after
-    → IfSome before.files (λ files. IfSome before.left (λ script. FindsAll named files script after.left (Err (end.Stopped stop)))) → Says (stop_line named stop) (status_of stop) before.pieces after.pieces r
-    → RunsAs (Some named) before after r
-run_stopped named before after stop r f is h =
-    over named before.files before.left before after r refl refl f (all_stopped named before.files before.left before after stop r f.same is h)
+pub run_stopped : (job : Job) (before after : Outside) (stop : Stop) (r : Status) → IsFound job.named before after
+    → IfSome before.files (λ files. IfSome before.left (λ script. FindsAll job.named files script after.left (Err (end.Stopped stop)))) → Says (stop_line job.named stop) (status_of stop) before.pieces after.pieces r
+    → RunsAs (Some (Script job)) before after r
+run_stopped job before after stop r f is h =
+    over job before.files before.left before after r refl refl f (all_stopped job before.files before.left before after stop r f.same is h)
 
 -- ---- nothing is seen
-unseen : (named : Named) (content : Option Files) (left : Option (List ℕ)) (before after : Outside) (r : Status) → (r ≡ status.ReadFault) ⊎ (r ≡ status.Memory) → after.pieces ≡ before.pieces → after.files ≡ before.files
-    → IfSome content (λ files. IfSome left (λ script. EndsAs named files script before after r))
-unseen named None left before after r is none same = tt
-unseen named (Some files) None before after r is none same = tt
-unseen named (Some files) (Some script) before after r (inl is) none same = rw is (record { printed = none; files = same })
-unseen named (Some files) (Some script) before after r (inr is) none same = rw is (inl (record { printed = none; files = same }))
+unseen : (job : Job) (content : Option Files) (left : Option (List ℕ)) (before after : Outside) (r : Status) → (r ≡ status.ReadFault) ⊎ (r ≡ status.Memory) → after.pieces ≡ before.pieces → after.files ≡ before.files
+    → IfSome content (λ files. IfSome left (λ script. EndsAs job files script before after r))
+unseen job None left before after r is none same = tt
+unseen job (Some files) None before after r is none same = tt
+unseen job (Some files) (Some script) before after r (inl is) none same = rw is (record { printed = none; files = same })
+unseen job (Some files) (Some script) before after r (inr is) none same = rw is (inl (record { printed = none; files = same }))
 
-pub run_unseen : (named : Named) (before after : Outside) (r : Status) → IsFound named before after → (r ≡ status.ReadFault) ⊎ (r ≡ status.Memory) → after.pieces ≡ before.pieces → RunsAs (Some named) before after r
-run_unseen named before after r f is none = over named before.files before.left before after r refl refl f (unseen named before.files before.left before after r is none f.same)
+pub run_unseen : (job : Job) (before after : Outside) (r : Status) → IsFound job.named before after → (r ≡ status.ReadFault) ⊎ (r ≡ status.Memory) → after.pieces ≡ before.pieces → RunsAs (Some (Script job)) before after r
+run_unseen job before after r f is none = over job before.files before.left before after r refl refl f (unseen job before.files before.left before after r is none f.same)
 
 -- ---- each status exactly
 early : (x : Result (State × List Record) Stop) (r : Status) → IsEarly r → EndsFor x r
 early (Ok ready) r h = inr h
 early (Err stop) r h = inr h
 
-early_exactly : (named : Named) (content : Option Files) (left : Option (List ℕ)) (r : Status) → IsEarly r → r ≢ status.Usage → EndsForTold named content left r
-early_exactly named None left r h other = other
-early_exactly named (Some files) None r h other = other
-early_exactly named (Some files) (Some script) r h other = early (found named files script) r h
+early_exactly : (job : Job) (content : Option Files) (left : Option (List ℕ)) (r : Status) → IsEarly r → r ≢ status.Usage → EndsForTold job.named content left r
+early_exactly job None left r h other = other
+early_exactly job (Some files) None r h other = other
+early_exactly job (Some files) (Some script) r h other = early (found job.named files script) r h
 
-pub read_fault_exactly : (named : Named) (content : Option Files) (left : Option (List ℕ)) → EndsExactly (Some named) content left status.ReadFault
-read_fault_exactly named content left = early_exactly named content left status.ReadFault tt (λ e. cc e)
+pub read_fault_exactly : (job : Job) (content : Option Files) (left : Option (List ℕ)) → EndsExactly (Some (Script job)) content left status.ReadFault
+read_fault_exactly job content left = early_exactly job content left status.ReadFault tt (λ e. cc e)
 
-pub memory_exactly : (named : Named) (content : Option Files) (left : Option (List ℕ)) → EndsExactly (Some named) content left status.Memory
-memory_exactly named content left = early_exactly named content left status.Memory tt (λ e. cc e)
+pub memory_exactly : (job : Job) (content : Option Files) (left : Option (List ℕ)) → EndsExactly (Some (Script job)) content left status.Memory
+memory_exactly job content left = early_exactly job content left status.Memory tt (λ e. cc e)
 
 -- records that were answered
 abbrev Answered : Status → Type 0
 Answered r = (IsWhole r ⊎ IsEarly r) × (r ≢ status.Usage) × (r ≢ status.ReadFault)
 
-whole_or_early : (named : Named) (book : State) (files : Files) (records : List Record) (u v : Option (List (List ℕ))) (r : Status) → AnswersRecords (setting_of named book files) records u v (Some files) r → Answered r
-whole_or_early named book files records u v status.Done h = (inl tt, (λ e. cc e), λ e. cc e)
-whole_or_early named book files records u v status.Refused h = (inl tt, (λ e. cc e), λ e. cc e)
-whole_or_early named book files records u v status.WriteFault h = (inr tt, (λ e. cc e), λ e. cc e)
-whole_or_early named book files records u v status.Memory h = (inr tt, (λ e. cc e), λ e. cc e)
-whole_or_early named book files records u v status.Usage h = absurd h
-whole_or_early named book files records u v status.ReadFault h = absurd h
-whole_or_early named book files records u v status.Limit h = absurd h
-whole_or_early named book files records u v status.BadInput h = absurd h
+whole_or_early : (job : Job) (book : State) (files : Files) (records : List Record) (u v : Option (List (List ℕ))) (r : Status) → AnswersRecords (setting_of job book files) records u v (Some files) r → Answered r
+whole_or_early job book files records u v status.Done h = (inl tt, (λ e. cc e), λ e. cc e)
+whole_or_early job book files records u v status.Refused h = (inl tt, (λ e. cc e), λ e. cc e)
+whole_or_early job book files records u v status.WriteFault h = (inr tt, (λ e. cc e), λ e. cc e)
+whole_or_early job book files records u v status.Memory h = (inr tt, (λ e. cc e), λ e. cc e)
+whole_or_early job book files records u v status.Usage h = absurd h
+whole_or_early job book files records u v status.ReadFault h = absurd h
+whole_or_early job book files records u v status.Limit h = absurd h
+whole_or_early job book files records u v status.BadInput h = absurd h
 
-pub answered_exactly : (named : Named) (content : Option Files) (left after : Option (List ℕ)) (book : State) (records : List Record) (u v : Option (List (List ℕ))) (r : Status)
-    → IfSome content (λ files. IfSome left (λ script. FindsAll named files script after (Ok (book, records)))) → ((n : Named) (files : Files) → AnswersRecords (setting_of n book files) records u v (Some files) r)
-    → EndsExactly (Some named) content left r
-answered_exactly named None left after book records u v r is h = (whole_or_early named book empty records u v r (h named empty)).1
-answered_exactly named (Some files) None after book records u v r is h = (whole_or_early named book files records u v r (h named files)).1
-answered_exactly named (Some files) (Some script) after book records u v r is h = rw is.0 (whole_or_early named book files records u v r (h named files)).0
+pub answered_exactly : (job : Job) (content : Option Files) (left after : Option (List ℕ)) (book : State) (records : List Record) (u v : Option (List (List ℕ))) (r : Status)
+    → IfSome content (λ files. IfSome left (λ script. FindsAll job.named files script after (Ok (book, records)))) → ((n : Named) (p : Pick) (files : Files) → AnswersRecords (setting_of (record { named = n; budget = job.budget; pick = p }) book files) records u v (Some files) r)
+    → EndsExactly (Some (Script job)) content left r
+answered_exactly job None left after book records u v r is h = (whole_or_early job book empty records u v r (h job.named job.pick empty)).1
+answered_exactly job (Some files) None after book records u v r is h = (whole_or_early job book files records u v r (h job.named job.pick files)).1
+answered_exactly job (Some files) (Some script) after book records u v r is h = rw is.0 (whole_or_early job book files records u v r (h job.named job.pick files)).0
 
 -- a line that was said
 said : (stop : Stop) (line : List ℕ) (u v : Option (List (List ℕ))) (r : Status) → Says line (status_of stop) u v r → ((r ≡ status_of stop) ⊎ IsEarly r) × (r ≢ status.Usage) × (r ≢ status.ReadFault)
@@ -167,11 +167,11 @@ said stop line u v status.Done h = absurd h
 said stop line u v status.Refused h = absurd h
 said stop line u v status.ReadFault h = absurd h
 
-pub stopped_exactly : (named : Named) (content : Option Files) (left after : Option (List ℕ)) (stop : Stop) (line : List ℕ) (u v : Option (List (List ℕ))) (r : Status)
-    → IfSome content (λ files. IfSome left (λ script. FindsAll named files script after (Err (end.Stopped stop)))) → Says line (status_of stop) u v r → EndsExactly (Some named) content left r
-stopped_exactly named None left after stop line u v r is h = (said stop line u v r h).1
-stopped_exactly named (Some files) None after stop line u v r is h = (said stop line u v r h).1
-stopped_exactly named (Some files) (Some script) after stop line u v r is h = rw is (said stop line u v r h).0
+pub stopped_exactly : (job : Job) (content : Option Files) (left after : Option (List ℕ)) (stop : Stop) (line : List ℕ) (u v : Option (List (List ℕ))) (r : Status)
+    → IfSome content (λ files. IfSome left (λ script. FindsAll job.named files script after (Err (end.Stopped stop)))) → Says line (status_of stop) u v r → EndsExactly (Some (Script job)) content left r
+stopped_exactly job None left after stop line u v r is h = (said stop line u v r h).1
+stopped_exactly job (Some files) None after stop line u v r is h = (said stop line u v r h).1
+stopped_exactly job (Some files) (Some script) after stop line u v r is h = rw is (said stop line u v r h).0
 
 -- ---- counts
 rose : (a b : ℕ) (r : Status) → IsSinkFault a b r → r ≡ status.WriteFault → Rose a b
@@ -191,17 +191,18 @@ counted : (before after : Outside) (r : Status) → r ≢ status.ReadFault → (
     → IsSinkFault before.sink_writes after.sink_writes r → IsCounted before after r
 counted before after r other reads writes sink = record {
   read_fault = λ e. absurd (other e);
+  quiet = λ e. absurd (other e);
   no_read_fault = λ _. reads;
   write_fault = rose before.sink_writes after.sink_writes r sink;
   no_write_fault = kept before.sink_writes after.sink_writes r sink;
   saves = writes;
 }
 
-pub answered_counted : (named : Named) (before after : Outside) (book : State) (records : List Record) (r : Status) → ((n : Named) (files : Files) → AnswersRecords (setting_of n book files) records before.pieces after.pieces (Some files) r)
+pub answered_counted : (job : Job) (before after : Outside) (book : State) (records : List Record) (r : Status) → ((n : Named) (p : Pick) (files : Files) → AnswersRecords (setting_of (record { named = n; budget = job.budget; pick = p }) book files) records before.pieces after.pieces (Some files) r)
     → (after.folder_reads ≡ before.folder_reads) × (after.script_reads ≡ before.script_reads) → after.folder_writes ≡ before.folder_writes
     → IsSinkFault before.sink_writes after.sink_writes r → IsCounted before after r
-answered_counted named before after book records r h reads writes sink =
-    counted before after r (whole_or_early named book empty records before.pieces after.pieces r (h named empty)).2 reads writes sink
+answered_counted job before after book records r h reads writes sink =
+    counted before after r (whole_or_early job book empty records before.pieces after.pieces r (h job.named job.pick empty)).2 reads writes sink
 
 pub said_counted : (stop : Stop) (line : List ℕ) (before after : Outside) (r : Status) → Says line (status_of stop) before.pieces after.pieces r
     → (after.folder_reads ≡ before.folder_reads) × (after.script_reads ≡ before.script_reads) → after.folder_writes ≡ before.folder_writes
@@ -217,9 +218,10 @@ fault_of before after (inl h) = inl (h.0, script_left before after h.1)
 fault_of before after (inr h) = inr h
 
 pub read_fault_counted : (before after : Outside) → IsFaultOf before.folder_reads after.folder_reads before.left after.left before.script_reads after.script_reads → after.folder_writes ≡ before.folder_writes
-    → after.sink_writes ≡ before.sink_writes → IsCounted before after status.ReadFault
-read_fault_counted before after h writes sink = record {
+    → after.sink_writes ≡ before.sink_writes → after.pieces ≡ before.pieces → IsCounted before after status.ReadFault
+read_fault_counted before after h writes sink pieces = record {
   read_fault = λ _. fault_of before after h;
+  quiet = λ _. pieces;
   no_read_fault = λ other. absurd (other refl);
   write_fault = λ e. cc e;
   no_write_fault = λ _. sink;
@@ -255,12 +257,12 @@ usage_early u v status.Done h = absurd h
 usage_early u v status.Refused h = absurd h
 usage_early u v status.ReadFault h = absurd h
 
-pub usage_runs : (named : Option Named) (before after : Outside) (r : Status) → None ≡ named → IsLeft before after → Says usage_line status.Usage before.pieces after.pieces r → RunsAs named before after r
-usage_runs named before after r none is h =
+pub usage_runs : (asked : Option Asked) (before after : Outside) (r : Status) → None ≡ asked → IsLeft before after → Says usage_line status.Usage before.pieces after.pieces r → RunsAs asked before after r
+usage_runs asked before after r none is h =
     rw (← none) (usage_said before after r is.files h, record { files = is.files; reads = is.reads; writes = is.writes }, record { left = is.left; reads = is.script })
 
-pub usage_exactly : (named : Option Named) (content : Option Files) (left : Option (List ℕ)) (u v : Option (List (List ℕ))) (r : Status) → None ≡ named → Says usage_line status.Usage u v r → EndsExactly named content left r
-usage_exactly named content left u v r none h = rw (← none) (usage_early u v r h).0
+pub usage_exactly : (asked : Option Asked) (content : Option Files) (left : Option (List ℕ)) (u v : Option (List (List ℕ))) (r : Status) → None ≡ asked → Says usage_line status.Usage u v r → EndsExactly asked content left r
+usage_exactly asked content left u v r none h = rw (← none) (usage_early u v r h).0
 
 pub usage_counted : (before after : Outside) (r : Status) → IsLeft before after → Says usage_line status.Usage before.pieces after.pieces r → IsSinkFault before.sink_writes after.sink_writes r → IsCounted before after r
 usage_counted before after r is h sink = counted before after r (usage_early before.pieces after.pieces r h).1 (is.reads, is.script) is.writes sink

@@ -13,11 +13,11 @@ use Rattle.commands.specs.Commands.{Spoken, command_of}
 use Rattle.commands.specs.Lines.{answer_text, is_refusal}
 use Rattle.commands.specs.declared.answer.Answer.{Answer}
 use Rattle.session.specs.States.{SessionState, opened}
-use Rattle.session.specs.Steps.{Step}
+use Rattle.session.specs.Steps.{Applies, Step}
 use Rattle.opensolver_cli.specs.Answering.{AnswersRecord, IsAnswered, IsCutOff}
 use Rattle.opensolver_cli.specs.Courses.{AllAnswered, CutShort, EndsBefore, EndsInSink}
-use Rattle.opensolver_cli.specs.Headline.{default_budget, setting_of}
-use Rattle.opensolver_cli.specs.Words.{Named}
+use Rattle.opensolver_cli.specs.Headline.{setting_of}
+use Rattle.opensolver_cli.specs.Words.{Job}
 use Rattle.opensolver_cli.specs.Worlds.{Answered, World, lines_of, none, more}
 
 -- a session over these files
@@ -25,9 +25,9 @@ abbrev pub over : Files → SessionState → World
 over files session = record { session = session; files = files }
 
 -- some records were answered over a workbook that was opened, each answer was printed as one piece, and this is the session behind them
-pub record AreAnswered (book : State) (files : Files) (records : List Record) (before after : Option (List (List ℕ))) (session : SessionState) (refused : Bool) : Type 0 where
+pub record AreAnswered (budget : ℕ) (book : State) (files : Files) (records : List Record) (before after : Option (List (List ℕ))) (session : SessionState) (refused : Bool) : Type 0 where
   pub answers : List Answer
-  pub answered : Answered (over files (opened book default_budget)) records answers (over files session)
+  pub answered : Answered (over files (opened book budget)) records answers (over files session)
   pub printed : Takes before after (lines_of book.sheets answers)
   pub refusals : list_any (is_refusal book.sheets) answers ≡ refused
   pub sheets : session.book.sheets ≡ book.sheets
@@ -66,17 +66,17 @@ any_more : (p : Answer → Bool) (ts : List Answer) (a : Answer) → list_any p 
 any_more p [] a = or_false (p a)
 any_more p (b ∷ bs) a = ap (λ (z : Bool). p b || z) (any_more p bs a) ∙ or_assoc (p b) (list_any p bs) (p a)
 
-pub none_answered : (book : State) (files : Files) (w : Option (List (List ℕ))) → AreAnswered book files [] w w (opened book default_budget) false
-none_answered book files w = record { answers = []; answered = none; printed = takes_none w; refusals = refl; sheets = refl }
+pub none_answered : (budget : ℕ) (book : State) (files : Files) (w : Option (List (List ℕ))) → AreAnswered budget book files [] w w (opened book budget) false
+none_answered budget book files w = record { answers = []; answered = none; printed = takes_none w; refusals = refl; sheets = refl }
 
-one_answered_more : (book : State) (files : Files) (m e : SessionState) (rs : List Record) (r : Record) (u v w : Option (List (List ℕ))) (before here : Bool)
-    → AreAnswered book files rs u v m before → IsAnswered m r v w e here → e.book.sheets ≡ m.book.sheets → AreAnswered book files (rs ++ r ∷ []) u w e (before || here)
-one_answered_more book files m e rs r u v w before here are is same =
+one_answered_more : (budget : ℕ) (book : State) (files : Files) (m e : SessionState) (rs : List Record) (r : Record) (u v w : Option (List (List ℕ))) (before here : Bool)
+    → AreAnswered budget book files rs u v m before → IsAnswered m r v w e here → e.book.sheets ≡ m.book.sheets → AreAnswered budget book files (rs ++ r ∷ []) u w e (before || here)
+one_answered_more budget book files m e rs r u v w before here are is same =
     let printed = subst (λ (z : List (List ℕ)). Takes v w (answer_text z is.answer ∷ [])) are.sheets is.printed in
     let refusal = subst (λ (z : List (List ℕ)). is_refusal z is.answer ≡ here) are.sheets is.refusal in
     record {
       answers = are.answers ++ is.answer ∷ [];
-      answered = one_step_more (over files (opened book default_budget)) (over files m) (over files e) rs r are.answers is.answer are.answered is.step refl;
+      answered = one_step_more (over files (opened book budget)) (over files m) (over files e) rs r are.answers is.answer are.answered is.step refl;
       printed =
           subst (λ (z : List (List ℕ)). Takes u w z) (sym (map-append (answer_text book.sheets) are.answers (is.answer ∷ [])))
           (takes_both u v w (lines_of book.sheets are.answers) (answer_text book.sheets is.answer ∷ []) are.printed printed);
@@ -85,16 +85,16 @@ one_answered_more book files m e rs r u v w before here are is same =
     }
 
 -- the same, of the first records of a list
-pub next_answered : (book : State) (files : Files) (m e : SessionState) (rows : List Record) (i : ℕ) (r : Record) (u v w : Option (List (List ℕ))) (before here : Bool) → i < length rows → slice_get rows i ≡ Some r
-    → AreAnswered book files (take i rows) u v m before → IsAnswered m r v w e here → e.book.sheets ≡ m.book.sheets → AreAnswered book files (take (i + 1) rows) u w e (before || here)
-next_answered book files m e rows i r u v w before here within there are is same =
+pub next_answered : (budget : ℕ) (book : State) (files : Files) (m e : SessionState) (rows : List Record) (i : ℕ) (r : Record) (u v w : Option (List (List ℕ))) (before here : Bool) → i < length rows → slice_get rows i ≡ Some r
+    → AreAnswered budget book files (take i rows) u v m before → IsAnswered m r v w e here → e.book.sheets ≡ m.book.sheets → AreAnswered budget book files (take (i + 1) rows) u w e (before || here)
+next_answered budget book files m e rows i r u v w before here within there are is same =
     let ends : take i rows ++ r ∷ [] ≡ take (i + 1) rows = sym (take_more rows i r within ∙ ap (λ (z : Record). take i rows ++ z ∷ []) (element rows i r there)) in
-    subst (λ (z : List Record). AreAnswered book files z u w e (before || here)) ends (one_answered_more book files m e (take i rows) r u v w before here are is same)
+    subst (λ (z : List Record). AreAnswered budget book files z u w e (before || here)) ends (one_answered_more budget book files m e (take i rows) r u v w before here are is same)
 
 -- a record at which the answers end
-cut : (Ends : World → Record → List (List ℕ) → Type 0) (named : Named) (book : State) (files : Files) (m : SessionState) (rows : List Record) (i : ℕ) (r : Record) (u v w : Option (List (List ℕ))) (before : Bool)
-    (part : List (List ℕ)) → slice_get rows i ≡ Some r → AreAnswered book files (take i rows) u v m before → Ends (over files m) r part → Takes v w part → CutShort Ends (setting_of named book files) rows u w
-cut Ends named book files m rows i r u v w before part there are ends printed = record {
+cut : (Ends : World → Record → List (List ℕ) → Type 0) (job : Job) (book : State) (files : Files) (m : SessionState) (rows : List Record) (i : ℕ) (r : Record) (u v w : Option (List (List ℕ))) (before : Bool)
+    (part : List (List ℕ)) → slice_get rows i ≡ Some r → AreAnswered job.budget book files (take i rows) u v m before → Ends (over files m) r part → Takes v w part → CutShort Ends (setting_of job book files) rows u w
+cut Ends job book files m rows i r u v w before part there are ends printed = record {
   done = i;
   fields = r;
   there = there;
@@ -107,9 +107,9 @@ cut Ends named book files m rows i r u v w before part there are ends printed = 
 }
 
 -- a record whose lines were printed in part
-in_sink : (named : Named) (book : State) (files : Files) (m e : SessionState) (r : Record) (v w : Option (List (List ℕ))) (off : IsCutOff m r v w e) → m.book.sheets ≡ book.sheets
-    → EndsInSink (setting_of named book files) (over files m) r (part_of off.printed.0 (answer_text m.book.sheets off.answer)) (Some files)
-in_sink named book files m e r v w off sheets = record {
+in_sink : (job : Job) (book : State) (files : Files) (m e : SessionState) (r : Record) (v w : Option (List (List ℕ))) (off : IsCutOff m r v w e) → m.book.sheets ≡ book.sheets
+    → EndsInSink (setting_of job book files) (over files m) r (part_of off.printed.0 (answer_text m.book.sheets off.answer)) (Some files)
+in_sink job book files m e r v w off sheets = record {
   answer = off.answer;
   next = over files e;
   answered = (off.step, refl);
@@ -119,30 +119,30 @@ in_sink named book files m e r v w off sheets = record {
 }
 
 -- its write failed
-pub cut_by_write : (named : Named) (book : State) (files : Files) (m e : SessionState) (rows : List Record) (i : ℕ) (r : Record) (u v w : Option (List (List ℕ))) (before : Bool) → slice_get rows i ≡ Some r
-    → AreAnswered book files (take i rows) u v m before → IsCutOff m r v w e → CutShort (λ x fields part. EndsInSink (setting_of named book files) x fields part (Some files)) (setting_of named book files) rows u w
-cut_by_write named book files m e rows i r u v w before there are off =
-    cut (λ x fields part. EndsInSink (setting_of named book files) x fields part (Some files)) named book files m rows i r u v w before
-    (part_of off.printed.0 (answer_text m.book.sheets off.answer)) there are (in_sink named book files m e r v w off are.sheets) off.printed.2
+pub cut_by_write : (job : Job) (book : State) (files : Files) (m e : SessionState) (rows : List Record) (i : ℕ) (r : Record) (u v w : Option (List (List ℕ))) (before : Bool) → slice_get rows i ≡ Some r
+    → AreAnswered job.budget book files (take i rows) u v m before → IsCutOff m r v w e → CutShort (λ x fields part. EndsInSink (setting_of job book files) x fields part (Some files)) (setting_of job book files) rows u w
+cut_by_write job book files m e rows i r u v w before there are off =
+    cut (λ x fields part. EndsInSink (setting_of job book files) x fields part (Some files)) job book files m rows i r u v w before
+    (part_of off.printed.0 (answer_text m.book.sheets off.answer)) there are (in_sink job book files m e r v w off are.sheets) off.printed.2
 
 -- memory ran out
-pub cut_by_memory : (named : Named) (book : State) (files : Files) (m e : SessionState) (rows : List Record) (i : ℕ) (r : Record) (u v w : Option (List (List ℕ))) (before : Bool) → slice_get rows i ≡ Some r
-    → AreAnswered book files (take i rows) u v m before → IsCutOff m r v w e ⊎ (w ≡ v)
-    → CutShort (λ x fields part. EndsInSink (setting_of named book files) x fields part (Some files) ⊎ EndsBefore x part (Some files)) (setting_of named book files) rows u w
-cut_by_memory named book files m e rows i r u v w before there are (inl off) =
-    cut (λ x fields part. EndsInSink (setting_of named book files) x fields part (Some files) ⊎ EndsBefore x part (Some files)) named book files m rows i r u v w before
-    (part_of off.printed.0 (answer_text m.book.sheets off.answer)) there are (inl (in_sink named book files m e r v w off are.sheets)) off.printed.2
-cut_by_memory named book files m e rows i r u v w before there are (inr same) =
-    cut (λ x fields part. EndsInSink (setting_of named book files) x fields part (Some files) ⊎ EndsBefore x part (Some files)) named book files m rows i r u v w before
+pub cut_by_memory : (job : Job) (book : State) (files : Files) (m e : SessionState) (rows : List Record) (i : ℕ) (r : Record) (u v w : Option (List (List ℕ))) (before : Bool) → slice_get rows i ≡ Some r
+    → AreAnswered job.budget book files (take i rows) u v m before → IsCutOff m r v w e ⊎ (w ≡ v)
+    → CutShort (λ x fields part. EndsInSink (setting_of job book files) x fields part (Some files) ⊎ EndsBefore x part (Some files)) (setting_of job book files) rows u w
+cut_by_memory job book files m e rows i r u v w before there are (inl off) =
+    cut (λ x fields part. EndsInSink (setting_of job book files) x fields part (Some files) ⊎ EndsBefore x part (Some files)) job book files m rows i r u v w before
+    (part_of off.printed.0 (answer_text m.book.sheets off.answer)) there are (inl (in_sink job book files m e r v w off are.sheets)) off.printed.2
+cut_by_memory job book files m e rows i r u v w before there are (inr same) =
+    cut (λ x fields part. EndsInSink (setting_of job book files) x fields part (Some files) ⊎ EndsBefore x part (Some files)) job book files m rows i r u v w before
     [] there are (inr (record { nothing = refl; files_are = refl })) (subst (λ (z : Option (List (List ℕ))). Takes v z []) (sym same) (takes_none v))
 
 -- all records were answered
-pub all_answered : (named : Named) (book : State) (files : Files) (m : SessionState) (rows : List Record) (i : ℕ) (u v : Option (List (List ℕ))) (refused : Bool) → length rows ≤ i
-    → AreAnswered book files (take i rows) u v m refused → AllAnswered (setting_of named book files) rows u v (Some files) refused
-all_answered named book files m rows i u v refused long are = record {
+pub all_answered : (job : Job) (book : State) (files : Files) (m : SessionState) (rows : List Record) (i : ℕ) (u v : Option (List (List ℕ))) (refused : Bool) → length rows ≤ i
+    → AreAnswered job.budget book files (take i rows) u v m refused → AllAnswered (setting_of job book files) rows u v (Some files) refused
+all_answered job book files m rows i u v refused long are = record {
   answers = are.answers;
   last = over files m;
-  answered = subst (λ (z : List Record). Answered (over files (opened book default_budget)) z are.answers (over files m)) (take_all i rows long) are.answered;
+  answered = subst (λ (z : List Record). Answered (over files (opened book job.budget)) z are.answers (over files m)) (take_all i rows long) are.answered;
   printed = are.printed;
   files_are = refl;
   refusals = are.refusals;
@@ -155,12 +155,26 @@ refused_before a b r is e = rw (e, is) refl
 pub refused_here : (a b r : Bool) → a ≡ false → r ≡ b → (a || b) ≡ r
 refused_here a b r is e = rw (is, e) refl
 
--- a part of the line was printed
-pub cut_off : (old new : SessionState) (fields : Record) (s : Spoken) (a : Answer) (text : List ℕ) (u v : Option (List (List ℕ))) → s ≡ command_of fields → Step old s a new → text ≡ answer_text old.book.sheets a
-    → TakesSome u v text → IsCutOff old fields u v new
-cut_off old new fields s a text u v is step text_is printed = record {
+-- what a command did is the step of its record
+stepped : (old new : SessionState) (fields : Record) (s : Spoken) (a : Answer) → s ≡ command_of fields → Applies old s a new → Step old (command_of fields) a new
+stepped old new fields s a is applied = (new, subst (λ (z : Spoken). Applies old z a new) is applied, refl)
+
+-- the line was printed
+pub said_whole : (old new : SessionState) (fields : Record) (s : Spoken) (a : Answer) (text : List ℕ) (u v : Option (List (List ℕ))) (refused : Bool) → s ≡ command_of fields → Applies old s a new
+    → text ≡ answer_text old.book.sheets a → Takes u v (text ∷ []) → refused ≡ is_refusal old.book.sheets a → IsAnswered old fields u v new refused
+said_whole old new fields s a text u v refused is applied text_is printed refusal = record {
   answer = a;
-  step = subst (λ (z : Spoken). Step old z a new) is step;
+  step = stepped old new fields s a is applied;
+  printed = subst (λ (z : List ℕ). Takes u v (z ∷ [])) text_is printed;
+  refusal = sym refusal;
+}
+
+-- a part of the line was printed
+pub cut_off : (old new : SessionState) (fields : Record) (s : Spoken) (a : Answer) (text : List ℕ) (u v : Option (List (List ℕ))) → s ≡ command_of fields → Applies old s a new → text ≡ answer_text old.book.sheets a
+    → TakesSome u v text → IsCutOff old fields u v new
+cut_off old new fields s a text u v is applied text_is printed = record {
+  answer = a;
+  step = stepped old new fields s a is applied;
   printed = subst (λ (z : List ℕ). TakesSome u v z) text_is printed;
 }
 

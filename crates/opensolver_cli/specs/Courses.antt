@@ -6,12 +6,13 @@ use Rattle.solver_io.specs.Files.{Files}
 use Rattle.sheet_csv.specs.Sheet.{Record}
 use Rattle.commands.specs.declared.answer.Answer.{Answer}
 use Rattle.commands.specs.Lines.{answer_text, is_refusal}
-use Rattle.opensolver_cli.specs.Words.{Named}
+use Rattle.opensolver_cli.specs.Words.{Named, Pick}
 use Rattle.opensolver_cli.specs.Worlds.{World, Answers, Answered, lines_of}
 
--- over which files the records are answered, and in which world they begin
+-- over which files the records are answered, by which picker, and in which world they begin
 pub record Setting : Type 0 where
   pub named : Named
+  pub pick : Pick
   pub start : World
 
 -- the names of the sheets, which stay as they are

@@ -10,7 +10,7 @@ use Rattle.opensolver_cli.specs.Courses.{AllAnswered, CutShort, EndsBefore, Ends
 use Rattle.opensolver_cli.specs.Findings.{book_in, found}
 use Rattle.opensolver_cli.specs.Outside.{IsFolderLeft, IsScriptLeft, NothingIsSeen, Outside, Prints, PrintsSome}
 use Rattle.opensolver_cli.specs.Stops.{status_of, stop_line}
-use Rattle.opensolver_cli.specs.Words.{Named}
+use Rattle.opensolver_cli.specs.Words.{Asked, Job, MadeUp, Named, Script}
 use Rattle.opensolver_cli.specs.declared.stop.Stop.{Stop}
 use Rattle.opensolver_cli.specs.declared.status.Status.{Status}
 use Rattle.opensolver_cli.specs.declared.status.Status.TheVariants as status
@@ -18,28 +18,25 @@ use Rattle.opensolver_cli.specs.declared.status.Status.TheVariants as status
 abbrev pub usage_line : List ℕ
 usage_line = codes "usage: opensolver --names FILE [--budget N] [--pick depth|best|oldest] FILE...\n"
 
--- how many units a solve may take
-abbrev pub default_budget : ℕ
-default_budget = 100000
-
 -- ---- runs over files
 -- the records begin over the workbook that was opened, and over the files as they are
-abbrev pub setting_of : Named → State → Files → Setting
-setting_of named book files = record { named = named; start = record { session = opened book default_budget; files = files } }
+abbrev pub setting_of : Job → State → Files → Setting
+setting_of job book files =
+    record { named = job.named; pick = job.pick; start = record { session = opened book job.budget; files = files } }
 
 -- the workbook and the records are found, and the script was read to its end
-pub record IsReady (named : Named) (files : Files) (script : List ℕ) (after : Outside) (book : State) (records : List Record) : Type 0 where
-  pub finds : found named files script ≡ Ok (book, records)
+pub record IsReady (job : Job) (files : Files) (script : List ℕ) (after : Outside) (book : State) (records : List Record) : Type 0 where
+  pub finds : found job.named files script ≡ Ok (book, records)
   pub to_its_end : after.left ≡ Some []
 
 -- all that is needed was found, and this was done with it
-abbrev pub Goes : (Setting → List Record → Type 0) → Named → Files → List ℕ → Outside → Type 0
-Goes Done named files script after =
-    (book : State) × (records : List Record) × IsReady named files script after book records × Done (setting_of named book files) records
+abbrev pub Goes : (Setting → List Record → Type 0) → Job → Files → List ℕ → Outside → Type 0
+Goes Done job files script after =
+    (book : State) × (records : List Record) × IsReady job files script after book records × Done (setting_of job book files) records
 
 -- the run ends before the first record for this cause
-abbrev pub Stops : (Stop → Type 0) → Named → Files → List ℕ → Type 0
-Stops Done named files script = (stop : Stop) × (found named files script ≡ Err stop) × Done stop
+abbrev pub Stops : (Stop → Type 0) → Job → Files → List ℕ → Type 0
+Stops Done job files script = (stop : Stop) × (found job.named files script ≡ Err stop) × Done stop
 
 -- a write of the sink failed at a record, or memory ran out at one
 abbrev pub IsCutByWrite : Setting → List Record → Outside → Outside → Type 0
@@ -51,33 +48,33 @@ IsCutByMemory setting records before after =
     CutShort (λ w fields part. EndsInSink setting w fields part after.files ⊎ EndsBefore w part after.files) setting records before.pieces after.pieces
 
 -- how a run over these files and this script ends
-abbrev pub EndsAs : Named → Files → List ℕ → Outside → Outside → Status → Type 0
-EndsAs named files script before after status.Done =
-    Goes (λ setting records. AllAnswered setting records before.pieces after.pieces after.files false) named files script after
-EndsAs named files script before after status.Refused =
-    Goes (λ setting records. AllAnswered setting records before.pieces after.pieces after.files true) named files script after
-EndsAs named files script before after status.Usage = ⊥
-EndsAs named files script before after status.ReadFault = NothingIsSeen before after
-EndsAs named files script before after status.WriteFault =
-    Stops (λ stop. PrintsSome (stop_line named stop) before after) named files script
-    ⊎ Goes (λ setting records. IsCutByWrite setting records before after) named files script after
-EndsAs named files script before after status.Memory =
+abbrev pub EndsAs : Job → Files → List ℕ → Outside → Outside → Status → Type 0
+EndsAs job files script before after status.Done =
+    Goes (λ setting records. AllAnswered setting records before.pieces after.pieces after.files false) job files script after
+EndsAs job files script before after status.Refused =
+    Goes (λ setting records. AllAnswered setting records before.pieces after.pieces after.files true) job files script after
+EndsAs job files script before after status.Usage = ⊥
+EndsAs job files script before after status.ReadFault = NothingIsSeen before after
+EndsAs job files script before after status.WriteFault =
+    Stops (λ stop. PrintsSome (stop_line job.named stop) before after) job files script
+    ⊎ Goes (λ setting records. IsCutByWrite setting records before after) job files script after
+EndsAs job files script before after status.Memory =
     NothingIsSeen before after
-    ⊎ (Stops (λ stop. PrintsSome (stop_line named stop) before after) named files script
-    ⊎ Goes (λ setting records. IsCutByMemory setting records before after) named files script after)
-EndsAs named files script before after status.Limit =
-    Stops (λ stop. (status_of stop ≡ status.Limit) × Prints (stop_line named stop) before after) named files script
-EndsAs named files script before after status.BadInput =
-    Stops (λ stop. (status_of stop ≡ status.BadInput) × Prints (stop_line named stop) before after) named files script
+    ⊎ (Stops (λ stop. PrintsSome (stop_line job.named stop) before after) job files script
+    ⊎ Goes (λ setting records. IsCutByMemory setting records before after) job files script after)
+EndsAs job files script before after status.Limit =
+    Stops (λ stop. (status_of stop ≡ status.Limit) × Prints (stop_line job.named stop) before after) job files script
+EndsAs job files script before after status.BadInput =
+    Stops (λ stop. (status_of stop ≡ status.BadInput) × Prints (stop_line job.named stop) before after) job files script
 
 -- the script isn't touched where the files end the run
 abbrev pub KeepsOrder : Named → Files → Outside → Outside → Type 0
 KeepsOrder named files before after = (stop : Stop) → book_in named files ≡ Err stop → IsScriptLeft before after
 
 -- where the folder and the script tell their bytes
-abbrev pub EndsOver : Named → Option Files → Option (List ℕ) → Outside → Outside → Status → Type 0
-EndsOver named (Some files) (Some script) before after ends = EndsAs named files script before after ends × KeepsOrder named files before after
-EndsOver named _ _ before after ends = ⊤
+abbrev pub EndsOver : Job → Option Files → Option (List ℕ) → Outside → Outside → Status → Type 0
+EndsOver job (Some files) (Some script) before after ends = EndsAs job files script before after ends × KeepsOrder job.named files before after
+EndsOver job _ _ before after ends = ⊤
 
 -- no file is read where too many sheets are named, nor the script
 abbrev pub LeavesTooMany : Named → Outside → Outside → Type 0
@@ -92,10 +89,11 @@ SaysUsage before after status.Memory = PrintsSome usage_line before after
 SaysUsage before after _ = ⊥
 
 -- ---- all runs
--- what a run does by what its words name
-abbrev pub RunsAs : Option Named → Outside → Outside → Status → Type 0
+-- what a run does by what its words ask for; no words ask for a workbook that is made up yet
+abbrev pub RunsAs : Option Asked → Outside → Outside → Status → Type 0
 RunsAs None before after ends = SaysUsage before after ends × IsFolderLeft before after × IsScriptLeft before after
-RunsAs (Some named) before after ends = EndsOver named before.files before.left before after ends × LeavesTooMany named before after
+RunsAs (Some (Script job)) before after ends = EndsOver job before.files before.left before after ends × LeavesTooMany job.named before after
+RunsAs (Some (MadeUp size)) before after ends = ⊥
 
 -- ---- counts, whatever is told
 -- the folder failed, and the script wasn't touched; or the script did, and the folder didn't
@@ -104,9 +102,11 @@ IsReadFault before after =
     (Rose before.folder_reads after.folder_reads × IsScriptLeft before after)
     ⊎ ((after.folder_reads ≡ before.folder_reads) × Rose before.script_reads after.script_reads)
 
--- a fault is the status only where a count of such faults rose, and where it isn't the status, none of these counts did
+-- a fault is the status only where a count of such faults rose, and where it isn't the status, none of these counts did; a fault of
+-- a read comes before anything is printed
 pub record IsCounted (before after : Outside) (ends : Status) : Type 0 where
   pub read_fault : ends ≡ status.ReadFault → IsReadFault before after
+  pub quiet : ends ≡ status.ReadFault → after.pieces ≡ before.pieces
   pub no_read_fault : ends ≢ status.ReadFault → (after.folder_reads ≡ before.folder_reads) × (after.script_reads ≡ before.script_reads)
   pub write_fault : ends ≡ status.WriteFault → Rose before.sink_writes after.sink_writes
   pub no_write_fault : ends ≢ status.WriteFault → after.sink_writes ≡ before.sink_writes

@@ -1,15 +1,37 @@
 -- The words of the command line.
-use Rattle.std.specs.Prelude.{ℕ, ◌-◌, if◌then◌else◌, ◌==◌, ◌&&◌, Bool, is_some, nat_le, List, [], ◌∷◌, length, take, drop, Option, Some, None, codes, map, String, string_bytes}
+use Rattle.std.specs.Prelude.{ℕ, ◌-◌, if◌then◌else◌, ◌==◌, ◌&&◌, Bool, is_some, nat_le, List, [], ◌∷◌, length, take, drop, Option, Some, None, codes, map, option_map, String, string_bytes}
 use Rattle.std.specs.Option.{option_and_then}
 use Rattle.std.specs.Global.{Global}
 use Rattle.std.specs.List.{list_all, slice_split}
 use Rattle.std.specs.Str.{bytes_eq}
 use Rattle.opensolver_cli.specs.declared.words.Named as words
+use Rattle.opensolver_cli.specs.declared.words.TheConstants.{DEFAULT_BUDGET}
 
 -- the file of the names and those of the sheets
 pub record Named : Type 0 where
   pub names : List ℕ
   pub sheets : List (List ℕ)
+
+-- which of the pickers chooses the next node of a search
+pub data Pick : Type 0 where
+  depth : Pick
+  best : Pick
+  oldest : Pick
+
+-- a script over files: how many units a search may spend, and its picker
+pub record Job : Type 0 where
+  pub named : Named
+  pub budget : ℕ
+  pub pick : Pick
+
+-- what the words ask for: a script over files, or the solve of a workbook of a size that is made up
+pub data Asked : Type 0 where
+  Script : (job : Job) → Asked
+  MadeUp : (size : ℕ) → Asked
+
+-- a script over files where nothing else is said
+abbrev pub plain_job : Named → Job
+plain_job named = record { named = named; budget = DEFAULT_BUDGET; pick = depth }
 
 -- the last part of a list of parts
 abbrev pub last_part : List (List ℕ) → List ℕ
@@ -40,6 +62,10 @@ abbrev pub files_named : List (List ℕ) → Option Named
 files_named (option ∷ names ∷ sheet ∷ more) =
     if bytes_eq option (codes "--names") && list_all is_sheet (sheet ∷ more) then Some (record { names = names; sheets = sheet ∷ more }) else None
 files_named _ = None
+
+-- what the words ask for; none where they are of another form
+abbrev pub asked_of : List (List ℕ) → Option Asked
+asked_of words = option_map (λ named. Script (plain_job named)) (files_named words)
 
 abbrev pub texts_of : List (String Global) → List (List ℕ)
 texts_of words = map string_bytes words

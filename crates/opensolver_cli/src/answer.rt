@@ -1,33 +1,32 @@
 // Answering the records of a script.
-ghost use Rattle.std.specs.Prelude.{◌≡◌, Some};
+ghost use Rattle.std.specs.Prelude.{◌≡◌, ◌≤◌, Some};
 ghost use Rattle.solver_io.specs.Bytes.{PutCause};
 ghost use Rattle.solver_io.specs.Files.{Files};
+ghost use Rattle.session.specs.States.{most_units};
 ghost use Rattle.opensolver_cli.specs.Answering.{AnswersRecord, AnswersRecords, IsSaid, IsSinkFault, Says};
 ghost use Rattle.opensolver_cli.specs.Headline.{setting_of};
-ghost use Rattle.opensolver_cli.specs.Words.{Named};
+ghost use Rattle.opensolver_cli.specs.Words.{Named, Pick};
 
 use crate::Status;
-use crate::script::command_of;
-use session::{Session, line};
+use session::{Command, Session, line};
 use sheet_csv::{Record, Rows};
 use solver_io::{PutEnd, Sink};
 use std::alloc::Global;
 use workbook::Workbook;
 
-/// How many units a solve may take.
-const BUDGET: u64 = 100_000;
-
-/// Answers each of the records, over a workbook that was opened.
+/// Answers each of the records, over a workbook that was opened, with this budget for a search.
 pub(crate) fn answer_records<K: Sink>(
     alloc: Global,
     book: Workbook,
+    budget: u64,
     rows: &Rows,
     out: &mut K,
 ) -> Status
-    ensures answers { (named : Named) (files : Files) → AnswersRecords (setting_of named book files) rows.now (K.pieces out.old) (K.pieces out.new) (Some files) result }
+    requires few { budget ≤ most_units }
+    ensures answers { (named : Named) (pick : Pick) (files : Files) → AnswersRecords (setting_of (record { named = named; budget = budget; pick = pick }) book files) rows.now (K.pieces out.old) (K.pieces out.new) (Some files) result }
     ensures cause { IsSinkFault (K.faults out.old) (K.faults out.new) result }
 {
-    let Ok(mut session) = Session::open(alloc, book, BUDGET) else {
+    let Ok(mut session) = Session::open(alloc, book, budget) else {
         return Status::Memory;
     };
     let mut refused = false;
@@ -52,11 +51,11 @@ fn answer_record<K: Sink>(
     fields: &Record,
     out: &mut K,
 ) -> Result<bool, PutEnd>
-    ensures answers { AnswersRecord session.old fields.now (K.pieces out.old) (K.pieces out.new) session.new result }
-    ensures sheets { session.new.book.sheets ≡ session.old.book.sheets }
+    ensures answers { AnswersRecord session.old.state fields.now (K.pieces out.old) (K.pieces out.new) session.new.state result }
+    ensures sheets { session.new.state.book.sheets ≡ session.old.state.book.sheets }
     ensures cause { PutCause (K.faults out.old) (K.faults out.new) result }
 {
-    let Ok(command) = command_of(alloc, fields) else {
+    let Ok(command) = Command::of(alloc, fields) else {
         return Err(PutEnd::Memory);
     };
     let Ok(answer) = session.apply(&command) else {

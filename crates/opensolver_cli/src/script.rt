@@ -1,12 +1,10 @@
 // Reading the script.
 ghost use Rattle.std.specs.Prelude.{◌≡◌, ◌≤◌, IfOk, IfSome, length};
-ghost use Rattle.commands.specs.Commands.{command_of, spoken};
 ghost use Rattle.opensolver_cli.specs.Inputs.{EndCause, FindsCommands, ReadsRecords, ReadsScript};
 
 use crate::stop::{Cause, End, Input, Limit, Stop};
 use cell_refs::FILE_BYTES;
-use session::{Command, Memory};
-use sheet_csv::{Record, Rows, SheetFault, read_records};
+use sheet_csv::{Rows, SheetFault, read_records};
 use solver_io::Source;
 use std::alloc::Global;
 
@@ -58,16 +56,5 @@ fn records(alloc: Global, script: &[u8]) -> Result<Rows, End>
         }
         Err(SheetFault::Memory) => Err(End::Memory),
         Err(_) => unreachable!(),
-    }
-}
-
-/// The command of a record.
-pub(crate) fn command_of(alloc: Global, fields: &Record) -> Result<Command, Memory>
-    ensures { IfOk result (λ c. spoken c ≡ command_of fields.now) }
-{
-    match fields.len() {
-        2 => Command::of(alloc, &[fields.text(0), fields.text(1)]),
-        3 => Command::of(alloc, &[fields.text(0), fields.text(1), fields.text(2)]),
-        _ => Ok(Command::Unknown),
     }
 }

@@ -8,7 +8,7 @@ ghost use Rattle.opensolver_cli.specs.Headline.{IsCounted, RunsAs};
 ghost use Rattle.opensolver_cli.specs.Inputs.{FindsAll, IsFaultOf, IsSourceLeft};
 ghost use Rattle.opensolver_cli.specs.Outside.{seen};
 ghost use Rattle.opensolver_cli.specs.Stops.{status_of, stop_line};
-ghost use Rattle.opensolver_cli.specs.Words.{files_named, is_sheet, named_of, texts_of};
+ghost use Rattle.opensolver_cli.specs.Words.{Script, asked_of, is_sheet, named_of, plain_job, texts_of};
 ghost use Rattle.opensolver_cli.specs.declared.stop.Stop.{Stop};
 
 use crate::Status;
@@ -16,7 +16,7 @@ use crate::answer::{answer_records, say};
 use crate::files::open_files;
 use crate::script::read_commands;
 use crate::stop::{End, Stop};
-use crate::words::{Named, named_files};
+use crate::words::{DEFAULT_BUDGET, Named, named_files};
 use sheet_csv::Rows;
 use solver_io::{Folder, Sink, Source};
 use std::alloc::Global;
@@ -33,11 +33,11 @@ pub fn run<F: Folder, S: Source, K: Sink>(
     script: &mut S,
     out: &mut K,
 ) -> Status
-    ensures headline { RunsAs (files_named (texts_of words.now))
+    ensures headline { RunsAs (asked_of (texts_of words.now))
         (seen (F.content folder.old) (F.read_faults folder.old) (F.write_faults folder.old) (S.left script.old) (S.faults script.old) (K.pieces out.old) (K.faults out.old))
         (seen (F.content folder.new) (F.read_faults folder.new) (F.write_faults folder.new) (S.left script.new) (S.faults script.new) (K.pieces out.new) (K.faults out.new))
         result }
-    ensures exactly { EndsExactly (files_named (texts_of words.now)) (F.content folder.old) (S.left script.old) result }
+    ensures exactly { EndsExactly (asked_of (texts_of words.now)) (F.content folder.old) (S.left script.old) result }
     ensures counts { IsCounted
         (seen (F.content folder.old) (F.read_faults folder.old) (F.write_faults folder.old) (S.left script.old) (S.faults script.old) (K.pieces out.old) (K.faults out.old))
         (seen (F.content folder.new) (F.read_faults folder.new) (F.write_faults folder.new) (S.left script.new) (S.faults script.new) (K.pieces out.new) (K.faults out.new))
@@ -60,11 +60,11 @@ fn run_named<F: Folder, S: Source, K: Sink>(
 ) -> Status
     requires some { 0 < length named.now.sheets.now }
     requires sheets { All (λ w. is_sheet (string_bytes w) ≡ true) named.now.sheets.now }
-    ensures headline { RunsAs (Some (named_of named.now))
+    ensures headline { RunsAs (Some (Script (plain_job (named_of named.now))))
         (seen (F.content folder.old) (F.read_faults folder.old) (F.write_faults folder.old) (S.left script.old) (S.faults script.old) (K.pieces out.old) (K.faults out.old))
         (seen (F.content folder.new) (F.read_faults folder.new) (F.write_faults folder.new) (S.left script.new) (S.faults script.new) (K.pieces out.new) (K.faults out.new))
         result }
-    ensures exactly { EndsExactly (Some (named_of named.now)) (F.content folder.old) (S.left script.old) result }
+    ensures exactly { EndsExactly (Some (Script (plain_job (named_of named.now)))) (F.content folder.old) (S.left script.old) result }
     ensures counts { IsCounted
         (seen (F.content folder.old) (F.read_faults folder.old) (F.write_faults folder.old) (S.left script.old) (S.faults script.old) (K.pieces out.old) (K.faults out.old))
         (seen (F.content folder.new) (F.read_faults folder.new) (F.write_faults folder.new) (S.left script.new) (S.faults script.new) (K.pieces out.new) (K.faults out.new))
@@ -72,7 +72,7 @@ fn run_named<F: Folder, S: Source, K: Sink>(
     ensures folder { F.content folder.new ≡ F.content folder.old }
 {
     match find(alloc, named, folder, script) {
-        Ok((book, rows)) => answer_records(alloc, book, &rows, out),
+        Ok((book, rows)) => answer_records(alloc, book, DEFAULT_BUDGET, &rows, out),
         Err(End::Stopped(stop)) => say_stop(alloc, named, stop, out),
         Err(End::Failed) => Status::ReadFault,
         Err(End::Memory) => Status::Memory,

@@ -3,6 +3,9 @@ ghost use Rattle.std.specs.Prelude.{◌≡◌, ◌==◌, ◌≢◌, ◌<◌, [],
 ghost use Rattle.std.specs.List.{list_all, slice_split};
 ghost use Rattle.opensolver_cli.specs.Words as line;
 
+/// How many units a search may spend where nothing is said.
+pub(crate) const DEFAULT_BUDGET: u64 = 100_000;
+
 /// The files that the words name.
 #[derive(Clone, Copy)]
 pub(crate) struct Named<'a> {
@@ -13,7 +16,7 @@ pub(crate) struct Named<'a> {
 
 /// The files of the words `--names FILE FILE...`; none where they aren't of this form.
 pub(crate) fn named_files(words: &[String]) -> Option<Named<'_>>
-    ensures named { option_map (λ n. line.named_of n) result ≡ line.files_named (line.texts_of words.now) }
+    ensures asked { option_map (λ n. line.Script (line.plain_job (line.named_of n))) result ≡ line.asked_of (line.texts_of words.now) }
     ensures some { IfSome result (λ n. 0 < length n.sheets.now) }
     ensures sheets { IfSome result (λ n. All (λ w. line.is_sheet (string_bytes w) ≡ true) n.sheets.now) }
 {

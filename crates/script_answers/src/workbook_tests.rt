@@ -1,16 +1,20 @@
 // What no script shows of workbooks and answers. What is expected follows from the rules by hand.
-ghost use Rattle.std.specs.Prelude.{◌≡◌, ◌<◌, IfOk, length};
+ghost use Rattle.std.specs.Prelude.{◌≡◌, ◌<◌, All, IfOk, length, string_bytes};
+ghost use Rattle.workbook.specs.Listed.{IsListed};
+ghost use Rattle.workbook.specs.Several.{IsField};
 ghost use Rattle.workbook.specs.Replacing.{CanReplace};
 ghost use Rattle.workbook.specs.State.{is_formula_text};
 
-use cell_refs::{Cell, SheetId, SheetNames, Span};
+use cell_refs::{COLUMNS, Cell, ROWS, SheetId, SheetNames, Span};
 use commands::{Answer, Command, line};
 use formula_ast::Node;
 use frac128::Frac;
+use indexmap::IndexSet;
+use sheet_csv::Rows;
 use sheet_model::Text;
 use std::alloc::Global;
 use std::test::Fail;
-use workbook::{EditFault, File, Kind, Workbook};
+use workbook::{Adj, AllFault, DECISIONS, EditFault, File, Kind, Workbook};
 
 fn at(sheet: u8, row: u16, col: u16) -> Cell {
     Cell {
@@ -193,6 +197,127 @@ fn texts_that_are_replaced(rt: HostRuntime) -> Result<(), Fail> {
     Ok(())
 }
 
+// Fails where a cell lies on no sheet.
+fn inside(workbook: &Workbook, cell: Cell) -> Result<(), Fail>
+    ensures { IfOk result (λ _. IsListed workbook.now.sheets cell) }
+{
+    let count = workbook.sheets().len();
+    if usize::from(cell.sheet.0) >= count || cell.row >= ROWS || cell.col >= COLUMNS {
+        return Err(Fail::new("the cell lies on no sheet"));
+    }
+    Ok(())
+}
+
+// Fails where one of the cells lies on no sheet.
+fn all_inside(workbook: &Workbook, cells: &[Cell]) -> Result<(), Fail>
+    ensures { IfOk result (λ _. All (IsListed workbook.now.sheets) cells.now) }
+{
+    let [cell, later @ ..] = cells else {
+        return Ok(());
+    };
+    inside(workbook, *cell)?;
+    all_inside(workbook, later)
+}
+
+// Fails where one of the texts can't be that of a cell.
+fn all_fields(texts: &[String]) -> Result<(), Fail>
+    ensures { IfOk result (λ _. All (λ text. IsField (string_bytes text)) texts.now) }
+{
+    let [text, later @ ..] = texts else {
+        return Ok(());
+    };
+    if text.is_empty() || text.len() > 1000 {
+        return Err(Fail::new("the text can be that of no cell"));
+    }
+    all_fields(later)
+}
+
+// Puts texts into cells that are given with them.
+fn put_all(
+    alloc: Global,
+    workbook: &mut Workbook,
+    pairs: &[(Cell, &str)],
+) -> Result<Result<(), AllFault>, Fail> {
+    let mut cells = IndexSet::new(alloc);
+    let mut texts = Vec::new(alloc);
+    for (cell, text) in pairs {
+        cells.insert(*cell)?;
+        texts.push(String::from_str(alloc, text)?)?;
+    }
+    if cells.len() > DECISIONS || texts.len() != cells.len() {
+        return Err(Fail::new("the cells are not one for each text"));
+    }
+    let adj = Adj::new(cells);
+    all_inside(workbook, adj.cells())?;
+    all_fields(&texts)?;
+    Ok(workbook.set_all(&adj, &texts))
+}
+
+// A workbook with one text less than there may be: 16 in each row of a sheet, and 15 in the last.
+fn nearly_full(alloc: Global) -> Result<Workbook, Fail> {
+    let mut plan = Vec::new(alloc);
+    for _ in 0..4095 {
+        plan.extend_from_slice(b"1,1,1,1,1,1,1,1,1,1,1,1,1,1,1,1\n")?;
+    }
+    plan.extend_from_slice(b"1,1,1,1,1,1,1,1,1,1,1,1,1,1,1\n")?;
+    if plan.len() > 200_000 {
+        return Err(Fail::new("the file is too long"));
+    }
+    let mut files = Vec::new(alloc);
+    files.push(File::new(String::from_str(alloc, "plan")?, plan))?;
+    match Workbook::open(alloc, &files, b"") {
+        Ok(workbook) => Ok(workbook),
+        Err(_) => Err(Fail::new("it is not opened")),
+    }
+}
+
+#[test]
+fn a_second_text_without_room(rt: HostRuntime) -> Result<(), Fail> {
+    let mut workbook = nearly_full(rt.alloc())?;
+    let pairs = [
+        (at(0, 4095, 15), "2"),
+        (at(0, 4095, 16), "3"),
+        (at(0, 0, 0), "4"),
+    ];
+    match put_all(rt.alloc(), &mut workbook, &pairs)? {
+        Err(AllFault::NoRoom(cell)) => assert!(rt; cell == at(0, 4095, 16)),
+        _ => return Err(Fail::new("there is room")),
+    }
+    for (cell, text) in [
+        (at(0, 4095, 15), ""),
+        (at(0, 4095, 16), ""),
+        (at(0, 0, 0), "1"),
+    ] {
+        assert!(rt; workbook.content(cell) == text);
+    }
+    assert!(rt; workbook.texts() == 65_535);
+    Ok(())
+}
+
+#[test]
+fn texts_that_are_put_into_several_cells(rt: HostRuntime) -> Result<(), Fail> {
+    let mut workbook = opened(rt.alloc())?;
+    let pairs = [
+        (at(0, 2, 1), "=7/3"),
+        (at(1, 4, 0), "TRUE"),
+        (at(0, 0, 0), "x"),
+    ];
+    let put = put_all(rt.alloc(), &mut workbook, &pairs)?;
+    assert!(rt; put.is_ok());
+    for (cell, text, want) in [
+        (at(0, 2, 1), "=7/3", Kind::Formula),
+        (at(1, 4, 0), "TRUE", Kind::Logical(true)),
+        (at(0, 0, 0), "x", Kind::Plain),
+        (at(0, 0, 2), "x", Kind::Plain),
+        (at(0, 0, 1), "", Kind::Empty),
+    ] {
+        assert!(rt; workbook.content(cell) == text);
+        assert!(rt; workbook.kind(cell) == want);
+    }
+    assert!(rt; workbook.texts() == 5);
+    Ok(())
+}
+
 #[test]
 fn lines_that_no_script_shows(rt: HostRuntime) -> Result<(), Fail> {
     let sheets = SheetNames::new(rt.alloc());
@@ -206,7 +331,20 @@ fn lines_that_no_script_shows(rt: HostRuntime) -> Result<(), Fail> {
         assert!(rt; found.as_str() == want, "{want}");
         assert!(rt; !answer.is_refusal(), "{want}");
     }
-    let command = Command::of(rt.alloc(), &[])?;
-    assert!(rt; matches!(command, Command::Unknown));
+    Ok(())
+}
+
+#[test]
+fn records_that_are_no_commands(rt: HostRuntime) -> Result<(), Fail> {
+    let mut rows = Rows::new(rt.alloc());
+    rows.add(&[])?;
+    rows.add(&["solve"])?;
+    rows.add(&["Solve", "plan"])?;
+    rows.add(&["show", "plan!A1", "7"])?;
+    rows.add(&["set", "plan!A1", "7", ""])?;
+    for place in 0..rows.len() {
+        let command = Command::of(rt.alloc(), rows.at(place))?;
+        assert!(rt; matches!(command, Command::Unknown), "{place}");
+    }
     Ok(())
 }

@@ -1,2 +1,4 @@
 pub mod States
+pub mod Edits
 pub mod Steps
+pub mod Interrupted

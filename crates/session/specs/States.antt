@@ -1,6 +1,7 @@
 -- A session: a workbook, and what is kept beside it while commands are applied.
-use Rattle.std.specs.Prelude.{ℕ, Bool, true, false, List, length, replicate, slice_set, refl}
+use Rattle.std.specs.Prelude.{◌≡◌, ◌≤◌, ℕ, Bool, true, false, List, [], ◌∷◌, length, replicate, slice_set, refl}
 use Rattle.std.specs.Coded.{Coded, code_by, coded×, coded_list, coded_ℕ, coded_bool}
+use Rattle.cell_refs.specs.declared.cell.Cell.{Cell}
 use Rattle.workbook.specs.State.{State}
 use Rattle.workbook.specs.Codes.{state_code}
 
@@ -9,12 +10,22 @@ pub record Changes : Type 0 where
   pub sheets : List Bool
   pub names : Bool
 
--- the workbook, the files that have changed, and how many units a solve may take
+-- the workbook, the files that have changed, and how many units a search may spend
 pub record SessionState : Type 0 where
   pub book : State
   pub changed : Changes
   pub budget : ℕ
 
+-- a session as a contract sees it: its state; what is kept beside the state changes no answer
+pub record Session : Type 0 where
+  pub state : SessionState
+
+-- ---- limits
+-- the greatest budget
+abbrev pub most_units : ℕ
+most_units = 1000000
+
+-- ---- changes of one part; all other parts stay as they were
 -- no file has changed
 abbrev pub none_changed : ℕ → Changes
 none_changed sheets = record { sheets = replicate sheets false; names = false }
@@ -23,15 +34,38 @@ none_changed sheets = record { sheets = replicate sheets false; names = false }
 abbrev pub opened : State → ℕ → SessionState
 opened book budget = record { book = book; changed = none_changed (length book.sheets); budget = budget }
 
--- one more sheet has changed
-abbrev pub with_change : ℕ → Changes → Changes
-with_change sheet changed = record { sheets = slice_set changed.sheets sheet true; names = changed.names }
+abbrev pub with_book : SessionState → State → SessionState
+with_book s book = record s { book = book }
+
+-- the file of a sheet counts as changed
+abbrev pub mark_sheet : Changes → ℕ → Changes
+mark_sheet changed sheet = record changed { sheets = slice_set changed.sheets sheet true }
+
+-- the files of the sheets of these cells do
+abbrev pub mark_cells : Changes → List Cell → Changes
+mark_cells changed [] = changed
+mark_cells changed (c ∷ cells) = mark_cells (mark_sheet changed c.sheet.0) cells
+
+abbrev pub with_changed : SessionState → List Cell → SessionState
+with_changed s cells = record s { changed = mark_cells s.changed cells }
+
+abbrev pub with_sheet_changed : SessionState → ℕ → SessionState
+with_sheet_changed s sheet = record s { changed = mark_sheet s.changed sheet }
+
+-- ---- what always holds
+-- each sheet counts as changed or doesn't, and the budget is none that is too great
+pub record IsSession (s : SessionState) : Type 0 where
+  pub sheets : length s.changed.sheets ≡ length s.book.sheets
+  pub budget : s.budget ≤ most_units
 
 -- ---- codes
 abbrev pub changes_code : Coded Changes
 changes_code = code_by (List Bool × Bool) (coded× (coded_list coded_bool) coded_bool) (λ c. (c.sheets, c.names)) (λ p. record { sheets = p.0; names = p.1 }) (λ _. refl)
 
-abbrev pub session_code : Coded SessionState
-session_code =
+abbrev pub state_of_session_code : Coded SessionState
+state_of_session_code =
     code_by (State × (Changes × ℕ)) (coded× state_code (coded× changes_code coded_ℕ))
     (λ s. (s.book, (s.changed, s.budget))) (λ p. record { book = p.0; changed = p.1.0; budget = p.1.1 }) (λ _. refl)
+
+abbrev pub session_code : Coded Session
+session_code = code_by SessionState state_of_session_code (λ s. s.state) (λ s. record { state = s }) (λ _. refl)

@@ -1,12 +1,12 @@
 // A session: a workbook and the commands on it.
 ghost use Rattle.std.specs.Prelude.{◌≡◌, ◌≤◌, ◌<◌, IfOk, OnErr, false, length};
-ghost use Rattle.cell_refs.specs.Names.{place_in};
-ghost use Rattle.workbook.specs.Edits.{is_outside};
-ghost use Rattle.commands.specs.Commands.{spoken};
+ghost use Rattle.workbook.specs.Edits.{is_outside, set_fault};
+ghost use Rattle.commands.specs.Commands.{Clear, Set, Show, Solve, spoken};
 ghost use Rattle.commands.specs.Lines.{CanBeSaid};
-ghost use Rattle.commands.specs.Locating.{cell_named};
-ghost use Rattle.session.specs.States.{opened, with_change};
-ghost use Rattle.session.specs.Steps.{AtCell, Clears, Puts, Shows, SolvesNamed, SolvesSheet, Step};
+ghost use Rattle.session.specs.Edits.{unless};
+ghost use Rattle.session.specs.Interrupted.{IsInterrupted, TakesMemory};
+ghost use Rattle.session.specs.States.{IsSession, most_units, opened};
+ghost use Rattle.session.specs.Steps.{Applies, Does, IsDone, Shows, SolvesPlain, with_text};
 
 use cell_refs::{Cell, SheetId, SheetNames};
 use commands::{Answer, Command, Memory, locate};
@@ -29,27 +29,32 @@ pub struct Session {
 }
 
 impl Model for Session {
-    ghost use Rattle.std.specs.Prelude.{◌≡◌, length};
-    ghost use Rattle.session.specs.States.{SessionState, session_code};
+    ghost use Rattle.session.specs.States.{IsSession, Session, session_code};
 
-    ghost Value = { SessionState };
+    ghost Value = { Session };
 
     ghost coded = { session_code };
 
     ghost view = { λ s. record {
+      state = record {
+        book = s.book;
+        changed = record { sheets = s.changed_sheets.items; names = s.changed_names };
+        budget = s.budget;
+      };
+    } };
+
+    ghost invariant = { λ s. IsSession (record {
       book = s.book;
       changed = record { sheets = s.changed_sheets.items; names = s.changed_names };
       budget = s.budget;
-    } };
-
-    ghost invariant = { λ s. length s.changed_sheets.items ≡ length s.book.sheets };
+    }) };
 }
 
 impl Session {
     /// A session over a workbook that was opened from files.
     pub fn open(alloc: Global, book: Workbook, budget: u64) -> Result<Session, Memory>
-        requires { budget ≤ 1000000 }
-        ensures { IfOk result (λ session. session ≡ opened book budget) }
+        requires { budget ≤ most_units }
+        ensures { IfOk result (λ session. session ≡ record { state = opened book budget }) }
     {
         let mut changed_sheets = Vec::new(alloc);
         changed_sheets.resize(book.sheets().len(), false)?;
@@ -64,17 +69,17 @@ impl Session {
 
     /// The names of the workbook's sheets.
     pub fn sheets(&self) -> &SheetNames
-        ensures { result.now ≡ self.now.book.sheets }
+        ensures { result.now ≡ self.now.state.book.sheets }
     {
         self.book.sheets()
     }
 
-    /// Does what the command says. On want of memory nothing has changed.
+    /// Does what the command says.
     pub fn apply(&mut self, command: &Command) -> Result<Answer, Memory>
-        ensures step { IfOk result (λ answer. Step self.old (spoken command.now) answer self.new) }
-        ensures said { IfOk result (CanBeSaid self.old.book.sheets) }
-        ensures sheets { self.new.book.sheets ≡ self.old.book.sheets }
-        ensures memory { OnErr result (self.new ≡ self.old) }
+        ensures step { IfOk result (λ answer. Applies self.old.state (spoken command.now) answer self.new.state) }
+        ensures said { IfOk result (CanBeSaid self.old.state.book.sheets) }
+        ensures sheets { self.new.state.book.sheets ≡ self.old.state.book.sheets }
+        ensures memory { OnErr result (IsInterrupted self.old.state (spoken command.now) self.new.state) }
     {
         match command {
             Command::Set(address, text) => self.set(address.as_str(), text.as_str()),
@@ -87,42 +92,46 @@ impl Session {
 
     // Puts a text into the cell that is named.
     fn set(&mut self, address: &str, text: &str) -> Result<Answer, Memory>
-        ensures step { IfOk result (λ answer. AtCell (Puts text.now) self.old (cell_named self.old.book.sheets address.now) answer self.new) }
-        ensures said { IfOk result (CanBeSaid self.old.book.sheets) }
-        ensures memory { OnErr result (self.new ≡ self.old) }
+        ensures step { IfOk result (λ answer. Applies self.old.state (Set address.now text.now) answer self.new.state) }
+        ensures said { IfOk result (CanBeSaid self.old.state.book.sheets) }
+        ensures sheets { self.new.state.book.sheets ≡ self.old.state.book.sheets }
+        ensures memory { OnErr result (IsInterrupted self.old.state (Set address.now text.now) self.new.state) }
     {
         match locate(self.alloc, self.book.sheets(), address)? {
             Ok(cell) => self.put(cell, text),
-            Err(refusal) => Ok(refusal.answer()),
+            Err(answer) => Ok(answer),
         }
     }
 
     // Puts a text into a cell.
     fn put(&mut self, cell: Cell, text: &str) -> Result<Answer, Memory>
-        requires listed { cell.sheet.0 < length self.old.book.sheets }
-        requires inside { is_outside cell ≡ false }
-        ensures step { IfOk result (λ answer. Puts text.now self.old cell answer self.new) }
-        ensures said { IfOk result (CanBeSaid self.old.book.sheets) }
-        ensures memory { OnErr result (self.new ≡ self.old) }
+        requires listed { cell.sheet.0 < length self.old.state.book.sheets }
+        ensures step { IfOk result (λ answer. Does (λ c. IsDone (with_text self.old.state c text.now)) self.old.state (unless (set_fault self.old.state.book cell text.now) cell) answer self.new.state) }
+        ensures said { IfOk result (CanBeSaid self.old.state.book.sheets) }
+        ensures sheets { self.new.state.book.sheets ≡ self.old.state.book.sheets }
+        ensures memory { OnErr result (self.new.state ≡ self.old.state) }
     {
         match self.book.set(cell, text) {
             Ok(()) => {
                 self.changed_sheets[usize::from(cell.sheet.0)] = true;
                 Ok(Answer::Done)
             }
+            Err(EditFault::OutOfSheet) => Ok(Answer::OutOfSheet),
             Err(EditFault::FieldTooLong) => Ok(Answer::FieldTooLong),
             Err(EditFault::TooManyCells) => Ok(Answer::TooManyCells),
             Err(EditFault::TooManyFormulas) => Ok(Answer::TooManyFormulas),
+            Err(EditFault::BadName) => Ok(Answer::BadName),
+            Err(EditFault::TooManyNames) => Ok(Answer::TooManyNames),
             Err(EditFault::Memory) => Err(Memory),
-            Err(_) => unreachable!(),
         }
     }
 
     // Takes away the text of the cell that is named.
     fn clear(&mut self, address: &str) -> Result<Answer, Memory>
-        ensures step { IfOk result (λ answer. AtCell Clears self.old (cell_named self.old.book.sheets address.now) answer self.new) }
-        ensures said { IfOk result (CanBeSaid self.old.book.sheets) }
-        ensures memory { OnErr result (self.new ≡ self.old) }
+        ensures step { IfOk result (λ answer. Applies self.old.state (Clear address.now) answer self.new.state) }
+        ensures said { IfOk result (CanBeSaid self.old.state.book.sheets) }
+        ensures sheets { self.new.state.book.sheets ≡ self.old.state.book.sheets }
+        ensures memory { OnErr result (IsInterrupted self.old.state (Clear address.now) self.new.state) }
     {
         match locate(self.alloc, self.book.sheets(), address)? {
             Ok(cell) => {
@@ -130,25 +139,26 @@ impl Session {
                 self.changed_sheets[usize::from(cell.sheet.0)] = true;
                 Ok(Answer::Done)
             }
-            Err(refusal) => Ok(refusal.answer()),
+            Err(answer) => Ok(answer),
         }
     }
 
     // Shows the cell that is named.
     fn show(&self, address: &str) -> Result<Answer, Memory>
-        ensures step { IfOk result (λ answer. AtCell Shows self.now (cell_named self.now.book.sheets address.now) answer self.now) }
-        ensures said { IfOk result (CanBeSaid self.now.book.sheets) }
+        ensures step { IfOk result (λ answer. Applies self.now.state (Show address.now) answer self.now.state) }
+        ensures said { IfOk result (CanBeSaid self.now.state.book.sheets) }
+        ensures memory { OnErr result (IsInterrupted self.now.state (Show address.now) self.now.state) }
     {
         match locate(self.alloc, self.book.sheets(), address)? {
             Ok(cell) => self.shown(cell),
-            Err(refusal) => Ok(refusal.answer()),
+            Err(answer) => Ok(answer),
         }
     }
 
     // The value of a cell, or the wide cell.
     fn shown(&self, cell: Cell) -> Result<Answer, Memory>
-        ensures step { IfOk result (λ answer. Shows self.now cell answer self.now) }
-        ensures said { IfOk result (CanBeSaid self.now.book.sheets) }
+        ensures step { IfOk result (λ answer. Shows self.now.state cell answer self.now.state) }
+        ensures said { IfOk result (CanBeSaid self.now.state.book.sheets) }
     {
         self.book.texts_are_listed();
         let deps = Deps::open(self.alloc, &self.book)?;
@@ -160,9 +170,10 @@ impl Session {
 
     // Solves the sheet that is named.
     fn solve(&mut self, name: &str) -> Result<Answer, Memory>
-        ensures step { IfOk result (λ answer. SolvesNamed self.old (place_in self.old.book.sheets name.now) answer self.new) }
-        ensures said { IfOk result (CanBeSaid self.old.book.sheets) }
-        ensures memory { OnErr result (self.new ≡ self.old) }
+        ensures step { IfOk result (λ answer. Applies self.old.state (Solve name.now) answer self.new.state) }
+        ensures said { IfOk result (CanBeSaid self.old.state.book.sheets) }
+        ensures sheets { self.new.state.book.sheets ≡ self.old.state.book.sheets }
+        ensures memory { OnErr result (IsInterrupted self.old.state (Solve name.now) self.new.state) }
     {
         match self.book.sheets().find(name) {
             Some(sheet) => self.solve_sheet(sheet),
@@ -172,10 +183,11 @@ impl Session {
 
     // Solves a sheet.
     fn solve_sheet(&mut self, sheet: SheetId) -> Result<Answer, Memory>
-        requires listed { sheet.0 < length self.old.book.sheets }
-        ensures step { IfOk result (λ answer. SolvesSheet self.old sheet answer self.new) }
-        ensures said { IfOk result (CanBeSaid self.old.book.sheets) }
-        ensures memory { OnErr result (self.new ≡ self.old) }
+        requires listed { sheet.0 < length self.old.state.book.sheets }
+        ensures step { IfOk result (λ answer. SolvesPlain self.old.state sheet.0 answer self.new.state) }
+        ensures said { IfOk result (CanBeSaid self.old.state.book.sheets) }
+        ensures sheets { self.new.state.book.sheets ≡ self.old.state.book.sheets }
+        ensures memory { OnErr result (self.new.state ≡ self.old.state) }
     {
         match solve(self.alloc, &mut self.book, sheet)? {
             Solved::Optimal(value) => {

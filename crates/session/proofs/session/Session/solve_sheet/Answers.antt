@@ -17,3 +17,13 @@ returns-in-Infeasible-clause-step c =
       budget = c.self.inside.budget;
     } in
     rw (← c.self.view_is) ((refl, solves.1), ap same solves.0)
+
+pub returns-in-NotPlain-clause-step : goal.returns-in-NotPlain-clause-step
+returns-in-NotPlain-clause-step c =
+    let solves = rw c.in-NotPlain.is at c.in_ok-value.ensures.solves in
+    let same : State → SessionState = λ book. record {
+      book = book;
+      changed = record { sheets = c.self.inside.changed_sheets.items; names = c.self.inside.changed_names };
+      budget = c.self.inside.budget;
+    } in
+    rw (← c.self.view_is) ((refl, solves.1), ap same solves.0)

@@ -1,0 +1,6 @@
+use Rattle.std.proofs.Common.{length}
+use Rattle.script_answers.proofs.workbook_tests.+all_fields.Given as goal
+
+-- fewer are left
+abbrev pub decreases-all_fields : goal.decreases-all_fields
+decreases-all_fields l = length l.texts.now

@@ -1,0 +1,6 @@
+use Rattle.std.proofs.Common.{length}
+use Rattle.script_answers.proofs.workbook_tests.+all_inside.Given as goal
+
+-- fewer are left
+abbrev pub decreases-all_inside : goal.decreases-all_inside
+decreases-all_inside l = length l.cells.now

@@ -1,0 +1,33 @@
+-- What edits name, or the first cause why they are refused.
+use Rattle.std.specs.Prelude.{ℕ, List, Option, Some, None, Result, Ok, Err}
+use Rattle.cell_refs.specs.declared.cell.Cell.{Cell}
+use Rattle.workbook.specs.declared.fault.EditFault.{EditFault}
+use Rattle.workbook.specs.declared.fault.EditFault.TheVariants as fault
+use Rattle.workbook.specs.Edits.{set_fault}
+use Rattle.workbook.specs.State.{State}
+use Rattle.commands.specs.declared.answer.Answer.{Answer}
+use Rattle.commands.specs.declared.answer.Answer.TheVariants as answer
+use Rattle.commands.specs.Locating.{cell_named}
+
+-- what comes next, where nothing has been refused
+abbrev pub and_then : {A B : Type 0} → Result A Answer → (A → Result B Answer) → Result B Answer
+and_then (Ok x) f = f x
+and_then (Err a) f = Err a
+
+-- the answer for a fault of the workbook; want of memory is none of the faults that are looked for
+abbrev pub refused : EditFault → Answer
+refused fault.OutOfSheet = answer.OutOfSheet
+refused fault.FieldTooLong = answer.FieldTooLong
+refused fault.TooManyCells = answer.TooManyCells
+refused fault.TooManyFormulas = answer.TooManyFormulas
+refused fault.BadName = answer.BadName
+refused fault.TooManyNames = answer.TooManyNames
+refused fault.Memory = answer.Done
+
+abbrev pub unless : {A : Type 0} → Option EditFault → A → Result A Answer
+unless None x = Ok x
+unless (Some f) x = Err (refused f)
+
+-- the cell that gets a text
+abbrev pub cell_to_set : State → List ℕ → List ℕ → Result Cell Answer
+cell_to_set book address text = and_then (cell_named book.sheets address) (λ cell. unless (set_fault book cell text) cell)
