@@ -85,10 +85,10 @@ itself_fits a q = let m : Equal ≡ Greater = sym (tied_itself cells_total a) �
 
 module _ (forms : Cell → Option Abs) where
   -- the least of some cells that have no form
-  record IsLeast (cells : List Cell) (b : Cell) : Type 0 where
-    there : Contains cells b
-    without : forms b ≡ None
-    least : (c : Cell) → Contains cells c → forms c ≡ None → cell_cmp b c ≢ Greater
+  pub record IsLeast (cells : List Cell) (b : Cell) : Type 0 where
+    pub there : Contains cells b
+    pub without : forms b ≡ None
+    pub least : (c : Cell) → Contains cells c → forms c ≡ None → cell_cmp b c ≢ Greater
 
   first_or_later : (P : Cell → Type 0) (a : Cell) (cells : List Cell) → P a → ((c : Cell) → Contains cells c → P c) → (c : Cell) → Contains (a ∷ cells) c → P c
   first_or_later P a cells h k c (zero, i, e) = subst P e h
@@ -111,7 +111,7 @@ module _ (forms : Cell → Option Abs) where
       rest None l h = cc
       rest (Some f) l h = h
 
-  least_is : (cells : List Cell) (b : Cell) → least_without forms cells ≡ Some b → IsLeast cells b
+  pub least_is : (cells : List Cell) (b : Cell) → least_without forms cells ≡ Some b → IsLeast cells b
   least_is [] b h = cc
   least_is (a ∷ cells) b h = by (forms a) refl (least_without forms cells) refl (λ c e. least_is cells c e) h
     where
@@ -163,7 +163,7 @@ module _ (book : Book) (decisions : Decisions) where
   not_circle b q = ap (λ e. is_formula e && (not (leaf b) && has_walk (keys book.texts) (steps_to book leaf) (length (keys book.texts)) b)) q
 
   -- a cell without a form isn't to be decided, and has a text
-  no_form : (b : Cell) → forms_of book decisions b ≡ None → (decisions b ≡ None) × (contains_key book.texts b ≡ true)
+  pub no_form : (b : Cell) → forms_of book decisions b ≡ None → (decisions b ≡ None) × (contains_key book.texts b ≡ true)
   no_form b h = by (decisions b) (is_circular book leaf b) (entry book b) refl (λ q. not_circle b q) (sym (ap form_in (form_is book decisions b)) ∙ h)
     where
       there : (e : Entry) → entry book b ≡ Some e → contains_key book.texts b ≡ true

@@ -1,11 +1,11 @@
 -- The forms of the cells of a workbook over some decision cells: the layer over the forms of the others, unfolded once more than there
 -- are texts, as recalculation is.
-use Rattle.std.specs.Prelude.{ℕ, suc, if◌then◌else◌, List, [], ◌∷◌, length, slice_index_or, Option, Some, None, is_some, option_map}
+use Rattle.std.specs.Prelude.{ℕ, suc, if◌then◌else◌, List, [], ◌∷◌, length, position, slice_index_or, Option, Some, None, is_some, option_map}
 use Rattle.std.specs.FinMap.{keys}
 use Rattle.std.specs.Ordering.{is_lt}
 use Rattle.fractions.specs.Rational.{zero_ℚ}
 use Rattle.cell_refs.specs.declared.cell.Cell.{Cell}
-use Rattle.cell_refs.specs.Cells.{cell_cmp}
+use Rattle.cell_refs.specs.Cells.{cell_cmp, is_same_cell}
 use Rattle.formula_ast.specs.Tree.{Tree}
 use Rattle.sheet_model.specs.declared.value.Value.TheVariants.{Number, Empty}
 use Rattle.recalculation.specs.Entries.{Book, Entry, Constant, Formula, Malformed, Overriding, entry}
@@ -30,6 +30,10 @@ form_in _ = None
 -- the number of a decision cell
 abbrev pub Decisions : Type 0
 Decisions = Cell → Option ℕ
+
+-- the number, from 0 on, of a cell in a list of decision cells
+abbrev pub numbered_in : List Cell → Decisions
+numbered_in decisions a = position (is_same_cell a) decisions
 
 -- an assignment puts its numbers in the place of the decision cells
 abbrev pub overriding : Decisions → Assignment → Overriding

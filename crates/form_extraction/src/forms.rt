@@ -1,6 +1,6 @@
 // What the extraction of a form comes to.
 use cell_refs::Span;
-use form_values::Abs;
+use form_values::{Abs, AbsArg};
 use workbook::Place;
 
 /// Why a part of a formula is refused.
@@ -12,6 +12,16 @@ pub enum Why {
     Undecided,
     /// A number in the calculation of the part isn't narrow.
     Wide,
+}
+
+/// What a part of a formula comes to.
+#[derive(Drop)]
+pub enum Outcome {
+    Gives(AbsArg),
+    /// What is refused, by its place in the text.
+    Refused(Span, Why),
+    /// A cell at which the part looks has no form.
+    Without,
 }
 
 /// The form of a cell or of a side.

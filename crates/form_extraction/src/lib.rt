@@ -8,7 +8,7 @@ ghost use Rattle.form_extraction.specs.Laws.{AffineIsTheNumber, CircleIsCircular
 ghost use Rattle.form_extraction.specs.Looked.{BlockedByLeast, LookedIsReferred, SideIsTheValue, SideOfCircle, SideOfNoCircle, SideRefusalsAreRight};
 ghost use Rattle.form_extraction.specs.Refuted.{RefusalsAreRight};
 
-pub use forms::{CellForm, Why};
+pub use forms::{CellForm, Outcome, Why};
 
 /// Under every assignment of numbers to the decision cells the form of a cell has the value of the cell.
 pub fn value_laws()

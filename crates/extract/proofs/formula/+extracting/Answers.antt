@@ -1,0 +1,89 @@
+-- Each part of an expression, and the arguments one by one.
+use Rattle.std.proofs.Common.{arith, ap, sym, subst, ◌∙◌, ◌≡◌, IfOk, Some, length}
+use Rattle.formula_ast.proofs.Parts.{node_count-le, listed-map}
+use Rattle.formula_ast.specs.Functions.{Takes}
+use Rattle.formula_ast.specs.Sound.{IsSound}
+use Rattle.formula_ast.specs.Tree.{trees}
+use Rattle.formula_ast.specs.View.{tree_of}
+use Rattle.recalculation.specs.Evaluation.{grid_of_areas}
+use Rattle.form_table.specs.Operators.{minus_form, percent_form}
+use Rattle.form_extraction.specs.declared.forms.Outcome.TheVariants.{Without}
+use Rattle.form_extraction.specs.Formulas.{call_part, joined, part_of, parts_of, referred, turned}
+use Rattle.form_parts.specs.Steps.{unread}
+use Rattle.extract.specs.Unread.{read_at, table_place, unread_at}
+use Rattle.extract.proofs.Nodes.{unread_go, parts-count, of_node}
+use Rattle.extract.proofs.Unread.{call_unread, unread_length}
+use Rattle.extract.proofs.formula.+extracting.Goals as goal
+
+pub arguments-argument-requires : goal.arguments-argument-requires
+arguments-argument-requires g t c κs within =
+    (omega (arith, node_count-le c.args.exprs.now c.loop-index.index c.index-exprs-index.result c.loop-index-test.true c.index-exprs-index.is), within)
+
+pub arguments-loop-index-preserved : goal.arguments-loop-index-preserved
+arguments-loop-index-preserved g t c =
+    let forms = g.C.FormsOfCells.forms c.args.forms.now in
+    unread_go forms (table_place c.args.function) c.args.exprs.now c.loop-index.index c.index-exprs-index.result c.loop-index.parts.items _ _ c.loop-index-test.true c.index-exprs-index.is c.loop-index.invariant
+    (c.in_ok-argument.ensures ∙ ap (λ b. read_at b (part_of forms c.index-exprs-index.result)) c.is_table.ensures) c.in_ok-push.ensures.items
+
+pub argument-returns-in-Reference : goal.argument-returns-in-Reference
+argument-returns-in-Reference g t c =
+    let forms = g.C.FormsOfCells.forms c.args.forms.now in
+    subst (λ part. IfOk c.table_part.result (λ p. p ≡ part))
+    (ap (λ areas. record { span = c.expr.inside.span; looks = (grid_of_areas areas).cells; outcome = Without; reference = Some (grid_of_areas areas) }) (c.deref.ensures.value ∙ sym (listed-map c.in-Reference.areas.items))
+    ∙ sym (ap unread (of_node forms c.args.expr.now c.expr.inside.span c.expr.inside.node _ c.expr.view_is c.in-Reference.is))
+    ∙ ap (λ b. read_at b (part_of forms c.args.expr.now)) (sym c.if-is_table.true))
+    c.table_part.ensures
+
+pub form_part-returns-in-Reference : goal.form_part-returns-in-Reference
+form_part-returns-in-Reference g t c =
+    let forms = g.C.FormsOfCells.forms c.args.forms.now in
+    subst (λ part. IfOk c.reference_part.result (λ p. p ≡ part))
+    (ap (λ areas. referred forms c.expr.inside.span (grid_of_areas areas)) (c.deref-in-Reference.ensures.value ∙ sym (listed-map c.in-Reference.areas.items))
+    ∙ sym (of_node forms c.args.expr.now c.expr.inside.span c.expr.inside.node _ c.expr.view_is c.in-Reference.is))
+    c.reference_part.ensures
+
+-- a call has as many arguments as its function takes
+pub form_part-call_part-requires : goal.form_part-call_part-requires
+form_part-call_part-requires g t c =
+    let forms = g.C.FormsOfCells.forms c.args.forms.now in
+    let sound = subst (λ n. IsSound (tree_of c.expr.inside.span n)) c.in-Call.is c.expr.invariant in
+    subst (λ n. Takes c.in-Call.function n)
+    (sym (ap length (c.in_ok-args-in-Call.ensures ∙ ap (λ xs. unread_at (table_place c.in-Call.function) (parts_of forms (trees xs))) c.deref-in-Call.ensures.value)
+    ∙ unread_length (table_place c.in-Call.function) (parts_of forms (trees c.in-Call.args.items))
+    ∙ parts-count forms (trees c.in-Call.args.items)))
+    sound.1
+
+pub form_part-returns-in_ok-args-in-Call : goal.form_part-returns-in_ok-args-in-Call
+form_part-returns-in_ok-args-in-Call g t c =
+    let forms = g.C.FormsOfCells.forms c.args.forms.now in
+    subst (λ part. IfOk c.call_part.result (λ p. p ≡ part))
+    (ap (call_part forms c.expr.inside.span c.in-Call.function) (c.in_ok-args-in-Call.ensures ∙ ap (λ xs. unread_at (table_place c.in-Call.function) (parts_of forms (trees xs))) c.deref-in-Call.ensures.value)
+    ∙ call_unread forms c.expr.inside.span c.in-Call.function (parts_of forms (trees c.in-Call.args.items))
+    ∙ sym (of_node forms c.args.expr.now c.expr.inside.span c.expr.inside.node _ c.expr.view_is c.in-Call.is))
+    c.call_part.ensures
+
+pub form_part-returns-in_ok-form_part-in-Minus : goal.form_part-returns-in_ok-form_part-in-Minus
+form_part-returns-in_ok-form_part-in-Minus g t c =
+    let forms = g.C.FormsOfCells.forms c.args.forms.now in
+    subst (λ part. IfOk c.minus_part.result (λ p. p ≡ part))
+    (ap (turned c.expr.inside.span minus_form) (c.in_ok-form_part-in-Minus.ensures ∙ ap (part_of forms) c.deref-in-Minus.ensures)
+    ∙ sym (of_node forms c.args.expr.now c.expr.inside.span c.expr.inside.node _ c.expr.view_is c.in-Minus.is))
+    c.minus_part.ensures
+
+pub form_part-returns-in_ok-form_part-in-Percent : goal.form_part-returns-in_ok-form_part-in-Percent
+form_part-returns-in_ok-form_part-in-Percent g t c =
+    let forms = g.C.FormsOfCells.forms c.args.forms.now in
+    subst (λ part. IfOk c.percent_part.result (λ p. p ≡ part))
+    (ap (turned c.expr.inside.span percent_form) (c.in_ok-form_part-in-Percent.ensures ∙ ap (part_of forms) c.deref-in-Percent.ensures)
+    ∙ sym (of_node forms c.args.expr.now c.expr.inside.span c.expr.inside.node _ c.expr.view_is c.in-Percent.is))
+    c.percent_part.ensures
+
+pub form_part-returns-in_ok-right-in-Infix : goal.form_part-returns-in_ok-right-in-Infix
+form_part-returns-in_ok-right-in-Infix g t c =
+    let forms = g.C.FormsOfCells.forms c.args.forms.now in
+    let left = c.in_ok-left-in-Infix.ensures ∙ ap (part_of forms) c.deref-in-Infix.ensures in
+    let right = c.in_ok-right-in-Infix.ensures ∙ ap (part_of forms) c.deref-in-Infix-2.ensures in
+    subst (λ part. IfOk c.infix_part.result (λ p. p ≡ part))
+    ((λ i. joined c.expr.inside.span c.in-Infix.op (left i) (right i))
+    ∙ sym (of_node forms c.args.expr.now c.expr.inside.span c.expr.inside.node _ c.expr.view_is c.in-Infix.is))
+    c.infix_part.ensures

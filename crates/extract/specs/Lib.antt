@@ -1,0 +1,4 @@
+pub mod Tables
+pub mod Knowing
+pub mod Unread
+pub mod Places

@@ -1,0 +1,4 @@
+pub mod Steps
+pub mod Sources
+pub mod Lookups
+pub mod Criteria

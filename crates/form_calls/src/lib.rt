@@ -1,0 +1,16 @@
+//! The calls of formulas that don't look at all of their arguments, while some decisions are open: IF, IFERROR and CHOOSE look at
+//! what they choose, INDEX, VLOOKUP, HLOOKUP and SUMIF at what they pick, and ROWS and COLUMNS at no cell of a reference.
+#![tactic(auto)]
+
+mod branches;
+mod calls;
+mod choices;
+mod criteria;
+mod ends;
+mod lookups;
+mod picks;
+mod places;
+mod sizes;
+mod source;
+
+pub use calls::call_part;
