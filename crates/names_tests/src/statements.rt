@@ -304,6 +304,30 @@ const CASES: &[(&[u8], &str)] = &[
         b"plan,solver_adj,A1:A3\nplan,solver_num,2\nplan,solver_lhs1,A2\nplan,solver_rel1,5\nplan,solver_lhs2,A2:A3\nplan,solver_rel2,4\n",
         "decide 0.0.0 0.1.0 0.2.0 greatest; whole 1 2; binary 1",
     ),
+    (
+        b"plan,solver_adj,$A$2:$B$2\nplan,solver_opt,$C$3\nplan,solver_typ,1\nplan,solver_num,1\nplan,solver_lhs1,$C$4:$C$5\nplan,solver_rel1,1\nplan,solver_rhs1,$D$4:$D$5\n",
+        "decide 0.1.0 0.1.1; for 0.2.2 greatest; 1 0.3.2 <= 0.3.3; 2 0.4.2 <= 0.4.3",
+    ),
+    (
+        b"plan,solver_adj,$A$2:$B$2\nplan,solver_opt,$C$3\nplan,solver_typ,1\nplan,solver_num,1\nplan,solver_lhs1,$C$4:$C$5\nplan,solver_rel1,1\nplan,solver_rhs1,$D$3:$D$5\n",
+        "5 1 2 3",
+    ),
+    (
+        b"plan,solver_adj,$A$2:$B$2\nplan,solver_opt,$C$3\nplan,solver_typ,1\nplan,solver_num,1\nplan,solver_lhs1,$C$4:$C$5\nplan,solver_rel1,7\nplan,solver_rhs1,$D$4:$D$5\n",
+        "4 1 7",
+    ),
+    (
+        b"plan,solver_adj,$A$2:$B$2\nplan,solver_opt,$C$3\nplan,solver_typ,1\nplan,solver_num,1\nplan,solver_lhs1,$C$4\nplan,solver_rel1,5\nplan,solver_rhs1,$D$4:$D$5\n",
+        "6 1 0.3.2",
+    ),
+    (
+        b"plan,solver_opt,$C$3\nplan,solver_typ,1\nplan,solver_num,1\nplan,solver_lhs1,$C$4:$C$5\nplan,solver_rel1,1\nplan,solver_rhs1,$D$4:$D$5\n",
+        "1",
+    ),
+    (
+        b"plan,solver_adj,\"A1,A1,B1:A1\"\nplan,solver_num,2\nplan,solver_lhs1,A1:B1\nplan,solver_rel1,4\nplan,solver_lhs2,A1\nplan,solver_rel2,4\n",
+        "decide 0.0.0 0.0.1 greatest; whole 0 1",
+    ),
     (b"plan,solver_adj,\"A1:A256,A1:B1\"\n", "8 257"),
     (b"plan,solver_adj,A1:P17\n", "8 272"),
     (

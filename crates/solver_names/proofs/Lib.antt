@@ -2,8 +2,10 @@ pub mod Firsts
 pub mod PartLists
 pub mod RowLists
 pub mod CellLists
+pub mod MarkedCells
 pub mod Gathered
 pub mod ReadFaults
 pub mod NoFaults
+pub mod Faultless
 pub mod PlacedTrees
 pub mod SideLists

@@ -46,10 +46,14 @@ is_marked_by code cell c = is_code code c.code && is_left c.left cell
 abbrev pub is_marked : Code → List Constraint → Cell → Bool
 is_marked code cs cell = list_any (is_marked_by code cell) cs
 
--- the numbers, from n on, of the cells that do
-abbrev pub marked_from : ℕ → Code → List Constraint → List Cell → List ℕ
-marked_from n code cs [] = []
-marked_from n code cs (cell ∷ cells) = if is_marked code cs cell then n ∷ marked_from (suc n) code cs cells else marked_from (suc n) code cs cells
+-- the numbers, from n on, of the cells that pass a test
+abbrev pub numbers_from : ℕ → (Cell → Bool) → List Cell → List ℕ
+numbers_from n test [] = []
+numbers_from n test (cell ∷ cells) = if test cell then n ∷ numbers_from (suc n) test cells else numbers_from (suc n) test cells
+
+-- those of the cells that stand in the left side of a constraint with this code
+abbrev pub marked : Code → List Constraint → List Cell → List ℕ
+marked code cs cells = numbers_from 0 (is_marked code cs) cells
 
 -- ---- what is wanted
 abbrev pub goal_by : ℕ → ℚ → Goal
@@ -71,9 +75,9 @@ stated sheet r = record {
   objective = said_objective r.objective;
   goal = goal_in r;
   rows = numbered 1 (all_rows r.constraints);
-  whole = marked_from 0 code.Whole r.constraints (decisions_of r);
-  binary = marked_from 0 code.Binary r.constraints (decisions_of r);
-  explicit = marked_from 0 (code.Related AtLeast) r.constraints (decisions_of r);
+  whole = marked code.Whole r.constraints (decisions_of r);
+  binary = marked code.Binary r.constraints (decisions_of r);
+  explicit = marked (code.Related AtLeast) r.constraints (decisions_of r);
   not_negative = or_else r.negative 1 == 1;
 }
 

@@ -30,9 +30,9 @@ pub enum NamesFault {
     #[error("{0} is no such option")]
     BadOption(String),
     #[error("{0} cells are to be decided")]
-    TooManyDecisions(usize),
+    TooManyDecisions(u32),
     #[error("there are {0} rows")]
-    TooManyRows(usize),
+    TooManyRows(u32),
     #[error("memory ran out")]
     Memory,
 }

@@ -287,8 +287,18 @@ pub(crate) fn told(
         Fault::Sizes(k, left, right) => Ok(NamesFault::SizeMismatch(k, left, right)),
         Fault::NotDecision(k, cell) => Ok(NamesFault::NotDecision(k, cell)),
         Fault::Option(name) => Ok(NamesFault::BadOption(name.text(alloc)?)),
-        Fault::TooManyDecisions(count) => Ok(NamesFault::TooManyDecisions(count)),
-        Fault::TooManyRows(count) => Ok(NamesFault::TooManyRows(count)),
+        Fault::TooManyDecisions(count) => Ok(NamesFault::TooManyDecisions(counted(count)?)),
+        Fault::TooManyRows(count) => Ok(NamesFault::TooManyRows(counted(count)?)),
+    }
+}
+
+// How many cells or rows there are: 32 sheets have far fewer cells than 2^32, and so have 256 constraints rows.
+fn counted(count: usize) -> Result<u32, Memory>
+    ensures { IfOk result (λ many. many ≡ count) }
+{
+    match u32::try_from(count) {
+        Ok(many) => Ok(many),
+        Err(_) => Err(Memory),
     }
 }
 

@@ -1,12 +1,14 @@
 // The statement of a sheet's names.
-ghost use Rattle.std.specs.Prelude.{◌≡◌, ◌≤◌, ◌<◌, ◌==◌, [], IfOk, None, length};
+ghost use Rattle.std.specs.Prelude.{◌≡◌, ◌≤◌, ◌<◌, ◌==◌, ◌||◌, [], IfOk, None, OnOk, length};
 ghost use Rattle.fractions.specs.Rational.{zero_ℚ};
+ghost use Rattle.cell_refs.specs.declared.cell.Cell.{Cell};
 ghost use Rattle.lin_model.specs.Kinds as kinds;
 ghost use Rattle.solver_names.specs.Answers.{Answers, statement_of};
-ghost use Rattle.solver_names.specs.Faults.{faults, first};
+ghost use Rattle.solver_names.specs.Constraints.{is_among};
+ghost use Rattle.solver_names.specs.Faults.{faults, first, most_decisions};
 ghost use Rattle.solver_names.specs.Read.{read_of};
 ghost use Rattle.solver_names.specs.Stated as told;
-ghost use Rattle.solver_names.specs.Stated.{goal_in, marked_from, said_objective};
+ghost use Rattle.solver_names.specs.Stated.{goal_in, numbers_from, said_objective};
 ghost use Rattle.solver_names.specs.Texts.{or_else};
 
 use crate::cells::Cells;
@@ -60,26 +62,42 @@ fn is_code(code: Code, said: &Said<Code>) -> bool
     }
 }
 
-// Whether the cell stands on the left of a constraint of this code.
-fn is_marked_by(code: Code, cell: Cell, constraint: &Constraint) -> bool
-    ensures { result ≡ told.is_marked_by code cell constraint.now }
+// Puts the cells on the left of a constraint, where it is of this code.
+fn put_left(cells: &mut Cells, code: Code, constraint: &Constraint) -> Result<(), Memory>
+    ensures { OnOk result ((c : Cell) → is_among cells.new c ≡ (is_among cells.old c || told.is_marked_by code c constraint.now)) }
 {
     let Said::Says(left) = &constraint.left else {
-        return false;
+        return Ok(());
     };
-    is_code(code, &constraint.code) && left.has(cell)
+    if is_code(code, &constraint.code) {
+        cells.put_all(*left)?;
+    }
+    Ok(())
 }
 
-// The same of some constraints.
-fn is_marked(code: Code, constraints: &[Constraint], cell: Cell) -> bool
-    ensures { result ≡ told.is_marked code constraints.now cell }
+// The cells on the left of the constraints of this code.
+fn left_cells(alloc: Global, code: Code, constraints: &[Constraint]) -> Result<Cells, Memory>
+    ensures { IfOk result (λ cells. (c : Cell) → is_among cells c ≡ told.is_marked code constraints.now c) }
 {
+    let mut cells = Cells::new(alloc);
     for constraint in constraints {
-        if is_marked_by(code, cell, constraint) {
-            return true;
+        put_left(&mut cells, code, constraint)?;
+    }
+    Ok(cells)
+}
+
+// The numbers of the cells that are among some others.
+fn numbers_among(alloc: Global, others: &Cells, cells: &[Cell]) -> Result<Vec<u16>, Memory>
+    requires { length cells.now ≤ 512 }
+    ensures { IfOk result (λ v. v.items ≡ numbers_from 0 (is_among others.now) cells.now) }
+{
+    let mut numbers = Vec::new(alloc);
+    for (number, cell) in cells.iter().enumerate() {
+        if others.has(*cell) {
+            numbers.push(number as u16)?;
         }
     }
-    false
+    Ok(numbers)
 }
 
 // The numbers of the cells that stand on the left of a constraint of this code.
@@ -90,15 +108,10 @@ fn marked(
     cells: &[Cell],
 ) -> Result<Vec<u16>, Memory>
     requires { length cells.now ≤ 512 }
-    ensures { IfOk result (λ v. v.items ≡ marked_from 0 code constraints.now cells.now) }
+    ensures { IfOk result (λ v. v.items ≡ told.marked code constraints.now cells.now) }
 {
-    let mut numbers = Vec::new(alloc);
-    for (number, cell) in cells.iter().enumerate() {
-        if is_marked(code, constraints, *cell) {
-            numbers.push(number as u16)?;
-        }
-    }
-    Ok(numbers)
+    let left = left_cells(alloc, code, constraints)?;
+    numbers_among(alloc, &left, cells)
 }
 
 // The cells to be decided; none where none are said.
@@ -136,6 +149,7 @@ fn stated(alloc: Global, sheet: SheetId, names: Names) -> Result<Statement, Memo
     requires { first (faults (read_of names)) ≡ None }
     ensures stated { IfOk result (λ s. statement_of s ≡ told.stated sheet.0 (read_of names)) }
     ensures sheet { IfOk result (λ s. s.sheet ≡ sheet) }
+    ensures few { IfOk result (λ s. length s.adj ≤ most_decisions) }
 {
     let goal = goal_of(&names);
     let objective = objective_of(&names.objective);
@@ -165,6 +179,7 @@ pub fn statement(alloc: Global, book: &Workbook, sheet: SheetId) -> Result<State
     requires { sheet.0 < length book.now.sheets }
     ensures answer { Answers book.now sheet.0 result }
     ensures sheet { IfOk result (λ s. s.sheet ≡ sheet) }
+    ensures few { IfOk result (λ s. length s.adj ≤ most_decisions) }
 {
     let names = names_of(alloc, book, sheet)?;
     if let Some(fault) = first_fault(&names) {

@@ -1,4 +1,5 @@
-use Rattle.std.proofs.Common.{ap, arith, length}
+use Rattle.std.proofs.Common.{◌≤◌, ap, arith, length}
+use Rattle.solver_names.specs.Faults.{decisions_of}
 use Rattle.solver_names.specs.Read.{read_of}
 use Rattle.solver_names.proofs.NoFaults.{all_fit, few_decisions, few_rows}
 use Rattle.solver_names.proofs.stated.stated.Goals as goal
@@ -11,3 +12,8 @@ rows_of-requires-clause-fit c = rw c.deref.ensures.value (all_fit (read_of c.arg
 
 pub rows_of-requires-clause-few : goal.rows_of-requires-clause-few
 rows_of-requires-clause-few c = rw c.deref.ensures.value (few_rows (read_of c.args.names) c.requires)
+
+pub returns-clause-few : goal.returns-clause-few
+returns-clause-few c =
+    let few : length (decisions_of (read_of c.args.names)) ≤ 256 = few_decisions (read_of c.args.names) c.requires in
+    omega (arith, ap length c.into_adj-adj.ensures, ap length c.decisions_of.ensures, few)

@@ -1,0 +1,54 @@
+// The conditions of a sheet's statement: all but the forms of its places.
+ghost use Rattle.std.specs.Prelude.{◌≡◌, ◌≤◌, IfOk, length, map};
+ghost use Rattle.std.specs.Option.{option_map};
+ghost use Rattle.lin_model.specs.Kinds.{goal_of};
+ghost use Rattle.sheet_problems.specs.Forms.{condition_of, conditions_of};
+ghost use Rattle.solver_names.specs.Answers.{row_of, statement_of};
+
+use lin_model::{Condition, Conditions, Goal};
+use memory::Memory;
+use solver_names::{RowOf, Statement};
+use std::alloc::Global;
+use workbook::Adj;
+
+// Of each row its relation, and the number of the decision that its left side is, where it is one.
+fn row_conditions(alloc: Global, decisions: &Adj, rows: &[RowOf]) -> Result<Vec<Condition>, Memory>
+    ensures { IfOk result (λ v. v.items ≡ map (condition_of decisions.now) (map row_of rows.now)) }
+{
+    let mut conditions = Vec::new(alloc);
+    for row in rows {
+        conditions.push(Condition::new(decisions.find(row.left), row.rel))?;
+    }
+    Ok(conditions)
+}
+
+// What is wanted of the objective, where there is one.
+fn goal_wanted(of: &Statement) -> Option<Goal>
+    ensures { option_map goal_of result ≡ (conditions_of (statement_of of.now)).goal }
+{
+    match of.objective {
+        Some(_) => Some(of.goal),
+        None => None,
+    }
+}
+
+/// The conditions that a statement makes with the forms of its objective and of its rows' sides.
+pub fn conditions(alloc: Global, of: &Statement) -> Result<Conditions, Memory>
+    requires few { length of.now.adj ≤ 512 }
+    ensures { IfOk result (λ c. c ≡ conditions_of (statement_of of.now)) }
+{
+    let decisions = of.adj.cells().len() as u16;
+    let rows = row_conditions(alloc, &of.adj, &of.rows)?;
+    let whole = Vec::from_slice(alloc, &of.whole)?;
+    let binary = Vec::from_slice(alloc, &of.binary)?;
+    let explicit = Vec::from_slice(alloc, &of.explicit)?;
+    Ok(Conditions::new(
+        decisions,
+        goal_wanted(of),
+        rows,
+        whole,
+        binary,
+        explicit,
+        of.not_negative,
+    ))
+}

@@ -1,0 +1,25 @@
+//! The problem that the names of a sheet state, as recalculation has it, and that it is the problem of the linear model of its forms.
+//! This crate has the definitions and their laws.
+#![tactic(auto)]
+
+ghost use Rattle.sheet_problems.specs.Examples.{WorthsHold};
+ghost use Rattle.sheet_problems.specs.Laws.{DecisionIsItsNumber, DependsOnDecisions, EqualNumbersGiveEqualValues, FormsFit, FormsStateTheProblem, LinearModelIsTheSheet};
+
+/// What places are worth is determined by the numbers of the decision cells.
+pub fn worth_laws()
+    ensures equal { EqualNumbersGiveEqualValues }
+    ensures depends { DependsOnDecisions }
+    ensures decision { DecisionIsItsNumber }
+{}
+
+/// Where the sides and the objective have forms, the sheet and the linear model of these are one problem.
+pub fn model_laws()
+    ensures stated { FormsStateTheProblem }
+    ensures fit { FormsFit }
+    ensures model { LinearModelIsTheSheet }
+{}
+
+/// What places of a small sheet are worth, worked out by hand.
+pub fn examples_hold()
+    ensures { WorthsHold }
+{}
