@@ -1,0 +1,4 @@
+pub mod Examples
+pub mod Areas
+pub mod References
+pub mod FrontTokens
