@@ -7,21 +7,29 @@ use Rattle.fractions.specs.Rational.{ℚ}
 use Rattle.linear_programs.specs.Program.{Program}
 use Rattle.dictionaries.specs.Dictionary.{Dictionary}
 use Rattle.node_pick.specs.Rules.{Rule, depth_first, best_first, oldest_first, free, Follows}
+use Rattle.node_pick.specs.Messages.{Message, news}
 use Rattle.node_pick.specs.declared.info.NodeInfo.{NodeInfo}
+use Rattle.node_pick.specs.declared.info.NodeEvent.{NodeEvent}
 use Rattle.linear_models.specs.Model.{Model}
 use Rattle.searches.specs.Trees.{Part, Node, End, info}
 use Rattle.searches.specs.Trees as trees
-use Rattle.searches.specs.Trails.{State, node_program, ended, Becomes, ends, Grows, opens, pivots, SearchUnit, Leads, stays, grows}
+use Rattle.searches.specs.Trails.{State, node_program, ended, ends, Grows, opens, pivots, SearchUnit, Leads, stays, grows}
+use Rattle.searches.specs.Messages.{news_of}
 use Rattle.search_ends.specs.Ends.{IsEndOf}
 use Rattle.branch_bound.specs.declared.frontier.Found.{Found}
 use Rattle.branch_bound.specs.Searches.{HasTrail}
+use Rattle.branch_bound.specs.Told.{Became}
 use Rattle.branch_bound.specs.States.{waiting_of, found_of, value_of, IsListed, AreListed}
 
 -- ---- the end of a node
-pub becomes_end : (m : Model) (s t : State) (node : Node) (k : ℕ) (d : Dictionary) (p : Program) (best : Option ℚ) (e : End) → p ≡ node_program m s.way node
-    → option_map (λ (f : trees.Found). f.value) s.found ≡ best → IsEndOf m best p d e → t ≡ ended s node k e → Becomes m s node k d t
-becomes_end m s t node k d p best e q f h z =
-    subst (Becomes m s node k d) (sym z) (ends h.outcome e (subst (λ (r : Program). Rattle.searches.specs.Trails.Finishes r d h.outcome) q h.finishes) (h.comes s.found f))
+pub became_end : (m : Model) (s t : State) (node : Node) (k : ℕ) (d : Dictionary) (p : Program) (best : Option ℚ) (e : End) (heard : List Message → Type 0) (v : NodeEvent)
+    → p ≡ node_program m s.way node → option_map (λ (f : trees.Found). f.value) s.found ≡ best → IsEndOf m best p d e → t ≡ ended s node k e → v ≡ news_of node.number s.count e → heard (news v ∷ [])
+    → Became m s node k d t heard
+became_end m s t node k d p best e heard v q f h z y n =
+    subst (λ (x : State). Became m s node k d x heard) (sym z) record {
+      becomes = ends h.outcome e (subst (λ (r : Program). Rattle.searches.specs.Trails.Finishes r d h.outcome) q h.finishes) (h.comes s.found f);
+      hears = subst (λ (x : NodeEvent). heard (news x ∷ [])) y n;
+    }
 
 pub same_value : (found : Option Found) → option_map (λ (f : trees.Found). f.value) (option_map found_of found) ≡ option_map value_of found
 same_value None = refl

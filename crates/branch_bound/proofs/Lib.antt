@@ -1,3 +1,4 @@
+pub mod Hearing
 pub mod Nodes
 pub mod Stepping
 pub mod Joining
@@ -7,3 +8,4 @@ pub mod Telling
 pub mod Openings
 pub mod Holding
 pub mod Running
+pub mod Slices

@@ -1,6 +1,8 @@
 -- How a run of a search ends.
-use Rattle.std.specs.Prelude.{◌≡◌, ◌≤◌, ◌<◌, ◌+◌, ℕ, ℤ, Bool, List, true, false, map, Some, Result, Ok, Err}
+use Rattle.std.specs.Prelude.{◌≡◌, ◌≤◌, ◌<◌, ◌⊎◌, ◌+◌, ◌∷◌, ◌++◌, ℕ, ℤ, Bool, List, [], true, false, map, Some, Result, Ok, Err}
 use Rattle.simplex.specs.Solved.{IsWidePivot}
+use Rattle.node_pick.specs.Messages.{Message, Hears, question}
+use Rattle.searches.specs.Trees.{info}
 use Rattle.searches.specs.Trails as trails
 use Rattle.searches.specs.Answers as answers
 use Rattle.search_paths.specs.Steps.{step_of}
@@ -52,3 +54,10 @@ EndsAs before units s (Ok progress.More) = (s.units ≡ before + units) × (s.un
 EndsAs before units s (Err (stop.WidePivot path basis leaves enters)) = MayGoOn before units s × IsWideAt s.state path.items basis.items leaves enters
 EndsAs before units s (Err (stop.Budget n)) = (n ≡ s.units) × (s.budget ≤ s.units) × HasOpenLeaf s
 EndsAs before units s (Err stop.Memory) = MayGoOn before units s × IsShort s.state
+
+-- what a picker heard until a run ended: the messages of its units, and after want of memory perhaps the question, which node is opened, once more
+abbrev pub HearsUntil : (List Message → Type 0) → (List Message → Type 0) → trails.State → Result Progress SearchStop → List Message → Type 0
+HearsUntil before after s (Err stop.Memory) these = Hears before after these ⊎ ((place : ℕ) × Hears before after (these ++ question (map info s.waiting) place ∷ []))
+HearsUntil before after s (Err (stop.WidePivot path basis leaves enters)) these = Hears before after these
+HearsUntil before after s (Err (stop.Budget n)) these = Hears before after these
+HearsUntil before after s (Ok end) these = Hears before after these

@@ -4,3 +4,4 @@ pub mod Searches
 pub mod Fields
 pub mod Ends
 pub mod Told
+pub mod Slices

@@ -1,10 +1,12 @@
 -- A search as its callers see it: its model, its budget, the units spent, where its trail stands, and whether its answer has been given.
-use Rattle.std.specs.Prelude.{◌≡◌, ◌≤◌, ◌⊎◌, ◌+◌, ℕ, Bool, List, length, Some, None}
+use Rattle.std.specs.Prelude.{◌≡◌, ◌≤◌, ◌⊎◌, ◌+◌, ℕ, Bool, List, [], length, Some, None}
 use Rattle.dictionaries.specs.Narrow.{IsNarrowPivot}
 use Rattle.dictionaries.specs.Bland.{NextPivot}
 use Rattle.node_pick.specs.Rules.{Rule, free}
+use Rattle.node_pick.specs.Messages.{Message}
 use Rattle.linear_models.specs.Model.{Model}
 use Rattle.searches.specs.Trails as trails
+use Rattle.searches.specs.Messages.{trail_messages}
 use Rattle.branch_bound.specs.declared.search.StepStop.{StepStop}
 use Rattle.branch_bound.specs.declared.search.StepStop.TheVariants.{Wide, Memory}
 
@@ -26,12 +28,15 @@ pub record HasTrail (m : Model) (n : ℕ) (s : trails.State) : Type 0 where
   pub trail : trails.Trail m free units s
   pub count : length units ≡ n
 
--- some units, at most so many, were added to the trail by the rule; the model and the budget stay
-pub record IsContinued (rule : Rule) (most : ℕ) (before after : Held) : Type 0 where
+-- some units, at most so many, were added to the trail by the rule, none where the budget was spent, and what is heard of them was heard;
+-- the model and the budget stay
+pub record IsContinued (rule : Rule) (heard : List Message → Type 0) (most : ℕ) (before after : Held) : Type 0 where
   pub units : List trails.SearchUnit
   pub leads : trails.Leads before.model rule before.state units after.state
+  pub hears : heard (trail_messages leads)
   pub counted : after.units ≡ before.units + length units
   pub at_most : length units ≤ most
+  pub in_budget : (units ≡ []) ⊎ (after.units ≤ before.budget)
   pub model : after.model ≡ before.model
   pub budget : after.budget ≡ before.budget
 

@@ -7,6 +7,8 @@ use Rattle.dictionaries.specs.Dictionary.{first_of_program}
 use Rattle.dictionaries.specs.Bland.{HasEnded}
 use Rattle.dictionaries.specs.Run.{IsReached}
 use Rattle.node_pick.specs.Rules.{Rule, Follows}
+use Rattle.node_pick.specs.Messages.{Message, question, news}
+use Rattle.node_pick.specs.declared.info.NodeEvent.TheVariants as events
 use Rattle.node_pick.specs.declared.info.NodeInfo.{NodeInfo}
 use Rattle.linear_models.specs.Model.{Model}
 use Rattle.searches.specs.Trees as trees
@@ -126,11 +128,12 @@ pub record IsPrepared (m : Model) (f : Frontier) (of : NodeInfo) (w : Work) : Ty
   pub direction : length w.direction.items ≡ length m.whole
   pub room : HasRoom f 2
 
--- the node of a place that the rule allows waits no more, and is ready
-pub record IsOpened (m : Model) (before after : Frontier) (rule : Rule) (w : Work) : Type 0 where
+-- the node of a place that the rule allows waits no more, and is ready; the question and its opening were heard
+pub record IsOpened (m : Model) (before after : Frontier) (rule : Rule) (heard : List Message → Type 0) (w : Work) : Type 0 where
   pub place : ℕ
   pub chosen : slice_get before.waiting.items place ≡ Some w.info
   pub follows : Follows rule before.waiting.items place
+  pub hears : heard (question before.waiting.items place ∷ news (events.Opened w.info.number) ∷ [])
   pub state : state_of after None ≡ trails.without_place (state_of before None) place
   pub ready : IsReady m after w
   pub pivots : w.pivots ≡ 0

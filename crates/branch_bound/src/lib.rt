@@ -3,6 +3,7 @@
 
 mod answer;
 mod frontier;
+mod laws;
 mod opening;
 mod over;
 mod progress;
@@ -12,5 +13,6 @@ mod settle;
 mod wide;
 mod work;
 
+pub use laws::slices_are_one_run;
 pub use progress::{Progress, SearchStop};
 pub use search::Search;

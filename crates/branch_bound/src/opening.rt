@@ -1,10 +1,13 @@
-ghost use Rattle.std.specs.Prelude.{◌≡◌, ◌≢◌, ◌<◌, ◌≤◌, ◌+◌, ◌^◌, ℕ, [], Some, None, length, IfOk, OnErr, option_map};
+ghost use Rattle.std.specs.Prelude.{◌≡◌, ◌≢◌, ◌<◌, ◌≤◌, ◌+◌, ◌^◌, ◌∷◌, ℕ, [], Some, None, length, IfOk, OnErr, option_map};
 ghost use Rattle.dictionaries.specs.Dictionary.{first_of_program};
+ghost use Rattle.node_pick.specs.Messages.{Hears, news, question};
+ghost use Rattle.node_pick.specs.declared.info.NodeEvent.TheVariants as events;
 ghost use Rattle.node_pick.specs.Rules.{Follows, IsRising};
 ghost use Rattle.linear_models.specs.Model.{IsValid};
 ghost use Rattle.searches.specs.Trees as trees;
 ghost use Rattle.searches.specs.Trails as trails;
 ghost use Rattle.branch_bound.specs.States.{IsOpened, IsOrderly, IsPrepared, IsSame, node_of, state_of, waiting_of, way_of};
+ghost use Rattle.branch_bound.specs.Told.{IsAsked};
 
 use crate::frontier::{Frontier, reserve};
 use crate::work::Work;
@@ -79,8 +82,17 @@ fn chosen(waiting: &[NodeInfo], pick: &mut Box<dyn Picker>) -> usize
     ensures place { result < length waiting.now }
     ensures follows { Follows (rule pick.old) waiting.now result }
     ensures rule { rule pick.new ≡ rule pick.old }
+    ensures heard { Hears (heard pick.old) (heard pick.new) (question waiting.now result ∷ []) }
 {
     pick.choose(waiting)
+}
+
+// Tells the picker that the node of this number is opened.
+fn tell(number: u64, pick: &mut Box<dyn Picker>)
+    ensures rule { rule pick.new ≡ rule pick.old }
+    ensures heard { Hears (heard pick.old) (heard pick.new) (news (events.Opened number) ∷ []) }
+{
+    pick.told(NodeEvent::Opened(number));
 }
 
 /// Opens the node that the picker chooses.
@@ -93,8 +105,9 @@ pub(crate) fn open(
     requires waits { frontier.old.waiting.items ≢ [] }
     requires rising { IsRising frontier.old.waiting.items }
     requires orderly { IsOrderly frontier.old }
-    ensures opened { IfOk result (λ w. IsOpened model.now frontier.old frontier.new (rule pick.old) w) }
+    ensures opened { IfOk result (λ w. IsOpened model.now frontier.old frontier.new (rule pick.old) (Hears (heard pick.old) (heard pick.new)) w) }
     ensures err { OnErr result (IsSame frontier.old frontier.new) }
+    ensures asked { OnErr result (IsAsked (heard pick.old) (heard pick.new) frontier.old.waiting.items) }
     ensures orderly { IsOrderly frontier.new }
     ensures paths { frontier.new.paths.paths ≡ frontier.old.paths.paths }
     ensures rule { rule pick.new ≡ rule pick.old }
@@ -104,6 +117,6 @@ pub(crate) fn open(
     let number = info.number;
     let work = prepare(alloc, model, frontier, info)?;
     frontier.waiting.remove(place);
-    pick.told(NodeEvent::Opened(number));
+    tell(number, pick);
     Ok(work)
 }

@@ -1,6 +1,6 @@
 ghost use Rattle.std.specs.Prelude.{◌≡◌, ◌≤◌, ◌<◌, ◌+◌, ℕ, List, true, false};
 ghost use Rattle.branch_bound.specs.Searches.{IsContinued};
-ghost use Rattle.branch_bound.specs.Ends.{EndsAs};
+ghost use Rattle.branch_bound.specs.Ends.{EndsAs, HearsUntil};
 
 use crate::progress::{Progress, SearchStop};
 use crate::search::Search;
@@ -10,7 +10,8 @@ use std::alloc::Global;
 impl Search {
     /// Spends at most so many units, each the opening of the node that the picker chooses, or the next pivot of the node
     /// that is worked on. Where the search has ended, its answer is given, which takes no memory; after that it is not run
-    /// again. With `Memory` and with a pivot that is not narrow the search stands as before that unit.
+    /// again. With `Memory` and with a pivot that is not narrow the search stands as before that unit. The picker is asked
+    /// before each opening, is told what was opened, and how each node ends.
     pub fn run(
         &mut self,
         alloc: Global,
@@ -18,7 +19,7 @@ impl Search {
         pick: &mut Box<dyn Picker>,
     ) -> Result<Progress, SearchStop>
         requires { self.old.answered ≡ false }
-        ensures trail { IsContinued (rule pick.old) units self.old self.new }
+        ensures trail { IsContinued (rule pick.old) (HearsUntil (heard pick.old) (heard pick.new) self.new.state result) units self.old self.new }
         ensures ends { EndsAs self.old.units units self.new result }
         ensures rule { rule pick.new ≡ rule pick.old }
     {

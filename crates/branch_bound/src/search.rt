@@ -1,8 +1,9 @@
 ghost use Rattle.std.specs.Prelude.{◌≡◌, ◌<◌, ◌≤◌, ◌+◌, ◌↔◌, ℕ, IfErr, IfOk, OnOk, IsTrue, true, false};
+ghost use Rattle.node_pick.specs.Messages.{Hears};
 ghost use Rattle.searches.specs.Trails as trails;
 ghost use Rattle.branch_bound.specs.Searches.{HasEnded, HasTrail, IsStepStop};
 ghost use Rattle.branch_bound.specs.Ends.{IsAnswerOf};
-ghost use Rattle.branch_bound.specs.Told.{IsStopOf};
+ghost use Rattle.branch_bound.specs.Told.{Grew, HearsStop, IsStopOf};
 
 use crate::answer::told;
 use crate::frontier::Frontier;
@@ -141,10 +142,11 @@ impl Search {
     pub(crate) fn step(&mut self, alloc: Global, pick: &mut Box<dyn Picker>) -> Result<(), StepStop>
         requires open { ¬ (HasEnded self.old) }
         requires units { self.old.units < 1000000 }
-        ensures ok { OnOk result ((u : trails.SearchUnit) × trails.Grows self.old.model (rule pick.old) self.old.state u self.new.state) }
+        ensures ok { OnOk result (Grew self.old.model (rule pick.old) self.old.state self.new.state (Hears (heard pick.old) (heard pick.new))) }
         ensures counted { OnOk result (self.new.units ≡ self.old.units + 1) }
         ensures same { (self.new.model ≡ self.old.model) × (self.new.budget ≡ self.old.budget) × (self.new.answered ≡ self.old.answered) }
         ensures stop { IfErr result (λ e. (self.new ≡ self.old) × IsStepStop self.new.state e) }
+        ensures heard { IfErr result (HearsStop (heard pick.old) (heard pick.new) self.old.state) }
         ensures rule { rule pick.new ≡ rule pick.old }
     {
         match self.work.take() {

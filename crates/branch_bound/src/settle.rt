@@ -1,10 +1,13 @@
-ghost use Rattle.std.specs.Prelude.{◌≡◌, ◌<◌, ◌≤◌, ◌+◌, ◌^◌, ◌↔◌, ℤ, pos, ◌+ℤ◌, None, length, option_map};
+ghost use Rattle.std.specs.Prelude.{◌≡◌, ◌<◌, ◌≤◌, ◌+◌, ◌^◌, ◌↔◌, ◌∷◌, [], ℤ, pos, ◌+ℤ◌, None, length, option_map};
 ghost use Rattle.fractions.specs.Rational.{ℚ};
 ghost use Rattle.frac128.specs.Narrow.{IsNarrowWhole};
+ghost use Rattle.node_pick.specs.Messages.{Hears, news};
 ghost use Rattle.searches.specs.Trees as trees;
 ghost use Rattle.searches.specs.Trails as trails;
+ghost use Rattle.searches.specs.Messages.{news_of};
 ghost use Rattle.search_ends.specs.Ends.{HasNarrowParts, end_at};
 ghost use Rattle.branch_bound.specs.States.{HasRoom, IsListed, IsOrderly, IsReady, IsReadyIf, state_of, value_of, waiting_of};
+ghost use Rattle.branch_bound.specs.Told.{Became};
 
 use crate::frontier::{Found, Frontier, Way, keep, wait_part, wait_root};
 use crate::work::Work;
@@ -32,6 +35,7 @@ fn close(frontier: &mut Frontier, info: &NodeInfo, pivots: u64, pick: &mut Box<d
     ensures ended { state_of frontier.new None ≡ trails.ended (state_of frontier.old None) (waiting_of frontier.old.paths.paths info.now) pivots trees.empty }
     ensures orderly { IsOrderly frontier.new }
     ensures rule { rule pick.new ≡ rule pick.old }
+    ensures heard { Hears (heard pick.old) (heard pick.new) (news (news_of info.now.number (length frontier.old.paths.paths) (trees.empty)) ∷ []) }
 {
     keep(frontier, info, pivots);
     pick.told(NodeEvent::Closed(info.number));
@@ -45,6 +49,7 @@ fn find(frontier: &mut Frontier, work: Work, value: Frac, pick: &mut Box<dyn Pic
     ensures ended { state_of frontier.new None ≡ trails.ended (state_of frontier.old None) (waiting_of frontier.old.paths.paths work.info) work.pivots (trees.whole work.point.items value) }
     ensures orderly { IsOrderly frontier.new }
     ensures rule { rule pick.new ≡ rule pick.old }
+    ensures heard { Hears (heard pick.old) (heard pick.new) (news (news_of work.info.number (length frontier.old.paths.paths) (trees.whole work.point.items value)) ∷ []) }
 {
     let number = work.info.number;
     keep(frontier, &work.info, work.pivots);
@@ -74,6 +79,7 @@ fn split(
     ensures ended { state_of frontier.new None ≡ trails.ended (state_of frontier.old None) (waiting_of frontier.old.paths.paths info.now) pivots (trees.split decision floor value) }
     ensures orderly { IsOrderly frontier.new }
     ensures rule { rule pick.new ≡ rule pick.old }
+    ensures heard { Hears (heard pick.old) (heard pick.new) (news (news_of info.now.number (length frontier.old.paths.paths) (trees.split decision floor value)) ∷ []) }
 {
     let first = frontier.paths.len() as u64;
     wait_part(frontier, info, Part::lower(decision, floor), value);
@@ -91,6 +97,7 @@ fn escape(frontier: &mut Frontier, work: Work, pick: &mut Box<dyn Picker>)
     ensures ended { state_of frontier.new None ≡ trails.ended (state_of frontier.old None) (waiting_of frontier.old.paths.paths work.info) work.pivots (trees.endless work.point.items work.direction.items) }
     ensures orderly { IsOrderly frontier.new }
     ensures rule { rule pick.new ≡ rule pick.old }
+    ensures heard { Hears (heard pick.old) (heard pick.new) (news (news_of work.info.number (length frontier.old.paths.paths) (trees.endless work.point.items work.direction.items)) ∷ []) }
 {
     let number = work.info.number;
     wait_root(frontier);
@@ -112,6 +119,7 @@ fn finish(frontier: &mut Frontier, work: Work, end: NodeEnd, pick: &mut Box<dyn 
     ensures ended { state_of frontier.new None ≡ trails.ended (state_of frontier.old None) (waiting_of frontier.old.paths.paths work.info) work.pivots (end_at end work.point.items work.direction.items) }
     ensures orderly { IsOrderly frontier.new }
     ensures rule { rule pick.new ≡ rule pick.old }
+    ensures heard { Hears (heard pick.old) (heard pick.new) (news (news_of work.info.number (length frontier.old.paths.paths) (end_at end work.point.items work.direction.items)) ∷ []) }
 {
     match end {
         NodeEnd::Empty => close(frontier, &work.info, work.pivots, pick),
@@ -140,7 +148,7 @@ pub(crate) fn settle(
     requires ready { IsReady model.now frontier.old work }
     requires orderly { IsOrderly frontier.old }
     requires few { length frontier.old.paths.paths + 1 < 2 ^ 32 }
-    ensures becomes { trails.Becomes model.now (state_of frontier.old None) (waiting_of frontier.old.paths.paths work.info) work.pivots work.dict (state_of frontier.new result) }
+    ensures becomes { Became model.now (state_of frontier.old None) (waiting_of frontier.old.paths.paths work.info) work.pivots work.dict (state_of frontier.new result) (Hears (heard pick.old) (heard pick.new)) }
     ensures ready { IsReadyIf model.now frontier.new result }
     ensures orderly { IsOrderly frontier.new }
     ensures rule { rule pick.new ≡ rule pick.old }

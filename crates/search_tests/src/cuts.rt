@@ -31,6 +31,54 @@ fn comes_to(
     Ok(false)
 }
 
+// Whether a search that is cut once, after so many units, comes to the same end.
+fn comes_to_after(
+    alloc: Global,
+    shape: &Shape,
+    first: u64,
+    pick: Box<dyn Picker>,
+    said: &Said,
+) -> Result<bool, Fail> {
+    let mut pick = pick;
+    let mut search = Search::begin(alloc, model(alloc, shape)?, 1000)?;
+    let given = search.run(alloc, first, &mut pick);
+    match &given {
+        Ok(Progress::More) => {
+            if search.units() != first {
+                return Ok(false);
+            }
+        }
+        _ => return Ok(is_said(&given, said)),
+    }
+    let last = search.run(alloc, 1000, &mut pick);
+    Ok(is_said(&last, said))
+}
+
+#[test]
+fn a_cut_after_each_unit_comes_to_the_same_end(rt: HostRuntime) -> Result<(), Fail> {
+    let alloc = rt.alloc();
+    let twenty = Said::Optimal((4, 0), 20);
+    let deep = Said::Optimal((1, 1), 1);
+    let wide = Said::Optimal((2, 1), 1);
+    for first in 0..20 {
+        assert!(rt; comes_to_after(alloc, &models::TWO, first, Box::new(alloc, Depth)?, &twenty)?);
+        assert!(rt; comes_to_after(alloc, &models::TWO, first, Box::new(alloc, Best)?, &twenty)?);
+        assert!(rt;
+            comes_to_after(
+                alloc,
+                &models::TWO,
+                first,
+                Box::new(alloc, Oldest)?,
+                &twenty
+            )?
+        );
+        assert!(rt; comes_to_after(alloc, &models::TIED, first, Box::new(alloc, Depth)?, &deep)?);
+        assert!(rt; comes_to_after(alloc, &models::TIED, first, Box::new(alloc, Best)?, &wide)?);
+        assert!(rt; comes_to_after(alloc, &models::TIED, first, Box::new(alloc, Oldest)?, &wide)?);
+    }
+    Ok(())
+}
+
 #[test]
 fn every_cut_comes_to_the_same_end(rt: HostRuntime) -> Result<(), Fail> {
     let alloc = rt.alloc();

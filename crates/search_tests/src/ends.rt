@@ -89,7 +89,40 @@ fn other_ends_are_told(rt: HostRuntime) -> Result<(), Fail> {
     assert!(rt; same(alloc, &models::OPEN, &Said::Unbounded((1, 0), (1, 1)))?);
     assert!(rt; same(alloc, &models::OPEN_WHOLE, &Said::Unbounded((0, 0), (1, 1)))?);
     assert!(rt; same(alloc, &models::HALF, &Said::Infeasible)?);
+    assert!(rt; same(alloc, &models::EVEN, &Said::Unbounded((1, 0), (0, 1)))?);
     assert!(rt; same(alloc, &models::NONE, &Said::Infeasible)?);
     assert!(rt; same(alloc, &models::WIDE, &Said::Wide)?);
+    Ok(())
+}
+
+// Whether the numbers are fractions with these numerators and denominators.
+fn are_fractions(numbers: &[Frac], first: Pair, second: Pair) -> bool {
+    numbers.len() == 2
+        && numbers[0].num() == first.0
+        && numbers[0].den() == first.1
+        && numbers[1].num() == second.0
+        && numbers[1].den() == second.1
+}
+
+#[test]
+fn decisions_without_a_mark_need_not_be_whole(rt: HostRuntime) -> Result<(), Fail> {
+    let alloc = rt.alloc();
+    let mut pick: Box<dyn Picker> = Box::new(alloc, Depth)?;
+    let mut search = Search::begin(alloc, model(alloc, &models::ONE_WHOLE)?, 1000)?;
+    match &search.run(alloc, 1000, &mut pick) {
+        Ok(Progress::Optimal(point, value)) => {
+            assert!(rt; are_fractions(point, (3, 1), (3, 2)));
+            assert_eq!(rt; value.num(), 21);
+        }
+        _ => panic!(rt; "a best point was there"),
+    }
+    let mut search = Search::begin(alloc, model(alloc, &models::HALF_FREE)?, 1000)?;
+    match &search.run(alloc, 1000, &mut pick) {
+        Ok(Progress::Unbounded(point, direction)) => {
+            assert!(rt; are_fractions(point, (1, 2), (0, 1)));
+            assert!(rt; are(direction, (0, 1)));
+        }
+        _ => panic!(rt; "there is no bound"),
+    }
     Ok(())
 }

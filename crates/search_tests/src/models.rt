@@ -26,8 +26,8 @@ fn number(n: i128) -> Result<Frac, Fail> {
 }
 
 fn form(alloc: Global, coefficients: Pair) -> Result<Form, Fail> {
-    let first = Form::decision(0).scale(alloc, number(coefficients.0)?)?;
-    let second = Form::decision(1).scale(alloc, number(coefficients.1)?)?;
+    let first = Form::decision(alloc, 0).scale(alloc, number(coefficients.0)?)?;
+    let second = Form::decision(alloc, 1).scale(alloc, number(coefficients.1)?)?;
     Ok(first.add(alloc, &second)?)
 }
 
@@ -36,7 +36,7 @@ pub fn model(alloc: Global, shape: &Shape) -> Result<LinModel, Fail> {
     let mut sides = Vec::new(alloc);
     for (left, relation, right) in shape.rows {
         rows.push(Condition::new(None, *relation))?;
-        sides.push((form(alloc, *left)?, Form::constant(number(*right)?)))?;
+        sides.push((form(alloc, *left)?, Form::constant(alloc, number(*right)?)))?;
     }
     let mut whole = Vec::new(alloc);
     whole.extend_from_slice(shape.whole)?;
@@ -113,6 +113,22 @@ pub const HALF: Shape = Shape {
     objective: (0, 1),
     rows: &[((2, 0), Relation::Equal, 1)],
     whole: &[0],
+};
+
+// The greatest y where 2 x = 2: unbounded, with and without x to be whole.
+pub const EVEN: Shape = Shape {
+    goal: Some(Goal::Greatest),
+    objective: (0, 1),
+    rows: &[((2, 0), Relation::Equal, 2)],
+    whole: &[0],
+};
+
+// The same as HALF where x need not be whole: unbounded from a half, 0 on.
+pub const HALF_FREE: Shape = Shape {
+    goal: Some(Goal::Greatest),
+    objective: (0, 1),
+    rows: &[((2, 0), Relation::Equal, 1)],
+    whole: &[],
 };
 
 // No point at all.

@@ -18,7 +18,7 @@ use Rattle.node_pick.specs.Rules.{Rule, depth_first, best_first, oldest_first, f
 use Rattle.node_pick.specs.declared.info.NodeInfo.{NodeInfo}
 use Rattle.linear_models.specs.Model.{Model, IsValid}
 use Rattle.searches.specs.Trees.{Node, info, End, empty, beaten, whole, split, endless, Found}
-use Rattle.searches.specs.Trails.{Outcome, no_point, best, no_bound, Finishes, without_point, at_best, without_bound, decisions_at, decisions_along, ComesTo, is_empty, is_endless, is_beaten, is_whole, is_split, IsBetterThan, IsFirstBroken, State, Work, Becomes, goes_on, ends, ended, without_place, node_program, opening, pivot, Grows, opens, pivots, stays, grows}
+use Rattle.searches.specs.Trails.{Outcome, no_point, best, no_bound, Finishes, without_point, at_best, without_bound, decisions_at, decisions_along, ComesTo, is_empty, is_endless, is_beaten, is_whole, is_split, IsBetterThan, IsFirstBroken, State, Work, Becomes, goes_on, ends, ended, without_place, node_program, opening, pivot, SearchUnit, Grows, opens, pivots, stays, grows, Trail}
 use Rattle.searches.specs.Laws.{OneNextState, OneTrail}
 use Rattle.searches.proofs.Numbers.{numbers_rise, list_rises}
 use Rattle.searches.proofs.Ends.{node_regular}
@@ -162,16 +162,21 @@ opens_one m rule s p q a b t t' v r e g h i x y =
 not_work : (s : State) (w : Work) → s.work ≡ None → s.work ≡ Some w → ⊥
 not_work s w e f = let q : None ≡ Some w = sym e ∙ f in absurd cc
 
-pub one_next_state : OneNextState
-one_next_state m rule us s t t' u u' v nf l (opens p a t1 z o e f b) (opens q c t2 z' o' e' f' b') =
-    opens_one m rule s p q a c t t' v (list_rises 0 s.count s.waiting (numbers_rise m rule us s l)) e e' (named rule _ p nf f) (named rule _ q nf f') b b'
-one_next_state m rule us s t t' u u' v nf l (opens p a t1 z o e f b) (pivots w r c t2 z' n y b') = absurd (not_work s w z z')
-one_next_state m rule us s t t' u u' v nf l (pivots w r c t1 z n y b) (opens p a t2 z' o e f b') = absurd (not_work s w z' z)
-one_next_state m rule us s t t' u u' v nf l (pivots w r c t1 z n y b) (pivots w' r' c' t2 z' n' y' b') =
+-- whatever rule was followed before
+pub next_one : (m : Model) (any rule : Rule) (us : List SearchUnit) (s t t' : State) (u u' : SearchUnit) → IsValid m → rule ≢ free → Trail m any us s → Grows m rule s u t → Grows m rule s u' t'
+    → (u ≡ u') × (t ≡ t')
+next_one m any rule us s t t' u u' v nf l (opens p a t1 z o e f b) (opens q c t2 z' o' e' f' b') =
+    opens_one m rule s p q a c t t' v (list_rises 0 s.count s.waiting (numbers_rise m any us s l)) e e' (named rule _ p nf f) (named rule _ q nf f') b b'
+next_one m any rule us s t t' u u' v nf l (opens p a t1 z o e f b) (pivots w r c t2 z' n y b') = absurd (not_work s w z z')
+next_one m any rule us s t t' u u' v nf l (pivots w r c t1 z n y b) (opens p a t2 z' o e f b') = absurd (not_work s w z' z)
+next_one m any rule us s t t' u u' v nf l (pivots w r c t1 z n y b) (pivots w' r' c' t2 z' n' y' b') =
     let q : w' ≡ w = some_one (sym z' ∙ z) in
-    let k : HoldsWith m s (Some w) = subst (HoldsWith m s) z (trail_stands m rule us s v l) in
+    let k : HoldsWith m s (Some w) = subst (HoldsWith m s) z (trail_stands m any us s v l) in
     pivots_one m s w r c r' c' t t' k.1 n (subst (λ (w : Work). NextPivot w.dictionary r' c') q n') (subst (λ (w : Work). IsNarrowPivot w.dictionary r' c') q y') b
     (subst (λ (w : Work). Becomes m s w.node (suc w.pivots) (pivoted w.dictionary r' c') t') q b')
+
+pub one_next_state : OneNextState
+one_next_state m rule us s t t' u u' v nf l g g' = next_one m rule rule us s t t' u u' v nf l g g'
 
 pub one_trail : OneTrail
 one_trail m rule us us' s s' v nf stays stays e = (refl, refl)

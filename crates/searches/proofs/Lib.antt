@@ -11,3 +11,4 @@ pub mod Splitting
 pub mod TrueTrees
 pub mod Answering
 pub mod Going
+pub mod Slices

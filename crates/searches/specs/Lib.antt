@@ -4,3 +4,5 @@ pub mod Answers
 pub mod Laws
 pub mod TrueTrees
 pub mod GoesOn
+pub mod Messages
+pub mod Slices

@@ -3,6 +3,7 @@
 
 ghost use Rattle.searches.specs.Laws.{AnswersAreTrue, OneAnswer, NoNodeIsOpenedTwice, NumbersRise, OneNextState, OneTrail};
 ghost use Rattle.searches.specs.GoesOn.{SearchGoesOn};
+ghost use Rattle.searches.specs.Slices.{SlicesAgree, SlicesJoin, SlicesPart};
 ghost use Rattle.searches.specs.TrueTrees.{TreesAreTrue};
 
 /// What a search that is over answers is true of the model.
@@ -43,4 +44,19 @@ pub fn answer_is_one()
 /// Where a search isn't over, there is a next unit, or a next pivot that isn't narrow.
 pub fn search_goes_on()
     ensures { SearchGoesOn }
+{}
+
+/// Two slices of a search, one after the other, are one slice of both their units.
+pub fn slices_join()
+    ensures { SlicesJoin }
+{}
+
+/// One slice is two, wherever it is cut.
+pub fn slices_part()
+    ensures { SlicesPart }
+{}
+
+/// However a search was cut, as many units by a rule lead to the same state.
+pub fn slices_agree()
+    ensures { SlicesAgree }
 {}

@@ -2,6 +2,8 @@ use Rattle.std.proofs.Common.{◌≡◌, refl, sym, ap, ◌∙◌}
 use Rattle.std.specs.Prelude.{Some, slice_get}
 use Rattle.std.proofs.lemmas.Option.{slice_get_read}
 use Rattle.branch_bound.proofs.Openings.{removed_state, removed_orderly, opened_ready}
+use Rattle.branch_bound.proofs.Hearing.{hears_opened}
+use Rattle.branch_bound.proofs.opening.open.Given as given
 use Rattle.branch_bound.proofs.opening.open.Goals as goal
 
 pub returns-clause-opened : goal.returns-clause-opened
@@ -17,6 +19,7 @@ returns-clause-opened g c =
       place = p;
       chosen = at;
       follows = rw c.deref.ensures.value at c.chosen-place.ensures.follows;
+      hears = hears_opened _ _ (λ ms. (given.Picker-dyn g (c.tell.new.pick.vtable, c.tell.new.pick.value)).heard c.tell.new.pick.value ms) _ c.copied-info.result _ (sym r.info) (rw c.deref.ensures.value at c.chosen-place.ensures.heard) c.tell.ensures.heard;
       state = removed_state b m _ p s c.remove.ensures.items;
       ready = opened_ready c.args.model.now b m _ c.in_ok-work.work p c.remove.new.self r s c.requires.orderly at c.remove.ensures.len c.remove.ensures.capacity;
       pivots = r.pivots;

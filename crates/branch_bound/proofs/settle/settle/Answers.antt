@@ -2,13 +2,15 @@ use Rattle.std.proofs.Common.{◌∙◌, sym, ap, ap₂, List, length, arith}
 use Rattle.std.specs.Prelude.{None}
 use Rattle.fractions.specs.Rational.{ℚ}
 use Rattle.searches.specs.Trails.{goes_on, ended}
+use Rattle.searches.specs.Messages.{news_of}
 use Rattle.search_ends.specs.Ends.{end_at}
 use Rattle.branch_bound.specs.States.{state_of, waiting_of}
-use Rattle.branch_bound.proofs.Joining.{becomes_end, same_value, written_back}
+use Rattle.branch_bound.proofs.Joining.{became_end, same_value, written_back}
+use Rattle.branch_bound.proofs.Hearing.{hears_none}
 use Rattle.branch_bound.proofs.settle.settle.Goals as goal
 
 pub returns-in-None-clause-becomes : goal.returns-in-None-clause-becomes
-returns-in-None-clause-becomes g c = goes_on c.in-None.ensures.end
+returns-in-None-clause-becomes g c = record { becomes = goes_on c.in-None.ensures.end; hears = hears_none _ }
 
 pub returns-in-Some-clause-becomes : goal.returns-in-Some-clause-becomes
 returns-in-Some-clause-becomes g c =
@@ -23,6 +25,7 @@ returns-in-Some-clause-becomes g c =
     let j = ap length c.deref_mut-2.ensures.value in
     let p = written_back w.point.len x w.point.items w.point.ok.0 (omega (arith, a, b)) in
     let q = written_back w.direction.len d w.direction.items w.direction.ok.0 (omega (arith, i, j)) in
-    becomes_end c.args.model.now (state_of f None) (state_of c.finish.new.frontier None) (waiting_of f.paths.paths w.info) w.pivots w.dict w.program c.best_value-best.result
-    (end_at e x d) c.requires.ready.program (same_value f.found ∙ sym c.best_value-best.ensures) c.in-Some.ensures.end
+    became_end c.args.model.now (state_of f None) (state_of c.finish.new.frontier None) (waiting_of f.paths.paths w.info) w.pivots w.dict w.program c.best_value-best.result
+    (end_at e x d) _ _ c.requires.ready.program (same_value f.found ∙ sym c.best_value-best.ensures) c.in-Some.ensures.end
     (c.finish.ensures.ended ∙ ap₂ (λ (u v : List ℚ). ended (state_of f None) (waiting_of f.paths.paths w.info) w.pivots (end_at e u v)) p q)
+    (ap₂ (λ (u v : List ℚ). news_of w.info.number (length f.paths.paths) (end_at e u v)) p q) c.finish.ensures.heard

@@ -1,19 +1,21 @@
-use Rattle.std.proofs.Common.{arith, refl, ◌≡◌, sym, ◌∙◌, subst}
+use Rattle.std.proofs.Common.{arith, refl, ◌≡◌, sym, ◌∙◌, subst, inl, inr}
 use Rattle.branch_bound.specs.Searches.{Held, HasEnded}
 use Rattle.branch_bound.specs.Ends.{MayGoOn}
-use Rattle.branch_bound.proofs.Running.{none_yet, one_more, stop_ends}
+use Rattle.branch_bound.proofs.Running.{none_yet, one_more, stop_ends, continued, answered_too, stop_continued}
 use Rattle.std.proofs.lemmas.Bool.{false≢true}
 use Rattle.branch_bound.proofs.search.Search.run.Goals.{then-loop-spent-test+then-not-has_ended+else-units-budget, then-loop-spent-test+else-not-has_ended, else-loop-spent-test}
+use Rattle.branch_bound.proofs.search.Search.run.Given as given
 use Rattle.branch_bound.proofs.search.Search.run.Goals as goal
 
 pub loop-spent-init : goal.loop-spent-init
-loop-spent-init g c = record { trail = none_yet _ _ _ _; spent = omega arith; model = refl; budget = refl; answered = refl; rule = refl }
+loop-spent-init g c = record { trail = none_yet _ _ _ _ _; in_budget = inl refl; spent = omega arith; model = refl; budget = refl; answered = refl; rule = refl }
 
 pub loop-spent-preserved : goal.loop-spent-preserved
 loop-spent-preserved g c =
     let i = c.loop-spent.invariant in
     record {
-      trail = one_more _ _ _ _ _ _ _ _ _ _ _ i.trail i.model i.rule c.in-Ok.ensures.ok c.in-Ok.ensures.counted;
+      in_budget = (let a = i.budget in let u = c.units.ensures.value in let v = c.budget.ensures.value in let t = c.if-units-budget.true in let n = c.in-Ok.ensures.counted in inr (omega (arith, a, u, v, t, n)));
+      trail = one_more _ _ _ _ _ _ _ _ _ (λ ms. (given.Picker-dyn g (c.step.new.pick.vtable, c.step.new.pick.value)).heard c.step.new.pick.value ms) _ _ _ _ i.trail i.model i.rule c.in-Ok.ensures.ok c.in-Ok.ensures.counted;
       spent = omega arith;
       model = c.step.ensures.same.0 ∙ i.model;
       budget = c.step.ensures.same.1 ∙ i.budget;
@@ -25,8 +27,8 @@ pub returns-in-Err-clause-ends : goal.returns-in-Err-clause-ends
 returns-in-Err-clause-ends g c =
     let i = c.loop-spent.invariant in
     let n : ¬ (HasEnded c.loop-spent.self) = λ h. false≢true (sym c.if-not-has_ended.true ∙ c.has_ended.ensures.1 h) in
-    let a = i.trail.2 in
-    let b = i.trail.3 in
+    let a = i.trail.counted in
+    let b = i.trail.spent_is in
     let l = c.loop-spent-test.true in
     let u = c.units.ensures.value in
     let v = c.budget.ensures.value in
@@ -42,8 +44,8 @@ pub returns-clause-ends : goal.returns-clause-ends
 returns-clause-ends g c =
     let i = c.loop-spent.invariant in
     let n : ¬ (HasEnded c.loop-spent.self) = λ h. false≢true (sym c.if-has_ended.false ∙ c.has_ended-2.ensures.1 h) in
-    let a = i.trail.2 in
-    let b = i.trail.3 in
+    let a = i.trail.counted in
+    let b = i.trail.spent_is in
     let s = i.spent in
     let u = c.units-2.ensures.value in
     let v = c.budget-2.ensures.value in
@@ -55,3 +57,23 @@ returns-clause-ends g c =
       | else-loop-spent-test w ↦ (let z = w.loop-spent-test.false in omega (arith, z, s))
     ] in
     (omega (arith, a, b, e), omega (arith, u, v, t), record { not_ended = n; not_given = i.answered ∙ c.requires })
+
+pub returns-in-Err-clause-trail : goal.returns-in-Err-clause-trail
+returns-in-Err-clause-trail g c =
+    let i = c.loop-spent.invariant in
+    stop_continued _ _ _ (λ ms. (given.Picker-dyn g (c.step.new.pick.vtable, c.step.new.pick.value)).heard c.step.new.pick.value ms) _ _ _ c.loop-spent.self c.step.new.self _ c.stopped.result i.trail c.in-Err.ensures.heard c.in-Err.ensures.stop.0 c.in-Err.ensures.stop.1 c.stopped.ensures i.spent i.in_budget i.model i.budget
+
+pub returns-then-has_ended-clause-trail : goal.returns-then-has_ended-clause-trail
+returns-then-has_ended-clause-trail g c =
+    let i = c.loop-spent.invariant in
+    answered_too _ _ _ _ c.loop-spent.self c.answer.new.self c.answer.ensures.same (continued _ _ _ _ _ c.loop-spent.self i.trail i.spent i.in_budget i.model i.budget)
+
+pub returns-clause-trail : goal.returns-clause-trail
+returns-clause-trail g c =
+    let i = c.loop-spent.invariant in
+    continued _ _ _ _ _ c.loop-spent.self i.trail i.spent i.in_budget i.model i.budget
+
+pub returns-then-budget-units-clause-trail : goal.returns-then-budget-units-clause-trail
+returns-then-budget-units-clause-trail g c =
+    let i = c.loop-spent.invariant in
+    continued _ _ _ _ _ c.loop-spent.self i.trail i.spent i.in_budget i.model i.budget
