@@ -1,14 +1,18 @@
 -- Small examples of records, addresses, cells and lines.
 use Rattle.std.proofs.Common.{◌≡◌, ℕ, List, [], ◌∷◌, codes, refl}
-use Rattle.std.specs.Prelude.{Some, None, Result, Ok, Err}
+use Rattle.std.specs.Prelude.{Some, None, Result, Ok, Err, false, true, pos, neg_ℤ}
 use Rattle.std.specs.Fmt.{digits}
 use Rattle.cell_refs.specs.declared.cell.Cell.{Cell}
 use Rattle.sheet_model.specs.declared.value.Value.TheVariants as value
+use Rattle.solver_names.specs.declared.fault.NamesFault.TheVariants as names
+use Rattle.workbook.specs.declared.place.Place.TheVariants as place
+use Rattle.form_needs.specs.declared.refusal.FormRefusal.TheVariants as form
 use Rattle.commands.specs.declared.answer.Answer.TheVariants as answer
 use Rattle.commands.specs.declared.answer.Answer.{Answer}
 use Rattle.commands.specs.Addresses.{Address, address_in}
-use Rattle.commands.specs.Commands.{Set, Show, Unknown, command_of}
+use Rattle.commands.specs.Commands.{Model, Set, Show, Unknown, command_of}
 use Rattle.commands.specs.Lines.{answer_text}
+use Rattle.commands.specs.Refusals.{pivot_text}
 use Rattle.commands.specs.Locating.{cell_named}
 
 -- ---- records
@@ -17,6 +21,9 @@ a_set = refl
 
 a_show : command_of (codes "show" ∷ codes "plan!A2" ∷ []) ≡ Show (codes "plan!A2")
 a_show = refl
+
+a_model : command_of (codes "model" ∷ codes "plan" ∷ []) ≡ Model (codes "plan")
+a_model = refl
 
 in_capitals : command_of (codes "SHOW" ∷ codes "plan!A2" ∷ []) ≡ Unknown
 in_capitals = refl
@@ -68,12 +75,38 @@ the_sheet_first = refl
 no_objective : answer_text [] (answer.Optimal None) ≡ codes "optimal\n"
 no_objective = refl
 
-an_unbuilt_sheet : answer_text [] answer.Unbuilt ≡ codes "refused unbuilt\n"
-an_unbuilt_sheet = refl
-
 a_text : answer_text [] (answer.Shown (value.Text (codes "a\"b"))) ≡ codes "text \"a\"\"b\"\n"
 a_text = refl
 
 a_wide_cell : answer_text (codes "My Plan" ∷ []) (answer.WideCell (record { sheet = record { 0 = 0 }; row = 1; col = 27 })) ≡ codes "refused wide 'My Plan'!AB2\n"
 unfolding digits
 a_wide_cell = refl
+
+-- ---- refusals with parts
+cell : ℕ → ℕ → Cell
+cell row column = record { sheet = record { 0 = 0 }; row = row; col = column }
+
+another_size : answer_text sheets (answer.Names (names.SizeMismatch 1 2 3)) ≡ codes "refused names 5 1 2 3\n"
+unfolding digits
+another_size = refl
+
+no_decision : answer_text sheets (answer.Names (names.NotDecision 1 (cell 3 2))) ≡ codes "refused names 6 1 plan!C4\n"
+unfolding digits sheets cell
+no_decision = refl
+
+not_affine : answer_text sheets (answer.Form (form.NotAffine (place.Cell (cell 2 2)) (record { start = 1; end = 6 }))) ≡ codes "refused not-affine plan!C3 1-6\n"
+unfolding digits sheets cell
+not_affine = refl
+
+a_wide_side : answer_text sheets (answer.Form (form.Wide (place.Side 3))) ≡ codes "refused wide solver_rhs3\n"
+unfolding digits
+a_wide_side = refl
+
+at_the_root : pivot_text sheets [] (3 ∷ 12 ∷ []) 3 1 ≡ codes "root basis 3,12 at 3 1"
+unfolding digits
+at_the_root = refl
+
+below_two_steps : pivot_text sheets (record { cell = cell 1 1; upper = false; bound = pos 1 } ∷ record { cell = cell 2 0; upper = true; bound = neg_ℤ (pos 2) } ∷ []) (3 ∷ []) 0 7
+    ≡ codes "plan!B2<=1,plan!A3>=-2 basis 3 at 0 7"
+unfolding digits sheets cell
+below_two_steps = refl

@@ -8,6 +8,7 @@ pub data Spoken : Type 0 where
   Set : (address text : List ℕ) → Spoken
   Clear : (address : List ℕ) → Spoken
   Show : (address : List ℕ) → Spoken
+  Model : (sheet : List ℕ) → Spoken
   Solve : (sheet : List ℕ) → Spoken
   Unknown : Spoken
 
@@ -16,7 +17,7 @@ abbrev pub Text : Type 0
 Text = List ℕ
 
 abbrev pub with_one : List (Text × (Text → Spoken))
-with_one = (codes "clear", Clear) ∷ (codes "show", Show) ∷ (codes "solve", Solve) ∷ []
+with_one = (codes "clear", Clear) ∷ (codes "show", Show) ∷ (codes "model", Model) ∷ (codes "solve", Solve) ∷ []
 
 abbrev pub with_two : List (Text × (Text → Text → Spoken))
 with_two = (codes "set", Set) ∷ []
@@ -42,5 +43,6 @@ abbrev pub spoken : Command → Spoken
 spoken (command.Set address text) = Set (string_bytes address) (string_bytes text)
 spoken (command.Clear address) = Clear (string_bytes address)
 spoken (command.Show address) = Show (string_bytes address)
+spoken (command.Model sheet) = Model (string_bytes sheet)
 spoken (command.Solve sheet) = Solve (string_bytes sheet)
 spoken command.Unknown = Unknown

@@ -1,5 +1,7 @@
 pub mod Commands
 pub mod Addresses
 pub mod Locating
+pub mod Preceded
+pub mod Refusals
 pub mod Lines
 pub mod Spelling

@@ -1,14 +1,15 @@
 -- The lines that are printed.
-use Rattle.std.specs.Prelude.{ℕ, ◌==◌, Bool, true, false, if◌then◌else◌, List, [], ◌∷◌, ◌++◌, Some, None, bytes_eq, codes, slice_get, take, unwrap_or}
-use Rattle.cell_refs.specs.declared.cell.Cell.{Cell}
+use Rattle.std.specs.Prelude.{ℕ, ◌==◌, Bool, true, false, if◌then◌else◌, List, [], ◌∷◌, ◌++◌, All, Some, None, bytes_eq, codes, decimal, take}
 use Rattle.cell_refs.specs.ErrorText.{error_text}
-use Rattle.cell_refs.specs.Names.{cell_text}
 use Rattle.frac128.specs.Printed.{printed}
 use Rattle.sheet_model.specs.declared.value.Value.{Value}
 use Rattle.sheet_model.specs.declared.value.Value.TheVariants as value
 use Rattle.workbook.specs.Listed.{IsListed}
+use Rattle.model_lines.specs.Cells.{cell_with_sheet}
+use Rattle.model_lines.specs.Lines.{model_text}
 use Rattle.commands.specs.declared.answer.Answer.{Answer}
 use Rattle.commands.specs.declared.answer.Answer.TheVariants as answer
+use Rattle.commands.specs.Refusals.{FaultIsListed, RefusalIsListed, StepIsListed, names_text, pivot_text, refusal_text}
 
 -- a text with each of its quotes doubled
 abbrev pub doubled : List ℕ → List ℕ
@@ -24,17 +25,15 @@ value_text (value.Logical false) = codes "logical FALSE"
 value_text value.Empty = codes "empty"
 value_text (value.Error kind) = codes "error " ++ error_text kind
 
--- a cell, with the name of its sheet
-abbrev pub cell_with_sheet : List (List ℕ) → Cell → List ℕ
-cell_with_sheet sheets c = cell_text (unwrap_or (slice_get sheets c.sheet.0) []) c.row c.col
-
--- an answer, without the end of its line
+-- an answer, without the end of its last line
 abbrev pub said : List (List ℕ) → Answer → List ℕ
 said sheets answer.Done = codes "ok"
 said sheets (answer.Shown v) = value_text v
+said sheets (answer.Model lines) = model_text sheets lines
 said sheets (answer.Optimal None) = codes "optimal"
 said sheets (answer.Optimal (Some value)) = codes "optimal " ++ printed value
 said sheets answer.Infeasible = codes "infeasible"
+said sheets answer.Unbounded = codes "unbounded"
 said sheets answer.UnknownCommand = codes "refused unknown-command"
 said sheets answer.BadAddress = codes "refused bad-address"
 said sheets answer.UnknownSheet = codes "refused unknown-sheet"
@@ -44,10 +43,15 @@ said sheets answer.FieldTooLong = codes "refused field-too-long"
 said sheets answer.TooManyCells = codes "refused too-many-cells"
 said sheets answer.TooManyFormulas = codes "refused too-many-formulas"
 said sheets answer.TooManyNames = codes "refused too-many-names"
-said sheets answer.Unbuilt = codes "refused unbuilt"
 said sheets (answer.WideCell c) = codes "refused wide " ++ cell_with_sheet sheets c
+said sheets (answer.Names fault) = codes "refused names " ++ names_text sheets fault
+said sheets (answer.Form refusal) = codes "refused " ++ refusal_text sheets refusal
+said sheets (answer.WideRow k) = codes "refused wide-row " ++ decimal k
+said sheets (answer.WidePivot path basis row column) = codes "refused wide-pivot " ++ pivot_text sheets path.items basis.items row column
+said sheets (answer.Budget units) = codes "refused budget " ++ decimal units
+said sheets (answer.NoRoom c) = codes "refused no-room " ++ cell_with_sheet sheets c
 
--- the line of an answer, where the sheets have these names
+-- the line or lines of an answer, where the sheets have these names
 abbrev pub answer_text : List (List ℕ) → Answer → List ℕ
 answer_text sheets a = said sheets a ++ codes "\n"
 
@@ -55,7 +59,12 @@ answer_text sheets a = said sheets a ++ codes "\n"
 abbrev pub is_refusal : List (List ℕ) → Answer → Bool
 is_refusal sheets a = bytes_eq (take 8 (said sheets a)) (codes "refused ")
 
--- a wide cell that is answered lies on one of the sheets
+-- which answers can be printed: each cell in them lies on one of the sheets, and memory wasn't wanted
 abbrev pub CanBeSaid : List (List ℕ) → Answer → Type 0
+CanBeSaid sheets (answer.Model lines) = All (IsListed sheets) lines.decisions
 CanBeSaid sheets (answer.WideCell c) = IsListed sheets c
+CanBeSaid sheets (answer.Names fault) = FaultIsListed sheets fault
+CanBeSaid sheets (answer.Form refusal) = RefusalIsListed sheets refusal
+CanBeSaid sheets (answer.WidePivot path basis row column) = All (StepIsListed sheets) path.items
+CanBeSaid sheets (answer.NoRoom c) = IsListed sheets c
 CanBeSaid sheets _ = Unit {0}

@@ -3,17 +3,32 @@ ghost use Rattle.std.specs.Prelude.{◌≡◌, List, ℕ};
 ghost use Rattle.commands.specs.Lines.{is_refusal};
 
 use cell_refs::Cell;
+use form_needs::FormRefusal;
 use frac128::Frac;
+use model_lines::ModelLines;
 use sheet_model::Value;
+use solver_names::NamesFault;
+
+/// A step of the path to a node of a search: the cell whose bound it sets, whether the part is the upper one, and the bound.
+#[derive(Clone, Copy, Debug, PartialEq, Eq)]
+pub struct PathStep {
+    pub cell: Cell,
+    pub upper: bool,
+    pub bound: i128,
+}
 
 /// What a command answers.
-#[derive(Debug, Drop)]
+#[derive(Drop)]
 pub enum Answer {
     Done,
     Shown(Value),
+    /// The linear model of a sheet.
+    Model(ModelLines),
     /// The best value of the objective, where the sheet has one.
     Optimal(Option<Frac>),
     Infeasible,
+    /// There is no best value.
+    Unbounded,
     UnknownCommand,
     BadAddress,
     UnknownSheet,
@@ -23,19 +38,32 @@ pub enum Answer {
     TooManyCells,
     TooManyFormulas,
     TooManyNames,
-    /// The sheet is not one that can be solved yet.
-    Unbuilt,
     /// A number in the calculation of this cell does not fit 128 bits.
     WideCell(Cell),
+    /// The first fault in the names of the sheet.
+    Names(NamesFault),
+    /// The first reason, after its names, why the sheet has no linear model.
+    Form(FormRefusal),
+    /// The difference of the sides of this row, from 1, does not fit 128 bits.
+    WideRow(u16),
+    /// A number of a pivot does not fit 128 bits: the path to the node, its basic variables, and the variables that leave
+    /// and enter.
+    WidePivot(Vec<PathStep>, Vec<u16>, u16, u16),
+    /// So many units were not enough.
+    Budget(u64),
+    /// There is no room for the text of this cell.
+    NoRoom(Cell),
 }
 
 impl Answer {
     /// Whether it is a refusal.
+    #[tactic(auto, using(crate::proofs::Saying::not_refused))]
     pub fn is_refusal(&self) -> bool
         ensures { (sheets : List (List ℕ)) → result ≡ is_refusal sheets self.now }
     {
         match self {
-            Answer::Done | Answer::Shown(_) | Answer::Optimal(_) | Answer::Infeasible => false,
+            Answer::Done | Answer::Shown(_) | Answer::Model(_) => false,
+            Answer::Optimal(_) | Answer::Infeasible | Answer::Unbounded => false,
             _ => true,
         }
     }

@@ -13,6 +13,8 @@ pub enum Command {
     Set(String, String),
     Clear(String),
     Show(String),
+    /// The name of the sheet whose linear model is shown.
+    Model(String),
     /// The name of the sheet that is solved.
     Solve(String),
     Unknown,
@@ -41,6 +43,9 @@ impl Command {
         }
         if word == "show" {
             return Ok(Command::Show(String::from_str(alloc, text)?));
+        }
+        if word == "model" {
+            return Ok(Command::Model(String::from_str(alloc, text)?));
         }
         if word == "solve" {
             return Ok(Command::Solve(String::from_str(alloc, text)?));

@@ -7,8 +7,9 @@ mod command;
 mod laws;
 mod lines;
 mod locating;
+mod refusals;
 
-pub use answer::Answer;
+pub use answer::{Answer, PathStep};
 pub use command::Command;
 pub use laws::addresses_are_spelled;
 pub use lines::line;

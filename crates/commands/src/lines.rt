@@ -1,13 +1,13 @@
 // The lines that are printed.
-ghost use Rattle.std.specs.Prelude.{◌≡◌, ◌++◌, [], IfOk, OnOk, codes, encode_utf8, string_bytes};
+ghost use Rattle.std.specs.Prelude.{◌≡◌, ◌++◌, [], IfOk, OnOk, encode_utf8, string_bytes};
 ghost use Rattle.cell_refs.specs.ErrorText.{error_text};
 ghost use Rattle.frac128.specs.Printed.{printed};
-ghost use Rattle.workbook.specs.Listed.{IsListed};
-ghost use Rattle.commands.specs.Lines.{CanBeSaid, answer_text, cell_with_sheet, doubled, said, value_text};
+ghost use Rattle.commands.specs.Lines.{CanBeSaid, answer_text, doubled, said, value_text};
 ghost use Rattle.commands.specs.declared.answer.Answer.{Answer};
 
 use crate::answer::Answer;
-use cell_refs::{Cell, SheetNames, print_cell};
+use crate::refusals::{say_form, say_names, say_number, say_pivot, say_text, say_with_cell};
+use cell_refs::SheetNames;
 use frac128::Frac;
 use sheet_model::{Memory, Value};
 use std::alloc::Global;
@@ -31,8 +31,10 @@ fn say(answer: &Answer, sheets: &SheetNames, to: &mut String) -> Result<(), Memo
     match answer {
         Answer::Done => say_text("ok", to),
         Answer::Shown(value) => say_value(value, to),
+        Answer::Model(lines) => lines.print(sheets, to),
         Answer::Optimal(value) => say_optimal(*value, to),
         Answer::Infeasible => say_text("infeasible", to),
+        Answer::Unbounded => say_text("unbounded", to),
         Answer::UnknownCommand => say_text("refused unknown-command", to),
         Answer::BadAddress => say_text("refused bad-address", to),
         Answer::UnknownSheet => say_text("refused unknown-sheet", to),
@@ -42,17 +44,16 @@ fn say(answer: &Answer, sheets: &SheetNames, to: &mut String) -> Result<(), Memo
         Answer::TooManyCells => say_text("refused too-many-cells", to),
         Answer::TooManyFormulas => say_text("refused too-many-formulas", to),
         Answer::TooManyNames => say_text("refused too-many-names", to),
-        Answer::Unbuilt => say_text("refused unbuilt", to),
-        Answer::WideCell(cell) => say_wide(cell, sheets, to),
+        Answer::WideCell(cell) => say_with_cell("refused wide ", cell, sheets, to),
+        Answer::Names(fault) => say_names(fault, sheets, to),
+        Answer::Form(refusal) => say_form(refusal, sheets, to),
+        Answer::WideRow(row) => say_number("refused wide-row ", u64::from(*row), to),
+        Answer::WidePivot(path, basis, row, column) => {
+            say_pivot(path, basis, (*row, *column), sheets, to)
+        }
+        Answer::Budget(units) => say_number("refused budget ", *units, to),
+        Answer::NoRoom(cell) => say_with_cell("refused no-room ", cell, sheets, to),
     }
-}
-
-// Appends a text as it is.
-fn say_text(text: &str, to: &mut String) -> Result<(), Memory>
-    ensures { OnOk result (string_bytes to.new ≡ string_bytes to.old ++ text.now) }
-{
-    to.push_str(text)?;
-    Ok(())
 }
 
 // Appends an optimum, with its value if it has one.
@@ -111,17 +112,5 @@ fn say_char(c: char, to: &mut String) -> Result<(), Memory>
         return Ok(());
     }
     to.push(c)?;
-    Ok(())
-}
-
-// Appends the refusal of a wide cell.
-fn say_wide(cell: &Cell, sheets: &SheetNames, to: &mut String) -> Result<(), Memory>
-    requires { IsListed sheets.now cell.now }
-    ensures { OnOk result (string_bytes to.new ≡ string_bytes to.old ++ (codes "refused wide " ++ cell_with_sheet sheets.now cell.now)) }
-{
-    to.push_str("refused wide ")?;
-    let Ok(()) = print_cell(cell, sheets, to) else {
-        return Err(Memory);
-    };
     Ok(())
 }

@@ -14,7 +14,7 @@ use Rattle.opensolver_cli.specs.Headline.{EndsAs, EndsOver, IsCounted, IsReadFau
 use Rattle.opensolver_cli.specs.Inputs.{FindsAll, IsFaultOf, IsSourceLeft}
 use Rattle.opensolver_cli.specs.Outside.{IsScriptLeft, Outside}
 use Rattle.opensolver_cli.specs.Stops.{status_of, stop_line}
-use Rattle.opensolver_cli.specs.Words.{Asked, Job, Named, Pick, Script}
+use Rattle.opensolver_cli.specs.Words.{Asked, Job, Named, Script}
 use Rattle.opensolver_cli.specs.declared.status.Status.{Status}
 use Rattle.opensolver_cli.specs.declared.status.Status.TheVariants as status
 use Rattle.opensolver_cli.specs.declared.stop.End.TheVariants as end
@@ -69,15 +69,15 @@ answered job files script before after book records status.BadInput kept same is
 
 all_answered : (job : Job) (content : Option Files) (left : Option (List ℕ)) (before after : Outside) (book : State) (records : List Record) (r : Status) → after.files ≡ content → after.files ≡ before.files
     → IfSome content (λ files. IfSome left (λ script. FindsAll job.named files script after.left (Ok (book, records))))
-    → ((n : Named) (p : Pick) (files : Files) → AnswersRecords (setting_of (record { named = n; budget = job.budget; pick = p }) book files) records before.pieces after.pieces (Some files) r)
+    → ((files : Files) → AnswersRecords (setting_of job book files) records before.pieces after.pieces (Some files) r)
     → IfSome content (λ files. IfSome left (λ script. EndsAs job files script before after r))
 all_answered job None left before after book records r kept same is h = tt
 all_answered job (Some files) None before after book records r kept same is h = tt
-all_answered job (Some files) (Some script) before after book records r kept same is h = answered job files script before after book records r kept same is (h job.named job.pick files)
+all_answered job (Some files) (Some script) before after book records r kept same is h = answered job files script before after book records r kept same is (h files)
 
 pub run_answered : (job : Job) (before after : Outside) (book : State) (records : List Record) (r : Status) → IsFound job.named before after
     → IfSome before.files (λ files. IfSome before.left (λ script. FindsAll job.named files script after.left (Ok (book, records))))
-    → ((n : Named) (p : Pick) (files : Files) → AnswersRecords (setting_of (record { named = n; budget = job.budget; pick = p }) book files) records before.pieces after.pieces (Some files) r) → RunsAs (Some (Script job)) before after r
+    → ((files : Files) → AnswersRecords (setting_of job book files) records before.pieces after.pieces (Some files) r) → RunsAs (Some (Script job)) before after r
 run_answered job before after book records r f is h =
     over job before.files before.left before after r refl refl f (all_answered job before.files before.left before after book records r f.same f.same is h)
 
@@ -149,11 +149,11 @@ whole_or_early job book files records u v status.Limit h = absurd h
 whole_or_early job book files records u v status.BadInput h = absurd h
 
 pub answered_exactly : (job : Job) (content : Option Files) (left after : Option (List ℕ)) (book : State) (records : List Record) (u v : Option (List (List ℕ))) (r : Status)
-    → IfSome content (λ files. IfSome left (λ script. FindsAll job.named files script after (Ok (book, records)))) → ((n : Named) (p : Pick) (files : Files) → AnswersRecords (setting_of (record { named = n; budget = job.budget; pick = p }) book files) records u v (Some files) r)
+    → IfSome content (λ files. IfSome left (λ script. FindsAll job.named files script after (Ok (book, records)))) → ((files : Files) → AnswersRecords (setting_of job book files) records u v (Some files) r)
     → EndsExactly (Some (Script job)) content left r
-answered_exactly job None left after book records u v r is h = (whole_or_early job book empty records u v r (h job.named job.pick empty)).1
-answered_exactly job (Some files) None after book records u v r is h = (whole_or_early job book files records u v r (h job.named job.pick files)).1
-answered_exactly job (Some files) (Some script) after book records u v r is h = rw is.0 (whole_or_early job book files records u v r (h job.named job.pick files)).0
+answered_exactly job None left after book records u v r is h = (whole_or_early job book empty records u v r (h empty)).1
+answered_exactly job (Some files) None after book records u v r is h = (whole_or_early job book files records u v r (h files)).1
+answered_exactly job (Some files) (Some script) after book records u v r is h = rw is.0 (whole_or_early job book files records u v r (h files)).0
 
 -- a line that was said
 said : (stop : Stop) (line : List ℕ) (u v : Option (List (List ℕ))) (r : Status) → Says line (status_of stop) u v r → ((r ≡ status_of stop) ⊎ IsEarly r) × (r ≢ status.Usage) × (r ≢ status.ReadFault)
@@ -198,11 +198,11 @@ counted before after r other reads writes sink = record {
   saves = writes;
 }
 
-pub answered_counted : (job : Job) (before after : Outside) (book : State) (records : List Record) (r : Status) → ((n : Named) (p : Pick) (files : Files) → AnswersRecords (setting_of (record { named = n; budget = job.budget; pick = p }) book files) records before.pieces after.pieces (Some files) r)
+pub answered_counted : (job : Job) (before after : Outside) (book : State) (records : List Record) (r : Status) → ((files : Files) → AnswersRecords (setting_of job book files) records before.pieces after.pieces (Some files) r)
     → (after.folder_reads ≡ before.folder_reads) × (after.script_reads ≡ before.script_reads) → after.folder_writes ≡ before.folder_writes
     → IsSinkFault before.sink_writes after.sink_writes r → IsCounted before after r
 answered_counted job before after book records r h reads writes sink =
-    counted before after r (whole_or_early job book empty records before.pieces after.pieces r (h job.named job.pick empty)).2 reads writes sink
+    counted before after r (whole_or_early job book empty records before.pieces after.pieces r (h empty)).2 reads writes sink
 
 pub said_counted : (stop : Stop) (line : List ℕ) (before after : Outside) (r : Status) → Says line (status_of stop) before.pieces after.pieces r
     → (after.folder_reads ≡ before.folder_reads) × (after.script_reads ≡ before.script_reads) → after.folder_writes ≡ before.folder_writes
@@ -266,3 +266,7 @@ usage_exactly asked content left u v r none h = rw (← none) (usage_early u v r
 
 pub usage_counted : (before after : Outside) (r : Status) → IsLeft before after → Says usage_line status.Usage before.pieces after.pieces r → IsSinkFault before.sink_writes after.sink_writes r → IsCounted before after r
 usage_counted before after r is h sink = counted before after r (usage_early before.pieces after.pieces r h).1 (is.reads, is.script) is.writes sink
+
+-- ---- words that ask for a script
+pub job_runs : (job : Job) (asked : Option Asked) (before after : Outside) (r : Status) → Some (Script job) ≡ asked → RunsAs (Some (Script job)) before after r → RunsAs asked before after r
+job_runs job asked before after r is h = subst (λ (z : Option Asked). RunsAs z before after r) is h

@@ -11,30 +11,31 @@ use Rattle.sheet_csv.specs.Sheet.{Record}
 use Rattle.commands.specs.Commands.{command_of}
 use Rattle.commands.specs.Lines.{answer_text, is_refusal}
 use Rattle.commands.specs.declared.answer.Answer.{Answer}
+use Rattle.node_pick.specs.Rules.{Rule}
 use Rattle.session.specs.States.{SessionState}
 use Rattle.session.specs.Steps.{Step}
 use Rattle.opensolver_cli.specs.Courses.{AllAnswered, CutShort, EndsBefore, EndsInSink, Setting}
 use Rattle.opensolver_cli.specs.declared.status.Status.{Status}
 use Rattle.opensolver_cli.specs.declared.status.Status.TheVariants as status
 
--- the record was answered and its lines printed as one piece; and whether the answer is a refusal
-pub record IsAnswered (old : SessionState) (fields : Record) (before after : Option (List (List ℕ))) (new : SessionState) (refused : Bool) : Type 0 where
+-- the record was answered, by a picker of this rule, and its lines printed as one piece; and whether the answer is a refusal
+pub record IsAnswered (rule : Rule) (old : SessionState) (fields : Record) (before after : Option (List (List ℕ))) (new : SessionState) (refused : Bool) : Type 0 where
   pub answer : Answer
-  pub step : Step old (command_of fields) answer new
+  pub step : Step rule old (command_of fields) answer new
   pub printed : Takes before after (answer_text old.book.sheets answer ∷ [])
   pub refusal : is_refusal old.book.sheets answer ≡ refused
 
 -- the record was answered, and a part of its lines printed or nothing
-pub record IsCutOff (old : SessionState) (fields : Record) (before after : Option (List (List ℕ))) (new : SessionState) : Type 0 where
+pub record IsCutOff (rule : Rule) (old : SessionState) (fields : Record) (before after : Option (List (List ℕ))) (new : SessionState) : Type 0 where
   pub answer : Answer
-  pub step : Step old (command_of fields) answer new
+  pub step : Step rule old (command_of fields) answer new
   pub printed : TakesSome before after (answer_text old.book.sheets answer)
 
 -- the record's answer was printed; or a write failed, or memory ran out then or before
-abbrev pub AnswersRecord : SessionState → Record → Option (List (List ℕ)) → Option (List (List ℕ)) → SessionState → Result Bool PutEnd → Type 0
-AnswersRecord old fields before after new (Ok refused) = IsAnswered old fields before after new refused
-AnswersRecord old fields before after new (Err put.Failed) = IsCutOff old fields before after new
-AnswersRecord old fields before after new (Err put.Memory) = IsCutOff old fields before after new ⊎ (after ≡ before)
+abbrev pub AnswersRecord : Rule → SessionState → Record → Option (List (List ℕ)) → Option (List (List ℕ)) → SessionState → Result Bool PutEnd → Type 0
+AnswersRecord rule old fields before after new (Ok refused) = IsAnswered rule old fields before after new refused
+AnswersRecord rule old fields before after new (Err put.Failed) = IsCutOff rule old fields before after new
+AnswersRecord rule old fields before after new (Err put.Memory) = IsCutOff rule old fields before after new ⊎ (after ≡ before)
 
 -- all records were answered, or a write failed or memory ran out meanwhile
 abbrev pub AnswersRecords : Setting → List Record → Option (List (List ℕ)) → Option (List (List ℕ)) → Option Files → Status → Type 0

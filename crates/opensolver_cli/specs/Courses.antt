@@ -6,7 +6,7 @@ use Rattle.solver_io.specs.Files.{Files}
 use Rattle.sheet_csv.specs.Sheet.{Record}
 use Rattle.commands.specs.declared.answer.Answer.{Answer}
 use Rattle.commands.specs.Lines.{answer_text, is_refusal}
-use Rattle.opensolver_cli.specs.Words.{Named, Pick}
+use Rattle.opensolver_cli.specs.Words.{Named, Pick, rule_of}
 use Rattle.opensolver_cli.specs.Worlds.{World, Answers, Answered, lines_of}
 
 -- over which files the records are answered, by which picker, and in which world they begin
@@ -25,7 +25,7 @@ sheets_of setting = setting.start.session.book.sheets
 pub record AllAnswered (setting : Setting) (records : List Record) (before after : Option (List (List ℕ))) (files : Option Files) (refused : Bool) : Type 0 where
   pub answers : List Answer
   pub last : World
-  pub answered : Answered setting.start records answers last
+  pub answered : Answered (rule_of setting.pick) setting.start records answers last
   pub printed : Takes before after (lines_of (sheets_of setting) answers)
   pub files_are : files ≡ Some last.files
   pub refusals : list_any (is_refusal (sheets_of setting)) answers ≡ refused
@@ -35,7 +35,7 @@ pub record AllAnswered (setting : Setting) (records : List Record) (before after
 pub record EndsInSink (setting : Setting) (w : World) (fields : Record) (part : List (List ℕ)) (files : Option Files) : Type 0 where
   pub answer : Answer
   pub next : World
-  pub answered : Answers w fields answer next
+  pub answered : Answers (rule_of setting.pick) w fields answer next
   pub count : ℕ
   pub part_is : part ≡ part_of count (answer_text (sheets_of setting) answer)
   pub files_are : files ≡ Some next.files
@@ -52,7 +52,7 @@ pub record CutShort (Ends : World → Record → List (List ℕ) → Type 0) (se
   pub there : slice_get records done ≡ Some fields
   pub answers : List Answer
   pub reached : World
-  pub answered : Answered setting.start (take done records) answers reached
+  pub answered : Answered (rule_of setting.pick) setting.start (take done records) answers reached
   pub part : List (List ℕ)
   pub ends : Ends reached fields part
   pub printed : Takes before after (lines_of (sheets_of setting) answers ++ part)

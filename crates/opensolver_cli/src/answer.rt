@@ -1,29 +1,33 @@
 // Answering the records of a script.
-ghost use Rattle.std.specs.Prelude.{◌≡◌, ◌≤◌, Some};
+ghost use Rattle.std.specs.Prelude.{◌≡◌, ◌<◌, ◌≤◌, Some, length, slice_get};
 ghost use Rattle.solver_io.specs.Bytes.{PutCause};
 ghost use Rattle.solver_io.specs.Files.{Files};
+ghost use Rattle.sheet_csv.specs.Sheet.{Record};
 ghost use Rattle.session.specs.States.{most_units};
 ghost use Rattle.opensolver_cli.specs.Answering.{AnswersRecord, AnswersRecords, IsSaid, IsSinkFault, Says};
 ghost use Rattle.opensolver_cli.specs.Headline.{setting_of};
-ghost use Rattle.opensolver_cli.specs.Words.{Named, Pick};
+ghost use Rattle.opensolver_cli.specs.Words.{Named, Pick, rule_of};
 
 use crate::Status;
+use node_pick::Picker;
 use session::{Command, Session, line};
-use sheet_csv::{Record, Rows};
+use sheet_csv::Rows;
 use solver_io::{PutEnd, Sink};
 use std::alloc::Global;
 use workbook::Workbook;
 
-/// Answers each of the records, over a workbook that was opened, with this budget for a search.
+/// Answers each of the records, over a workbook that was opened, with this budget for a search, which opens the nodes that the
+/// picker chooses.
 pub(crate) fn answer_records<K: Sink>(
     alloc: Global,
     book: Workbook,
     budget: u64,
     rows: &Rows,
     out: &mut K,
+    pick: &mut Box<dyn Picker>,
 ) -> Status
     requires few { budget ≤ most_units }
-    ensures answers { (named : Named) (pick : Pick) (files : Files) → AnswersRecords (setting_of (record { named = named; budget = budget; pick = pick }) book files) rows.now (K.pieces out.old) (K.pieces out.new) (Some files) result }
+    ensures answers { (named : Named) (chosen : Pick) (files : Files) → rule pick.old ≡ rule_of chosen → AnswersRecords (setting_of (record { named = named; budget = budget; pick = chosen }) book files) rows.now (K.pieces out.old) (K.pieces out.new) (Some files) result }
     ensures cause { IsSinkFault (K.faults out.old) (K.faults out.new) result }
 {
     let Ok(mut session) = Session::open(alloc, book, budget) else {
@@ -31,7 +35,7 @@ pub(crate) fn answer_records<K: Sink>(
     };
     let mut refused = false;
     for place in 0..rows.len() {
-        match answer_record(alloc, &mut session, rows.at(place), out) {
+        match answer_record(alloc, &mut session, rows, place, out, pick) {
             Ok(is_refusal) => refused = refused || is_refusal,
             Err(PutEnd::Failed) => return Status::WriteFault,
             Err(PutEnd::Memory) => return Status::Memory,
@@ -44,21 +48,25 @@ pub(crate) fn answer_records<K: Sink>(
     }
 }
 
-// Answers one record, and says whether the answer is a refusal.
+// Answers the record at a place, and says whether the answer is a refusal.
 fn answer_record<K: Sink>(
     alloc: Global,
     session: &mut Session,
-    fields: &Record,
+    rows: &Rows,
+    place: usize,
     out: &mut K,
+    pick: &mut Box<dyn Picker>,
 ) -> Result<bool, PutEnd>
-    ensures answers { AnswersRecord session.old.state fields.now (K.pieces out.old) (K.pieces out.new) session.new.state result }
+    requires within { place < length rows.now }
+    ensures answers { (fields : Record) × (slice_get rows.now place ≡ Some fields) × AnswersRecord (rule pick.old) session.old.state fields (K.pieces out.old) (K.pieces out.new) session.new.state result }
     ensures sheets { session.new.state.book.sheets ≡ session.old.state.book.sheets }
+    ensures rule { rule pick.new ≡ rule pick.old }
     ensures cause { PutCause (K.faults out.old) (K.faults out.new) result }
 {
-    let Ok(command) = Command::of(alloc, fields) else {
+    let Ok(command) = Command::of(alloc, rows.at(place)) else {
         return Err(PutEnd::Memory);
     };
-    let Ok(answer) = session.apply(&command) else {
+    let Ok(answer) = session.apply(&command, pick) else {
         return Err(PutEnd::Memory);
     };
     let Ok(text) = line(alloc, &answer, session.sheets()) else {

@@ -1,6 +1,8 @@
 // The top call.
-ghost use Rattle.std.specs.Prelude.{◌≡◌, ◌≢◌, ◌<◌, All, Err, IfSome, Some, length, string_bytes, true};
+ghost use Rattle.std.specs.Prelude.{◌≡◌, ◌≢◌, ◌<◌, ◌≤◌, ◌∷◌, [], All, Err, IfSome, Some, length, map, string_bytes, true};
 ghost use Rattle.cell_refs.specs.declared.limits.TheConstants.{SHEETS};
+ghost use Rattle.node_pick.specs.Rules.{best_first, depth_first, oldest_first};
+ghost use Rattle.session.specs.States.{most_units};
 ghost use Rattle.opensolver_cli.specs.Answering.{IsSinkFault, Says};
 ghost use Rattle.opensolver_cli.specs.Completeness.{EndsExactly};
 ghost use Rattle.opensolver_cli.specs.Findings.{book_in};
@@ -8,7 +10,7 @@ ghost use Rattle.opensolver_cli.specs.Headline.{IsCounted, RunsAs};
 ghost use Rattle.opensolver_cli.specs.Inputs.{FindsAll, IsFaultOf, IsSourceLeft};
 ghost use Rattle.opensolver_cli.specs.Outside.{seen};
 ghost use Rattle.opensolver_cli.specs.Stops.{status_of, stop_line};
-ghost use Rattle.opensolver_cli.specs.Words.{Script, asked_of, is_sheet, named_of, plain_job, texts_of};
+ghost use Rattle.opensolver_cli.specs.Words.{Script, asked_of, is_sheet, job_read, named_of, pick_read, rule_of, texts_of};
 ghost use Rattle.opensolver_cli.specs.declared.stop.Stop.{Stop};
 
 use crate::Status;
@@ -16,7 +18,8 @@ use crate::answer::{answer_records, say};
 use crate::files::open_files;
 use crate::script::read_commands;
 use crate::stop::{End, Stop};
-use crate::words::{DEFAULT_BUDGET, Named, named_files};
+use crate::words::{Job, Named, Pick, job_of};
+use node_pick::Picker;
 use sheet_csv::Rows;
 use solver_io::{Folder, Sink, Source};
 use std::alloc::Global;
@@ -32,7 +35,9 @@ pub fn run<F: Folder, S: Source, K: Sink>(
     folder: &mut F,
     script: &mut S,
     out: &mut K,
+    pickers: Vec<Box<dyn Picker>>,
 ) -> Status
+    requires three { map (λ p. rule p) pickers.items ≡ depth_first ∷ best_first ∷ oldest_first ∷ [] }
     ensures headline { RunsAs (asked_of (texts_of words.now))
         (seen (F.content folder.old) (F.read_faults folder.old) (F.write_faults folder.old) (S.left script.old) (S.faults script.old) (K.pieces out.old) (K.faults out.old))
         (seen (F.content folder.new) (F.read_faults folder.new) (F.write_faults folder.new) (S.left script.new) (S.faults script.new) (K.pieces out.new) (K.faults out.new))
@@ -44,36 +49,53 @@ pub fn run<F: Folder, S: Source, K: Sink>(
         result }
     ensures folder { F.content folder.new ≡ F.content folder.old }
 {
-    let Some(named) = named_files(words) else {
+    let Some(job) = job_of(words) else {
         return say(out, USAGE, Status::Usage);
     };
-    run_named(alloc, &named, folder, script, out)
+    let mut pick = picked(pickers, job.pick);
+    run_job(alloc, &job, folder, script, out, &mut pick)
 }
 
-// The same, over the files that the words name.
-fn run_named<F: Folder, S: Source, K: Sink>(
+// The picker that is asked for; the others are let go.
+fn picked(pickers: Vec<Box<dyn Picker>>, pick: Pick) -> Box<dyn Picker>
+    requires three { map (λ p. rule p) pickers.items ≡ depth_first ∷ best_first ∷ oldest_first ∷ [] }
+    ensures { rule result ≡ rule_of (pick_read pick) }
+{
+    let mut pickers = pickers;
+    match pick {
+        Pick::Depth => pickers.swap_remove(0),
+        Pick::Best => pickers.swap_remove(1),
+        Pick::Oldest => pickers.swap_remove(2),
+    }
+}
+
+// What the words ask for, by the picker that they ask for.
+fn run_job<F: Folder, S: Source, K: Sink>(
     alloc: Global,
-    named: &Named,
+    job: &Job,
     folder: &mut F,
     script: &mut S,
     out: &mut K,
+    pick: &mut Box<dyn Picker>,
 ) -> Status
-    requires some { 0 < length named.now.sheets.now }
-    requires sheets { All (λ w. is_sheet (string_bytes w) ≡ true) named.now.sheets.now }
-    ensures headline { RunsAs (Some (Script (plain_job (named_of named.now))))
+    requires some { 0 < length job.now.named.sheets.now }
+    requires sheets { All (λ w. is_sheet (string_bytes w) ≡ true) job.now.named.sheets.now }
+    requires few { job.now.budget ≤ most_units }
+    requires pick { rule pick.old ≡ rule_of (pick_read job.now.pick) }
+    ensures headline { RunsAs (Some (Script (job_read job.now)))
         (seen (F.content folder.old) (F.read_faults folder.old) (F.write_faults folder.old) (S.left script.old) (S.faults script.old) (K.pieces out.old) (K.faults out.old))
         (seen (F.content folder.new) (F.read_faults folder.new) (F.write_faults folder.new) (S.left script.new) (S.faults script.new) (K.pieces out.new) (K.faults out.new))
         result }
-    ensures exactly { EndsExactly (Some (Script (plain_job (named_of named.now)))) (F.content folder.old) (S.left script.old) result }
+    ensures exactly { EndsExactly (Some (Script (job_read job.now))) (F.content folder.old) (S.left script.old) result }
     ensures counts { IsCounted
         (seen (F.content folder.old) (F.read_faults folder.old) (F.write_faults folder.old) (S.left script.old) (S.faults script.old) (K.pieces out.old) (K.faults out.old))
         (seen (F.content folder.new) (F.read_faults folder.new) (F.write_faults folder.new) (S.left script.new) (S.faults script.new) (K.pieces out.new) (K.faults out.new))
         result }
     ensures folder { F.content folder.new ≡ F.content folder.old }
 {
-    match find(alloc, named, folder, script) {
-        Ok((book, rows)) => answer_records(alloc, book, DEFAULT_BUDGET, &rows, out),
-        Err(End::Stopped(stop)) => say_stop(alloc, named, stop, out),
+    match find(alloc, &job.named, folder, script) {
+        Ok((book, rows)) => answer_records(alloc, book, job.budget, &rows, out, pick),
+        Err(End::Stopped(stop)) => say_stop(alloc, &job.named, stop, out),
         Err(End::Failed) => Status::ReadFault,
         Err(End::Memory) => Status::Memory,
     }

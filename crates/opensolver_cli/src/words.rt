@@ -1,6 +1,7 @@
 // The words of the command line.
-ghost use Rattle.std.specs.Prelude.{◌≡◌, ◌==◌, ◌≢◌, ◌<◌, [], All, IfSome, length, option_map, string_bytes, true};
+ghost use Rattle.std.specs.Prelude.{◌≡◌, ◌==◌, ◌≢◌, ◌<◌, ◌≤◌, [], All, IfSome, codes, length, option_map, string_bytes, true};
 ghost use Rattle.std.specs.List.{list_all, slice_split};
+ghost use Rattle.session.specs.States.{most_units};
 ghost use Rattle.opensolver_cli.specs.Words as line;
 
 /// How many units a search may spend where nothing is said.
@@ -14,22 +15,123 @@ pub(crate) struct Named<'a> {
     pub(crate) sheets: &'a [String],
 }
 
-/// The files of the words `--names FILE FILE...`; none where they aren't of this form.
-pub(crate) fn named_files(words: &[String]) -> Option<Named<'_>>
-    ensures asked { option_map (λ n. line.Script (line.plain_job (line.named_of n))) result ≡ line.asked_of (line.texts_of words.now) }
-    ensures some { IfSome result (λ n. 0 < length n.sheets.now) }
-    ensures sheets { IfSome result (λ n. All (λ w. line.is_sheet (string_bytes w) ≡ true) n.sheets.now) }
+/// The greatest number of units that a search may spend.
+const MOST_UNITS: u64 = 1_000_000;
+
+/// Which of the pickers chooses the next node of a search.
+#[derive(Clone, Copy)]
+pub(crate) enum Pick {
+    Depth,
+    Best,
+    Oldest,
+}
+
+/// What the words ask for: a script over files, how many units a search may spend, and its picker.
+#[derive(Clone, Copy)]
+pub(crate) struct Job<'a> {
+    pub(crate) named: Named<'a>,
+    pub(crate) budget: u64,
+    pub(crate) pick: Pick,
+}
+
+/// What the words `--names FILE [--budget N] [--pick PICKER] FILE...` ask for; none where they aren't of this form.
+pub(crate) fn job_of(words: &[String]) -> Option<Job<'_>>
+    ensures asked { option_map (λ j. line.Script (line.job_read j)) result ≡ line.asked_of (line.texts_of words.now) }
+    ensures budget { IfSome result (λ j. j.budget ≤ most_units) }
+    ensures some { IfSome result (λ j. 0 < length j.named.sheets.now) }
+    ensures sheets { IfSome result (λ j. All (λ w. line.is_sheet (string_bytes w) ≡ true) j.named.sheets.now) }
 {
-    let [option, names, sheets @ ..] = words else {
+    let [option, names, words @ ..] = words else {
         return None;
     };
-    if option.as_str() != "--names" || sheets.is_empty() || !are_sheets(sheets) {
+    if option.as_str() != "--names" {
         return None;
     }
-    Some(Named {
-        names: names.as_str(),
-        sheets,
+    job_over(names.as_str(), words)
+}
+
+// The same, of the words behind the file of the names.
+fn job_over<'a>(names: &'a str, words: &'a [String]) -> Option<Job<'a>>
+    ensures job { option_map line.job_read result ≡ line.job_over names.now (line.texts_of words.now) }
+    ensures budget { IfSome result (λ j. j.budget ≤ most_units) }
+    ensures some { IfSome result (λ j. 0 < length j.named.sheets.now) }
+    ensures sheets { IfSome result (λ j. All (λ w. line.is_sheet (string_bytes w) ≡ true) j.named.sheets.now) }
+{
+    let (budget, words) = budget_before(words)?;
+    let (pick, sheets) = pick_before(words)?;
+    if sheets.is_empty() || !are_sheets(sheets) {
+        return None;
+    }
+    Some(Job {
+        named: Named { names, sheets },
+        budget,
+        pick,
     })
+}
+
+// The budget in front of other words, and these.
+fn budget_before(words: &[String]) -> Option<(u64, &[String])>
+    ensures read { option_map (λ p. (p.0, line.texts_of p.1.now)) result ≡ line.option_in (codes "--budget") line.budget_in DEFAULT_BUDGET (line.texts_of words.now) }
+    ensures few { IfSome result (λ p. p.0 ≤ most_units) }
+{
+    let [word, value, others @ ..] = words else {
+        return Some((DEFAULT_BUDGET, words));
+    };
+    if word.as_str() != "--budget" {
+        return Some((DEFAULT_BUDGET, words));
+    }
+    let budget = budget_in(value.as_str())?;
+    Some((budget, others))
+}
+
+// The picker in front of other words, and these.
+fn pick_before(words: &[String]) -> Option<(Pick, &[String])>
+    ensures { option_map (λ p. (line.pick_read p.0, line.texts_of p.1.now)) result ≡ line.option_in (codes "--pick") line.pick_in line.depth (line.texts_of words.now) }
+{
+    let [word, value, others @ ..] = words else {
+        return Some((Pick::Depth, words));
+    };
+    if word.as_str() != "--pick" {
+        return Some((Pick::Depth, words));
+    }
+    let pick = pick_in(value.as_str())?;
+    Some((pick, others))
+}
+
+// How many units a search may spend.
+fn budget_in(word: &str) -> Option<u64>
+    ensures read { result ≡ line.budget_in word.now }
+    ensures few { IfSome result (λ n. n ≤ most_units) }
+{
+    if word.starts_with('+') {
+        return None;
+    }
+    match word.parse::<u64>() {
+        Ok(units) => {
+            if 1 <= units && units <= MOST_UNITS {
+                Some(units)
+            } else {
+                None
+            }
+        }
+        Err(_) => None,
+    }
+}
+
+// The picker that the word names.
+fn pick_in(word: &str) -> Option<Pick>
+    ensures { option_map line.pick_read result ≡ line.pick_in word.now }
+{
+    if word == "depth" {
+        return Some(Pick::Depth);
+    }
+    if word == "best" {
+        return Some(Pick::Best);
+    }
+    if word == "oldest" {
+        return Some(Pick::Oldest);
+    }
+    None
 }
 
 // Whether each word is a sheet's file.

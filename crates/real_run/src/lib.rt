@@ -1,6 +1,7 @@
 //! The run over the real thing: the words of the command line, the working directory, standard input and standard output.
 #![tactic(auto)]
 
+use node_pick::{Best, Depth, Oldest, Picker};
 use opensolver_cli::{Status, run};
 use solver_io::{DirFolder, InSource, OutSink};
 use std::alloc::{AllocError, AllocGlobal};
@@ -25,12 +26,17 @@ fn ended<R: Runtime + AllocGlobal>(rt: R) -> Result<Status, AllocError> {
     let mut folder = DirFolder::new(rt.clone()?);
     let mut script = InSource::new(rt.clone()?);
     let mut out = OutSink::new(rt.clone()?);
+    let mut pickers: Vec<Box<dyn Picker>> = Vec::new(rt.alloc());
+    pickers.push(Box::new(rt.alloc(), Depth)?)?;
+    pickers.push(Box::new(rt.alloc(), Best)?)?;
+    pickers.push(Box::new(rt.alloc(), Oldest)?)?;
     let status = run(
         rt.alloc(),
         words.as_slice(),
         &mut folder,
         &mut script,
         &mut out,
+        pickers,
     );
     Ok(status)
 }

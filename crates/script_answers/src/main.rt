@@ -9,8 +9,4 @@ fn main(rt: HostRuntime) -> ExitCode {
 }
 
 #[cfg(test)]
-mod limit_tests;
-#[cfg(test)]
-mod run_tests;
-#[cfg(test)]
 mod workbook_tests;

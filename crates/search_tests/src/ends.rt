@@ -41,11 +41,19 @@ pub fn is_said(given: &Result<Progress, SearchStop>, said: &Said) -> bool {
     }
 }
 
-fn ends(alloc: Global, shape: &Shape, pick: Box<dyn Picker>, said: &Said) -> Result<bool, Fail> {
+/// How the search of a model ends that may spend 1000 units.
+pub fn end_of(
+    alloc: Global,
+    shape: &Shape,
+    pick: Box<dyn Picker>,
+) -> Result<Result<Progress, SearchStop>, Fail> {
     let mut pick = pick;
     let mut search = Search::begin(alloc, model(alloc, shape)?, 1000)?;
-    let given = search.run(alloc, 2000, &mut pick);
-    Ok(is_said(&given, said))
+    Ok(search.run(alloc, 2000, &mut pick))
+}
+
+fn ends(alloc: Global, shape: &Shape, pick: Box<dyn Picker>, said: &Said) -> Result<bool, Fail> {
+    Ok(is_said(&end_of(alloc, shape, pick)?, said))
 }
 
 fn ends_by_every_rule(
@@ -104,25 +112,32 @@ fn are_fractions(numbers: &[Frac], first: Pair, second: Pair) -> bool {
         && numbers[1].den() == second.1
 }
 
+// Whether the best point is these two fractions, with this value.
+fn is_best_at(given: &Result<Progress, SearchStop>, first: Pair, second: Pair, best: i128) -> bool {
+    match given {
+        Ok(Progress::Optimal(point, value)) => {
+            are_fractions(point, first, second) && value.num() == best && value.den() == 1
+        }
+        _ => false,
+    }
+}
+
+// Whether there is no bound from these two fractions along the second decision.
+fn has_no_bound_from(given: &Result<Progress, SearchStop>, first: Pair, second: Pair) -> bool {
+    match given {
+        Ok(Progress::Unbounded(point, direction)) => {
+            are_fractions(point, first, second) && are(direction, (0, 1))
+        }
+        _ => false,
+    }
+}
+
 #[test]
 fn decisions_without_a_mark_need_not_be_whole(rt: HostRuntime) -> Result<(), Fail> {
     let alloc = rt.alloc();
-    let mut pick: Box<dyn Picker> = Box::new(alloc, Depth)?;
-    let mut search = Search::begin(alloc, model(alloc, &models::ONE_WHOLE)?, 1000)?;
-    match &search.run(alloc, 1000, &mut pick) {
-        Ok(Progress::Optimal(point, value)) => {
-            assert!(rt; are_fractions(point, (3, 1), (3, 2)));
-            assert_eq!(rt; value.num(), 21);
-        }
-        _ => panic!(rt; "a best point was there"),
-    }
-    let mut search = Search::begin(alloc, model(alloc, &models::HALF_FREE)?, 1000)?;
-    match &search.run(alloc, 1000, &mut pick) {
-        Ok(Progress::Unbounded(point, direction)) => {
-            assert!(rt; are_fractions(point, (1, 2), (0, 1)));
-            assert!(rt; are(direction, (0, 1)));
-        }
-        _ => panic!(rt; "there is no bound"),
-    }
+    let given = end_of(alloc, &models::ONE_WHOLE, Box::new(alloc, Depth)?)?;
+    assert!(rt; is_best_at(&given, (3, 1), (3, 2), 21));
+    let given = end_of(alloc, &models::HALF_FREE, Box::new(alloc, Depth)?)?;
+    assert!(rt; has_no_bound_from(&given, (1, 2), (0, 1)));
     Ok(())
 }

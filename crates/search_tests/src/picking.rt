@@ -1,8 +1,7 @@
 // Pickers are told what happens, and followed.
 
-use crate::ends::{Said, is_said};
-use crate::models::{self, model};
-use branch_bound::Search;
+use crate::ends::{Said, end_of, is_said};
+use crate::models;
 use node_pick::{Depth, NodeEvent, NodeInfo, Picker};
 use std::alloc::Global;
 use std::cell::RefCell;
@@ -58,9 +57,7 @@ impl Picker for Alternating {
 }
 
 fn finds_twenty(alloc: Global, pick: Box<dyn Picker>) -> Result<bool, Fail> {
-    let mut pick = pick;
-    let mut search = Search::begin(alloc, model(alloc, &models::TWO)?, 1000)?;
-    let given = search.run(alloc, 1000, &mut pick);
+    let given = end_of(alloc, &models::TWO, pick)?;
     Ok(is_said(&given, &Said::Optimal((4, 0), 20)))
 }
 
@@ -156,10 +153,7 @@ fn a_picker_is_told_each_node(rt: HostRuntime) -> Result<(), Fail> {
         seen: seen.clone()?,
         depth: Depth,
     };
-    let mut pick: Box<dyn Picker> = Box::new(alloc, recording)?;
-    let mut search = Search::begin(alloc, model(alloc, &models::TWO)?, 1000)?;
-    let given = search.run(alloc, 1000, &mut pick);
-    assert!(rt; is_said(&given, &Said::Optimal((4, 0), 20)));
+    assert!(rt; finds_twenty(alloc, Box::new(alloc, recording)?)?);
     let Ok(seen) = seen.try_borrow() else {
         return Err("it is lent".into());
     };

@@ -1,1 +1,3 @@
 pub mod Wide
+pub mod Said
+pub mod Ends

@@ -2,7 +2,7 @@
 use Rattle.std.specs.Prelude.{◌≡◌, ℕ, true, List, IsSome}
 use Rattle.cell_refs.specs.Names.{place_in}
 use Rattle.commands.specs.Addresses.{has_place}
-use Rattle.commands.specs.Commands.{Spoken, Set, Clear, Show, Solve, Unknown}
+use Rattle.commands.specs.Commands.{Spoken, Set, Clear, Show, Model, Solve, Unknown}
 use Rattle.session.specs.States.{SessionState}
 
 -- the command is none that is refused before any memory is taken
@@ -10,6 +10,7 @@ abbrev pub TakesMemory : List (List ℕ) → Spoken → Type 0
 TakesMemory sheets (Set address text) = has_place address ≡ true
 TakesMemory sheets (Clear address) = has_place address ≡ true
 TakesMemory sheets (Show address) = has_place address ≡ true
+TakesMemory sheets (Model sheet) = IsSome (place_in sheets sheet)
 TakesMemory sheets (Solve sheet) = IsSome (place_in sheets sheet)
 TakesMemory sheets Unknown = ⊥
 

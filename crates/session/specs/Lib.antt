@@ -1,4 +1,6 @@
 pub mod States
 pub mod Edits
+pub mod Models
+pub mod Solves
 pub mod Steps
 pub mod Interrupted

@@ -49,9 +49,6 @@ mark_cells changed (c ∷ cells) = mark_cells (mark_sheet changed c.sheet.0) cel
 abbrev pub with_changed : SessionState → List Cell → SessionState
 with_changed s cells = record s { changed = mark_cells s.changed cells }
 
-abbrev pub with_sheet_changed : SessionState → ℕ → SessionState
-with_sheet_changed s sheet = record s { changed = mark_sheet s.changed sheet }
-
 -- ---- what always holds
 -- each sheet counts as changed or doesn't, and the budget is none that is too great
 pub record IsSession (s : SessionState) : Type 0 where

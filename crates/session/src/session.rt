@@ -1,18 +1,30 @@
 // A session: a workbook and the commands on it.
-ghost use Rattle.std.specs.Prelude.{◌≡◌, ◌≤◌, ◌<◌, IfOk, OnErr, false, length};
+ghost use Rattle.std.specs.Prelude.{◌≡◌, ◌≤◌, ◌<◌, All, IfOk, OnErr, [], false, length};
+ghost use Rattle.sheet_models.specs.Answers.{prepared_of};
+ghost use Rattle.sheet_models.specs.Prepared.{IsPrepared};
+ghost use Rattle.sheet_problems.specs.Laws.{ModelIsTheSheet};
+ghost use Rattle.solver_names.specs.Answers.{statement_of};
+ghost use Rattle.statement_laws.specs.Laws.{IsWhole};
 ghost use Rattle.workbook.specs.Edits.{is_outside, set_fault};
-ghost use Rattle.commands.specs.Commands.{Clear, Set, Show, Solve, spoken};
+ghost use Rattle.workbook.specs.Listed.{IsListed};
+ghost use Rattle.commands.specs.Commands.{Clear, Model as ToModel, Set, Show, Solve, spoken};
 ghost use Rattle.commands.specs.Lines.{CanBeSaid};
-ghost use Rattle.session.specs.Edits.{unless};
+ghost use Rattle.commands.specs.Locating.{cell_named, sheet_named};
+ghost use Rattle.session.specs.Edits.{cell_to_set, unless};
 ghost use Rattle.session.specs.Interrupted.{IsInterrupted, TakesMemory};
-ghost use Rattle.session.specs.States.{IsSession, most_units, opened};
-ghost use Rattle.session.specs.Steps.{Applies, Does, IsDone, Shows, SolvesPlain, with_text};
+ghost use Rattle.session.specs.Solves.{SearchEnds, SolvesSheet};
+ghost use Rattle.session.specs.States.{IsSession, most_units, opened, with_changed};
+ghost use Rattle.session.specs.Steps.{Applies, Does, IsDone, ModelsSheet, Shows, with_text};
 
+use crate::models::{model_of, prepared, told};
+use crate::paths::steps_of;
 use cell_refs::{Cell, SheetId, SheetNames};
 use commands::{Answer, Command, Memory, locate};
 use dep_table::Deps;
-use plain_sheets::{Solved, solve};
+use node_pick::Picker;
 use recalc::{Shown, value};
+use sheet_models::Prepared;
+use sheet_solving::{Solved, solve};
 use std::alloc::Global;
 use std::marker::Model;
 use workbook::{EditFault, Workbook};
@@ -75,8 +87,9 @@ impl Session {
     }
 
     /// Does what the command says.
-    pub fn apply(&mut self, command: &Command) -> Result<Answer, Memory>
-        ensures step { IfOk result (λ answer. Applies self.old.state (spoken command.now) answer self.new.state) }
+    pub fn apply(&mut self, command: &Command, pick: &mut Box<dyn Picker>) -> Result<Answer, Memory>
+        ensures rule { rule pick.new ≡ rule pick.old }
+        ensures step { IfOk result (λ answer. Applies (rule pick.old) self.old.state (spoken command.now) answer self.new.state) }
         ensures said { IfOk result (CanBeSaid self.old.state.book.sheets) }
         ensures sheets { self.new.state.book.sheets ≡ self.old.state.book.sheets }
         ensures memory { OnErr result (IsInterrupted self.old.state (spoken command.now) self.new.state) }
@@ -85,14 +98,15 @@ impl Session {
             Command::Set(address, text) => self.set(address.as_str(), text.as_str()),
             Command::Clear(address) => self.clear(address.as_str()),
             Command::Show(address) => self.show(address.as_str()),
-            Command::Solve(sheet) => self.solve(sheet.as_str()),
+            Command::Model(sheet) => self.model(sheet.as_str()),
+            Command::Solve(sheet) => self.solve(sheet.as_str(), pick),
             Command::Unknown => Ok(Answer::UnknownCommand),
         }
     }
 
     // Puts a text into the cell that is named.
     fn set(&mut self, address: &str, text: &str) -> Result<Answer, Memory>
-        ensures step { IfOk result (λ answer. Applies self.old.state (Set address.now text.now) answer self.new.state) }
+        ensures step { IfOk result (λ answer. Does (λ cell. IsDone (with_text self.old.state cell text.now)) self.old.state (cell_to_set self.old.state.book address.now text.now) answer self.new.state) }
         ensures said { IfOk result (CanBeSaid self.old.state.book.sheets) }
         ensures sheets { self.new.state.book.sheets ≡ self.old.state.book.sheets }
         ensures memory { OnErr result (IsInterrupted self.old.state (Set address.now text.now) self.new.state) }
@@ -128,7 +142,7 @@ impl Session {
 
     // Takes away the text of the cell that is named.
     fn clear(&mut self, address: &str) -> Result<Answer, Memory>
-        ensures step { IfOk result (λ answer. Applies self.old.state (Clear address.now) answer self.new.state) }
+        ensures step { IfOk result (λ answer. Does (λ cell. IsDone (with_text self.old.state cell [])) self.old.state (cell_named self.old.state.book.sheets address.now) answer self.new.state) }
         ensures said { IfOk result (CanBeSaid self.old.state.book.sheets) }
         ensures sheets { self.new.state.book.sheets ≡ self.old.state.book.sheets }
         ensures memory { OnErr result (IsInterrupted self.old.state (Clear address.now) self.new.state) }
@@ -145,7 +159,7 @@ impl Session {
 
     // Shows the cell that is named.
     fn show(&self, address: &str) -> Result<Answer, Memory>
-        ensures step { IfOk result (λ answer. Applies self.now.state (Show address.now) answer self.now.state) }
+        ensures step { IfOk result (λ answer. Does (Shows self.now.state) self.now.state (cell_named self.now.state.book.sheets address.now) answer self.now.state) }
         ensures said { IfOk result (CanBeSaid self.now.state.book.sheets) }
         ensures memory { OnErr result (IsInterrupted self.now.state (Show address.now) self.now.state) }
     {
@@ -168,34 +182,89 @@ impl Session {
         }
     }
 
+    // The model of the sheet that is named.
+    fn model(&self, name: &str) -> Result<Answer, Memory>
+        ensures step { IfOk result (λ answer. Does (ModelsSheet self.now.state) self.now.state (sheet_named self.now.state.book.sheets name.now) answer self.now.state) }
+        ensures said { IfOk result (CanBeSaid self.now.state.book.sheets) }
+        ensures memory { OnErr result (IsInterrupted self.now.state (ToModel name.now) self.now.state) }
+    {
+        match self.book.sheets().find(name) {
+            Some(sheet) => model_of(self.alloc, &self.book, sheet),
+            None => Ok(Answer::UnknownSheet),
+        }
+    }
+
     // Solves the sheet that is named.
-    fn solve(&mut self, name: &str) -> Result<Answer, Memory>
-        ensures step { IfOk result (λ answer. Applies self.old.state (Solve name.now) answer self.new.state) }
+    fn solve(&mut self, name: &str, pick: &mut Box<dyn Picker>) -> Result<Answer, Memory>
+        ensures step { IfOk result (λ answer. Applies (rule pick.old) self.old.state (Solve name.now) answer self.new.state) }
         ensures said { IfOk result (CanBeSaid self.old.state.book.sheets) }
         ensures sheets { self.new.state.book.sheets ≡ self.old.state.book.sheets }
         ensures memory { OnErr result (IsInterrupted self.old.state (Solve name.now) self.new.state) }
+        ensures rule { rule pick.new ≡ rule pick.old }
     {
         match self.book.sheets().find(name) {
-            Some(sheet) => self.solve_sheet(sheet),
+            Some(sheet) => self.solve_sheet(sheet, pick),
             None => Ok(Answer::UnknownSheet),
         }
     }
 
     // Solves a sheet.
-    fn solve_sheet(&mut self, sheet: SheetId) -> Result<Answer, Memory>
+    fn solve_sheet(&mut self, sheet: SheetId, pick: &mut Box<dyn Picker>) -> Result<Answer, Memory>
         requires listed { sheet.0 < length self.old.state.book.sheets }
-        ensures step { IfOk result (λ answer. SolvesPlain self.old.state sheet.0 answer self.new.state) }
+        ensures step { IfOk result (λ answer. SolvesSheet (rule pick.old) self.old.state sheet.0 answer self.new.state) }
         ensures said { IfOk result (CanBeSaid self.old.state.book.sheets) }
         ensures sheets { self.new.state.book.sheets ≡ self.old.state.book.sheets }
         ensures memory { OnErr result (self.new.state ≡ self.old.state) }
+        ensures rule { rule pick.new ≡ rule pick.old }
     {
-        match solve(self.alloc, &mut self.book, sheet)? {
+        match prepared(self.alloc, &self.book, sheet) {
+            Ok(prepared) => self.search(sheet, prepared, pick),
+            Err(stop) => told(stop),
+        }
+    }
+
+    // Searches the model of a sheet.
+    fn search(
+        &mut self,
+        sheet: SheetId,
+        prepared: Prepared,
+        pick: &mut Box<dyn Picker>,
+    ) -> Result<Answer, Memory>
+        requires prepared { IsPrepared self.old.state.book sheet.0 (prepared_of prepared) }
+        requires model { ModelIsTheSheet self.old.state.book (statement_of prepared.statement) prepared.model }
+        requires whole { IsWhole self.old.state.book (statement_of prepared.statement) }
+        ensures step { IfOk result (λ answer. SearchEnds (rule pick.old) self.old.state (prepared_of prepared) answer self.new.state) }
+        ensures said { IfOk result (CanBeSaid self.old.state.book.sheets) }
+        ensures sheets { self.new.state.book.sheets ≡ self.old.state.book.sheets }
+        ensures memory { OnErr result (self.new.state ≡ self.old.state) }
+        ensures rule { rule pick.new ≡ rule pick.old }
+    {
+        let adj = prepared.statement.adj.copy()?;
+        match solve(self.alloc, &mut self.book, prepared, self.budget, pick)? {
             Solved::Optimal(value) => {
-                self.changed_sheets[usize::from(sheet.0)] = true;
-                Ok(Answer::Optimal(Some(value)))
+                self.mark(adj.cells());
+                Ok(Answer::Optimal(value))
             }
             Solved::Infeasible => Ok(Answer::Infeasible),
-            Solved::NotPlain => Ok(Answer::Unbuilt),
+            Solved::Unbounded => Ok(Answer::Unbounded),
+            Solved::WidePivot(path, basis, leaves, enters) => {
+                let path = steps_of(self.alloc, &path)?;
+                Ok(Answer::WidePivot(path, basis, leaves, enters))
+            }
+            Solved::Budget(units) => Ok(Answer::Budget(units)),
+            Solved::NoRoom(cell) => Ok(Answer::NoRoom(cell)),
         }
+    }
+
+    // The files of the sheets of these cells count as changed.
+    fn mark(&mut self, cells: &[Cell])
+        requires { All (IsListed self.old.state.book.sheets) cells.now }
+        ensures { self.new.state ≡ with_changed self.old.state cells.now }
+    {
+        let [cell, later @ ..] = cells else {
+            return;
+        };
+        self.changed_sheets[usize::from(cell.sheet.0)] = true;
+        self.mark(later);
     }
 }

@@ -1,10 +1,11 @@
 // The cells to be decided.
-ghost use Rattle.std.specs.Prelude.{◌≡◌, ◌≤◌, length, position};
+ghost use Rattle.std.specs.Prelude.{◌≡◌, ◌≤◌, IfOk, length, position};
 ghost use Rattle.cell_refs.specs.Cells.{is_same_cell};
 ghost use Rattle.workbook.specs.declared.adj.TheConstants.{DECISIONS};
 
 use cell_refs::Cell;
 use indexmap::IndexSet;
+use memory::Memory;
 use std::marker::Model;
 
 /// How many cells may be decided.
@@ -46,6 +47,14 @@ impl Adj {
         ensures { result.now ≡ self.now }
     {
         self.cells.as_slice()
+    }
+
+    /// A copy.
+    pub fn copy(&self) -> Result<Adj, Memory>
+        ensures { IfOk result (λ copy. copy ≡ self.now) }
+    {
+        let cells = self.cells.clone()?;
+        Ok(Adj { cells })
     }
 
     /// The number of a cell, from 0; `None` where it isn't to be decided.

@@ -10,14 +10,20 @@ returns-in_err-write-clause-answers g c =
     let p = err_from_is_err_and c.from_residual.result c.from_residual.ensures.1 in
     let sheets = c.sheets.ensures ∙ c.in-Ok-apply.ensures.sheets in
     let text = c.as_bytes.ensures.value ∙ c.in-Ok-line.ensures ∙ ap (λ z. answer_text z c.in-Ok-apply.answer) sheets in
-    rw p.1
-    (written_off c.args.session.now.state c.apply.new.self.state c.args.fields.now p.0 (g.K.Sink.pieces c.args.out.now) (g.K.Sink.pieces c.write.new.self)
-    (cut_off c.args.session.now.state c.apply.new.self.state c.args.fields.now (spoken c.in-Ok.command) c.in-Ok-apply.answer c.as_bytes.result.now (g.K.Sink.pieces c.args.out.now) (g.K.Sink.pieces c.write.new.self)
-    c.in-Ok.ensures.command c.in-Ok-apply.ensures.step text c.in_err-write.ensures.takes))
+    rw p.1 (
+      c.at.result.now,
+      c.at.ensures,
+      written_off _ c.args.session.now.state c.apply.new.self.state c.at.result.now p.0 (g.K.Sink.pieces c.args.out.now) (g.K.Sink.pieces c.write.new.self)
+          (cut_off _ c.args.session.now.state c.apply.new.self.state c.at.result.now (spoken c.in-Ok.command) c.in-Ok-apply.answer c.as_bytes.result.now (g.K.Sink.pieces c.args.out.now) (g.K.Sink.pieces c.write.new.self)
+          c.in-Ok.ensures.command c.in-Ok-apply.ensures.step text c.in_err-write.ensures.takes),
+    )
 
 pub returns-clause-answers : goal.returns-clause-answers
 returns-clause-answers g c =
     let sheets = c.sheets.ensures ∙ c.in-Ok-apply.ensures.sheets in
-    let text = c.as_bytes.ensures.value ∙ c.in-Ok-line.ensures ∙ ap (λ z. answer_text z c.in-Ok-apply.answer) sheets in
-    said_whole c.args.session.now.state c.apply.new.self.state c.args.fields.now (spoken c.in-Ok.command) c.in-Ok-apply.answer c.as_bytes.result.now (g.K.Sink.pieces c.args.out.now) (g.K.Sink.pieces c.write.new.self) c.is_refusal.result
-    c.in-Ok.ensures.command c.in-Ok-apply.ensures.step text c.in_ok-write.ensures.takes (c.is_refusal.ensures c.args.session.now.state.book.sheets)
+    let text = c.as_bytes.ensures.value ∙ c.in-Ok-line.ensures ∙ ap (λ z. answer_text z c.in-Ok-apply.answer) sheets in (
+      c.at.result.now,
+      c.at.ensures,
+      said_whole _ c.args.session.now.state c.apply.new.self.state c.at.result.now (spoken c.in-Ok.command) c.in-Ok-apply.answer c.as_bytes.result.now (g.K.Sink.pieces c.args.out.now) (g.K.Sink.pieces c.write.new.self) c.is_refusal.result
+          c.in-Ok.ensures.command c.in-Ok-apply.ensures.step text c.in_ok-write.ensures.takes (c.is_refusal.ensures c.args.session.now.state.book.sheets),
+    )

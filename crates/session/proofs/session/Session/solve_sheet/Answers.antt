@@ -1,29 +1,16 @@
-use Rattle.std.proofs.Common.{ap, refl}
-use Rattle.workbook.specs.State.{State}
-use Rattle.session.specs.States.{SessionState}
+use Rattle.std.proofs.Common.{subst}
+use Rattle.sheet_models.specs.Answers.{prepared_of}
+use Rattle.sheet_models.specs.Prepared.{IsPrepared}
+use Rattle.session.specs.States.{Session}
+use Rattle.session.proofs.Ends.{ends_solve}
+use Rattle.session.proofs.Said.{if_ok_map}
 use Rattle.session.proofs.session.Session.solve_sheet.Goals as goal
 
-pub returns-in-Optimal-clause-step : goal.returns-in-Optimal-clause-step
-returns-in-Optimal-clause-step c =
-    let solves = rw c.in-Optimal.is at c.in_ok-value.ensures.solves in
-    rw (← c.self.view_is, c.from.ensures) (c.solve.new.book, solves, refl)
+pub returns-in-Ok-clause-step : goal.returns-in-Ok-clause-step
+returns-in-Ok-clause-step g c =
+    let prepares = subst (λ (session : Session). IsPrepared session.state.book c.args.sheet.0 (prepared_of c.in-Ok.prepared)) c.self.view_is c.in-Ok.ensures.prepares in
+    if_ok_map c.search.result _ _ (λ a h. ends_solve _ _ c.args.sheet.0 (prepared_of c.in-Ok.prepared) a _ prepares h) c.search.ensures.step
 
-pub returns-in-Infeasible-clause-step : goal.returns-in-Infeasible-clause-step
-returns-in-Infeasible-clause-step c =
-    let solves = rw c.in-Infeasible.is at c.in_ok-value.ensures.solves in
-    let same : State → SessionState = λ book. record {
-      book = book;
-      changed = record { sheets = c.self.inside.changed_sheets.items; names = c.self.inside.changed_names };
-      budget = c.self.inside.budget;
-    } in
-    rw (← c.self.view_is) ((refl, solves.1), ap same solves.0)
-
-pub returns-in-NotPlain-clause-step : goal.returns-in-NotPlain-clause-step
-returns-in-NotPlain-clause-step c =
-    let solves = rw c.in-NotPlain.is at c.in_ok-value.ensures.solves in
-    let same : State → SessionState = λ book. record {
-      book = book;
-      changed = record { sheets = c.self.inside.changed_sheets.items; names = c.self.inside.changed_names };
-      budget = c.self.inside.budget;
-    } in
-    rw (← c.self.view_is) ((refl, solves.1), ap same solves.0)
+pub returns-in-Err-clause-said : goal.returns-in-Err-clause-said
+returns-in-Err-clause-said g c =
+    rw (← c.self.view_is) (if_ok_map c.told.result _ _ (λ a h. h c.self.inside.book c.args.sheet.0 c.in-Err.ensures.prepares c.in-Err.ensures.said) c.told.ensures.said)

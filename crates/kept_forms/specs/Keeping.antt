@@ -1,0 +1,62 @@
+-- Forms that are kept for a workbook: those of some formula cells that aren't to be decided, and of some sides.
+use Rattle.std.specs.Prelude.{◌≡◌, ℕ, ◌&&◌, Bool, not, List, ◌++◌, map, filter, length, None, Some, is_some, slice_get}
+use Rattle.std.specs.FinMap.{keys}
+use Rattle.cell_refs.specs.declared.cell.Cell.{Cell}
+use Rattle.formula_ast.specs.Tree.{Tree}
+use Rattle.recalculation.specs.Entries.{Book, entry}
+use Rattle.recalculation.specs.Walks.{is_formula}
+use Rattle.workbook.specs.declared.place.Place.{Place}
+use Rattle.workbook.specs.declared.place.Place.TheVariants as place
+use Rattle.form_extraction.specs.declared.forms.CellForm.{CellForm}
+use Rattle.form_extraction.specs.Places.{numbered_in}
+use Rattle.extract.specs.Tables.{Table, form_at}
+use Rattle.sheet_problems.specs.Places.{Sides}
+use Rattle.form_needs.specs.Needed.{Asked}
+use Rattle.needed_cells.specs.Settled.{AreForms, HasEntry, IsSettled}
+
+-- the cells to be decided, the sides, and the forms that are kept
+pub record Kept : Type 0 where
+  pub decisions : List Cell
+  pub sides : Sides
+  pub table : Table
+
+-- each form kept is that of its place in the workbook
+abbrev pub AreKept : Book → Kept → Type 0
+AreKept book k = AreForms book k.sides k.decisions k.table
+
+-- and none that can be kept is missing
+abbrev pub AllAreKept : Book → Kept → Type 0
+AllAreKept book k = IsSettled book k.sides k.decisions k.table
+
+-- ---- stale places: those whose forms can be kept and aren't
+pub record IsStale (book : Book) (k : Kept) (p : Place) : Type 0 where
+  pub entry : HasEntry book k.sides k.decisions p
+  pub none : form_at k.table p ≡ None
+
+-- the places whose forms can be kept, each once where no two sides have one number
+abbrev pub entries_of : Book → Kept → List Place
+entries_of book k =
+    map (λ a. place.Cell a) (filter (λ a. is_formula (entry book a) && not (is_some (numbered_in k.decisions a))) (keys book.texts))
+    ++ map (λ (side : ℕ × Tree). place.Side side.0) k.sides
+
+abbrev pub is_missing : Table → Place → Bool
+is_missing table p = not (is_some (form_at table p))
+
+-- how many places are stale
+abbrev pub stale_count : Book → Kept → ℕ
+stale_count book k = length (filter (is_missing k.table) (entries_of book k))
+
+-- no two sides have one number
+abbrev pub HaveOwnNumbers : Sides → Type 0
+HaveOwnNumbers sides = (i j : ℕ) (s t : ℕ × Tree) → slice_get sides i ≡ Some s → slice_get sides j ≡ Some t → s.0 ≡ t.0 → i ≡ j
+
+-- ---- changes
+-- what was kept is kept, for the same cells to be decided and the same sides
+pub record GrowsTo (before after : Kept) : Type 0 where
+  pub decisions : after.decisions ≡ before.decisions
+  pub sides : after.sides ≡ before.sides
+  pub kept : (p : Place) (f : CellForm) → form_at before.table p ≡ Some f → form_at after.table p ≡ Some f
+
+-- the places from which a model is to be made, over what is kept
+abbrev pub asked_from : Book → Kept → List Place → Asked
+asked_from book k roots = record { book = book; sides = k.sides; decisions = k.decisions; roots = roots }

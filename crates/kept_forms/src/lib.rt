@@ -1,0 +1,8 @@
+//! The forms of the formula cells of a workbook over some cells to be decided, and those of sides, each made once and kept.
+#![tactic(auto)]
+
+mod forms;
+mod settle;
+
+pub use extract::Steps;
+pub use forms::Forms;

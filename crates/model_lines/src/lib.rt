@@ -1,0 +1,7 @@
+//! A linear model as it is printed, and its lines.
+#![tactic(auto)]
+
+mod lines;
+mod print;
+
+pub use lines::ModelLines;

@@ -1,0 +1,5 @@
+pub mod Adding
+pub mod Spreading
+pub mod Circles
+pub mod Texts
+pub mod Sides

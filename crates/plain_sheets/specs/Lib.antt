@@ -1,7 +1,0 @@
-pub mod Names
-pub mod Statement
-pub mod Choices
-pub mod Settings
-pub mod Plain
-pub mod Model
-pub mod Solving

@@ -1,0 +1,17 @@
+use Rattle.std.proofs.Common.{ℕ}
+use Rattle.sheet_models.specs.Answers.{Prepares, StopIsListed}
+use Rattle.std.specs.Prelude.{Err}
+use Rattle.workbook.specs.State.{State}
+use Rattle.commands.specs.Lines.{CanBeSaid}
+use Rattle.session.specs.Models.{Models}
+use Rattle.session.proofs.Said.{if_ok_map}
+use Rattle.session.proofs.models.model_of.Goals as goal
+
+pub model_lines-requires : goal.model_lines-requires
+model_lines-requires c = (c.args.book.now, c.args.sheet.0, c.in-Ok.ensures.prepares)
+
+pub returns-in-Err-clause-model : goal.returns-in-Err-clause-model
+returns-in-Err-clause-model c = if_ok_map c.told.result _ _ (λ a h. h c.args.book.now c.args.sheet.0 c.in-Err.ensures.prepares) c.told.ensures.models
+
+pub returns-in-Err-clause-said : goal.returns-in-Err-clause-said
+returns-in-Err-clause-said c = if_ok_map c.told.result _ _ (λ a h. h c.args.book.now c.args.sheet.0 c.in-Err.ensures.prepares c.in-Err.ensures.said) c.told.ensures.said

@@ -1,0 +1,79 @@
+// The models of sheets.
+ghost use Rattle.std.specs.Prelude.{◌≡◌, ◌<◌, ℕ, Err, IfErr, IfOk, length};
+ghost use Rattle.commands.specs.Lines.{CanBeSaid};
+ghost use Rattle.node_pick.specs.Rules.{Rule};
+ghost use Rattle.session.specs.Models.{Models};
+ghost use Rattle.session.specs.Solves.{SolvesSheet};
+ghost use Rattle.session.specs.States.{SessionState};
+ghost use Rattle.sheet_problems.specs.Laws.{ModelIsTheSheet};
+ghost use Rattle.workbook.specs.State.{State};
+ghost use Rattle.sheet_models.specs.Answers.{Prepares, StopIsListed, prepared_of};
+ghost use Rattle.sheet_models.specs.Prepared.{IsPrepared};
+ghost use Rattle.statement_laws.specs.Laws.{IsWhole};
+ghost use Rattle.solver_names.specs.Answers.{statement_of};
+
+use cell_refs::SheetId;
+use commands::{Answer, Memory};
+use kept_forms::Steps;
+use sheet_models::{NoModel, Prepared, model_lines, prepare};
+use std::alloc::Global;
+use std::marker::Brand;
+use std::sync::ledger::{Blank, Ledger};
+use workbook::Workbook;
+
+/// The model of a sheet as it is printed, or the first cause why it has none.
+pub(crate) fn model_of(alloc: Global, book: &Workbook, sheet: SheetId) -> Result<Answer, Memory>
+    requires listed { sheet.0 < length book.now.sheets }
+    ensures model { IfOk result (Models book.now sheet.0) }
+    ensures said { IfOk result (CanBeSaid book.now.sheets) }
+{
+    match prepared(alloc, book, sheet) {
+        Ok(prepared) => Ok(Answer::Model(model_lines(alloc, prepared)?)),
+        Err(stop) => told(stop),
+    }
+}
+
+/// The answer for a sheet without a model.
+pub(crate) fn told(stop: NoModel) -> Result<Answer, Memory>
+    ensures models { IfOk result (λ answer. (book : State) (sheet : ℕ) → Prepares book sheet (Err stop) → Models book sheet answer) }
+    ensures solves { IfOk result (λ answer. (rule : Rule) (before : SessionState) (sheet : ℕ) → Prepares before.book sheet (Err stop) → SolvesSheet rule before sheet answer before) }
+    ensures said { IfOk result (λ answer. (book : State) (sheet : ℕ) → Prepares book sheet (Err stop) → StopIsListed book stop → CanBeSaid book.sheets answer) }
+{
+    match stop {
+        NoModel::Names(fault) => Ok(Answer::Names(fault)),
+        NoModel::Form(refusal) => Ok(Answer::Form(refusal)),
+        NoModel::WideRow(row) => Ok(Answer::WideRow(row)),
+        NoModel::Memory => Err(Memory),
+    }
+}
+
+/// The linear model of a sheet, with a counter of its own.
+pub(crate) fn prepared(alloc: Global, book: &Workbook, sheet: SheetId) -> Result<Prepared, NoModel>
+    requires listed { sheet.0 < length book.now.sheets }
+    ensures prepares { Prepares book.now sheet.0 result }
+    ensures model { IfOk result (λ p. ModelIsTheSheet book.now (statement_of p.statement) p.model) }
+    ensures whole { IfOk result (λ p. IsWhole book.now (statement_of p.statement)) }
+    ensures said { IfErr result (StopIsListed book.now) }
+{
+    counted::<Brand>(alloc, Blank::new(1), book, sheet)
+}
+
+// The same with the counter's beginning.
+fn counted<L: Ledger>(
+    alloc: Global,
+    blank: Blank,
+    book: &Workbook,
+    sheet: SheetId,
+) -> Result<Prepared, NoModel>
+    requires name { blank.name ≡ L.name }
+    requires parts { blank.parts ≡ L.parts }
+    requires some { 0 < blank.parts }
+    requires listed { sheet.0 < length book.now.sheets }
+    ensures prepares { Prepares book.now sheet.0 result }
+    ensures model { IfOk result (λ p. ModelIsTheSheet book.now (statement_of p.statement) p.model) }
+    ensures whole { IfOk result (λ p. IsWhole book.now (statement_of p.statement)) }
+    ensures said { IfErr result (StopIsListed book.now) }
+{
+    let mut steps: Steps<L> = Steps::new(blank);
+    prepare(alloc, book, sheet, &mut steps)
+}

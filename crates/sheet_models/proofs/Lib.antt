@@ -1,0 +1,7 @@
+pub mod Opening
+pub mod FormNumbers
+pub mod Rooted
+pub mod Refusals
+pub mod Looping
+pub mod Modelled
+pub mod Printed

@@ -1,0 +1,4 @@
+pub mod Prepared
+pub mod Lines
+pub mod Answers
+pub mod Inner

@@ -1,0 +1,4 @@
+pub mod Meaning
+pub mod Paths
+pub mod Running
+pub mod Ends

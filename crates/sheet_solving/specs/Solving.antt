@@ -1,0 +1,89 @@
+-- How a search over the model of a sheet ends, and what that means of the sheet.
+use Rattle.std.specs.Prelude.{◌≡◌, ◌<◌, ◌≤◌, ℕ, ℤ, Bool, List, All, length, map, Option, Some, None, slice_index_or, ⊤}
+use Rattle.fractions.specs.Rational.{ℚ}
+use Rattle.optimality.specs.Problem.{Assignment}
+use Rattle.optimality.specs.Optimal.{Optimal, Infeasible, Unbounded, objective_at}
+use Rattle.cell_refs.specs.declared.cell.Cell.{Cell}
+use Rattle.linear_models.specs.Model.{Model}
+use Rattle.node_pick.specs.Rules.{Rule}
+use Rattle.searches.specs.Answers as answers
+use Rattle.searches.specs.Trails as trails
+use Rattle.branch_bound.specs.Ends.{IsWideAt}
+use Rattle.workbook.specs.Kinds.{book_of}
+use Rattle.workbook.specs.Listed.{IsListed}
+use Rattle.workbook.specs.State.{State}
+use Rattle.solver_names.specs.Statement.{Statement}
+use Rattle.sheet_problems.specs.SheetProblem.{problem_in}
+use Rattle.write_back.specs.Writing.{KeepsValues, with_numbers, without_room}
+use Rattle.sheet_models.specs.Prepared.{Prepared}
+use Rattle.sheet_solving.specs.declared.solved.Solved.{Solved}
+use Rattle.sheet_solving.specs.declared.solved.Solved.TheVariants as solved
+
+-- ---- searches
+-- a search of a model from its first unit on, by the picker's rule and within the budget
+pub record Searched (rule : Rule) (budget : ℕ) (m : Model) : Type 0 where
+  pub units : List trails.SearchUnit
+  pub state : trails.State
+  pub trail : trails.Trail m rule units state
+  pub within : length units ≤ budget
+
+-- it is over and answers this
+pub record EndsWith (m : Model) (s : trails.State) (a : answers.Answer) : Type 0 where
+  pub at_rest : s.work ≡ None
+  pub over : trails.IsOver m s
+  pub says : answers.Says m s a
+
+-- a node is worked on, or one waits to be opened and the search isn't over
+abbrev pub HasOpenLeaf : Model → trails.State → Type 0
+HasOpenLeaf m s = ¬ ((s.work ≡ None) × trails.IsOver m s)
+
+-- ---- what an answer means
+-- an optimal assignment was found and is written into the cells to be decided; recalculated, every cell is what it was under it
+pub record IsSolved (before after : State) (s : Statement) (numbers : Assignment) (value : Option ℚ) : Type 0 where
+  pub optimal : Optimal (problem_in before s) numbers
+  pub worth : objective_at (problem_in before s) numbers ≡ value
+  pub room : without_room before s.decisions numbers ≡ None
+  pub written : after ≡ with_numbers before s.decisions numbers
+  pub recalculated : KeepsValues (book_of before) s.decisions numbers (book_of after)
+
+-- an optimal assignment was found, and a cell to be decided, the first of them, has no room for its number
+pub record HasNoRoom (before : State) (s : Statement) (numbers : Assignment) (cell : Cell) : Type 0 where
+  pub optimal : Optimal (problem_in before s) numbers
+  pub full : without_room before s.decisions numbers ≡ Some cell
+
+abbrev pub no_cell : Cell
+no_cell = record { sheet = record { 0 = 0 }; row = 0; col = 0 }
+
+-- the path to a node by the cells whose bounds its steps set
+abbrev pub by_cells : List Cell → List (ℕ × Bool × ℤ) → List (Cell × Bool × ℤ)
+by_cells decisions path = map (λ (step : ℕ × Bool × ℤ). (slice_index_or decisions step.0 no_cell, step.1, step.2)) path
+
+-- the search stands at a pivot that isn't narrow, and more units may be spent
+pub record StandsAt (budget : ℕ) (decisions : List Cell) (units : ℕ) (s : trails.State) (path : List (Cell × Bool × ℤ)) (basis : List ℕ) (leaves enters : ℕ) : Type 0 where
+  pub steps : List (ℕ × Bool × ℤ)
+  pub wide : IsWideAt s steps basis leaves enters
+  pub cells : path ≡ by_cells decisions steps
+  pub left : units < budget
+
+-- ---- all ends: the workbook is as before but for what an optimum writes
+abbrev pub Solves : Rule → ℕ → State → Prepared → Solved → State → Type 0
+Solves rule budget before p (solved.Optimal value) after =
+    (t : Searched rule budget p.model) × (x : Assignment) × (v : ℚ) × EndsWith p.model t.state (answers.optimal x v) × IsSolved before after p.statement x value
+Solves rule budget before p solved.Infeasible after =
+    (t : Searched rule budget p.model) × EndsWith p.model t.state answers.infeasible × Infeasible (problem_in before p.statement) × (after ≡ before)
+Solves rule budget before p solved.Unbounded after =
+    (t : Searched rule budget p.model) × (x : Assignment) × (d : List ℚ) × EndsWith p.model t.state (answers.unbounded x d)
+    × Unbounded (problem_in before p.statement) × (after ≡ before)
+Solves rule budget before p (solved.WidePivot path basis leaves enters) after =
+    (t : Searched rule budget p.model) × StandsAt budget p.statement.decisions (length t.units) t.state path.items basis.items leaves enters × (after ≡ before)
+Solves rule budget before p (solved.Budget n) after =
+    (t : Searched rule budget p.model) × (n ≡ length t.units) × (budget ≤ n) × HasOpenLeaf p.model t.state × (after ≡ before)
+Solves rule budget before p (solved.NoRoom cell) after =
+    (t : Searched rule budget p.model) × (x : Assignment) × (v : ℚ) × EndsWith p.model t.state (answers.optimal x v) × HasNoRoom before p.statement x cell
+    × (after ≡ before)
+
+-- ---- cells in them lie on the sheets
+abbrev pub CellsAreListed : State → Solved → Type 0
+CellsAreListed book (solved.WidePivot path basis leaves enters) = All (λ (step : Cell × Bool × ℤ). IsListed book.sheets step.0) path.items
+CellsAreListed book (solved.NoRoom cell) = IsListed book.sheets cell
+CellsAreListed book _ = ⊤

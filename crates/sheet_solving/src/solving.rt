@@ -1,0 +1,57 @@
+// A sheet's model, solved.
+ghost use Rattle.std.specs.Prelude.{◌≡◌, ◌≤◌, ℕ, IfOk, OnErr};
+ghost use Rattle.sheet_models.specs.Answers.{prepared_of};
+ghost use Rattle.sheet_models.specs.Prepared.{IsPrepared};
+ghost use Rattle.sheet_problems.specs.Laws.{ModelIsTheSheet};
+ghost use Rattle.sheet_solving.specs.Solving.{CellsAreListed, Solves};
+ghost use Rattle.solver_names.specs.Answers.{statement_of};
+ghost use Rattle.statement_laws.specs.Laws.{IsWhole};
+
+use crate::path::by_cells;
+use crate::searched::searched;
+use crate::solved::Solved;
+use crate::told::write;
+use branch_bound::{Progress, SearchStop};
+use memory::Memory;
+use node_pick::Picker;
+use sheet_models::Prepared;
+use std::alloc::Global;
+use workbook::Workbook;
+
+/// Solves the model of a sheet by a search of its own, which may spend so many units and opens the nodes that the picker chooses,
+/// and writes an optimum into the cells to be decided.
+pub fn solve(
+    alloc: Global,
+    book: &mut Workbook,
+    of: Prepared,
+    budget: u64,
+    pick: &mut Box<dyn Picker>,
+) -> Result<Solved, Memory>
+    requires budget { budget ≤ 1000000 }
+    requires prepared { (sheet : ℕ) × IsPrepared book.old sheet (prepared_of of) }
+    requires model { ModelIsTheSheet book.old (statement_of of.statement) of.model }
+    requires whole { IsWhole book.old (statement_of of.statement) }
+    ensures solves { IfOk result (λ s. Solves (rule pick.old) budget book.old (prepared_of of) s book.new) }
+    ensures said { IfOk result (CellsAreListed book.old) }
+    ensures sheets { book.new.sheets ≡ book.old.sheets }
+    ensures memory { OnErr result (book.new ≡ book.old) }
+    ensures rule { rule pick.new ≡ rule pick.old }
+{
+    let Prepared {
+        statement,
+        model,
+        ..
+    } = of;
+    match searched(alloc, model, budget, pick) {
+        Ok(Progress::Optimal(point, value)) => write(alloc, book, &statement, &point, value),
+        Ok(Progress::Infeasible) => Ok(Solved::Infeasible),
+        Ok(Progress::Unbounded(_, _)) => Ok(Solved::Unbounded),
+        Ok(Progress::More) => unreachable!(),
+        Err(SearchStop::WidePivot(path, basis, leaves, enters)) => {
+            let steps = by_cells(alloc, statement.adj.cells(), &path)?;
+            Ok(Solved::WidePivot(steps, basis, leaves, enters))
+        }
+        Err(SearchStop::Budget(units)) => Ok(Solved::Budget(units)),
+        Err(SearchStop::Memory) => Err(Memory),
+    }
+}

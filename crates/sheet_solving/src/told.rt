@@ -1,0 +1,56 @@
+// An optimum, written and told.
+ghost use Rattle.std.specs.Prelude.{◌≡◌, All, IfOk, OnErr, length};
+ghost use Rattle.std.specs.Option.{option_map};
+ghost use Rattle.lin_model.specs.Kinds.{goal_of};
+ghost use Rattle.sheet_solving.specs.Inner.{Writes, value_told};
+ghost use Rattle.sheet_solving.specs.Solving.{CellsAreListed};
+ghost use Rattle.solver_names.specs.Answers.{statement_of};
+ghost use Rattle.workbook.specs.Listed.{IsListed};
+ghost use Rattle.write_back.specs.Writing.{AreDistinct};
+
+use crate::solved::Solved;
+use cell_refs::Cell;
+use frac128::Frac;
+use lin_model::Goal;
+use memory::Memory;
+use solver_names::Statement;
+use std::alloc::Global;
+use workbook::Workbook;
+use write_back::{PutFault, put};
+
+// The objective's number, where there is an objective, by that of the search, which seeks the greatest.
+fn told(objective: Option<Cell>, goal: Goal, value: Frac) -> Option<Frac>
+    ensures { result ≡ option_map (λ _. value_told (goal_of goal) value) objective }
+{
+    match objective {
+        None => None,
+        Some(_) => Some(match goal {
+            Goal::Greatest => value,
+            Goal::Least => value.neg(),
+            Goal::Reach(wanted) => wanted,
+        }),
+    }
+}
+
+// Writes the numbers of an optimum into the cells to be decided, and tells the objective's.
+pub(crate) fn write(
+    alloc: Global,
+    book: &mut Workbook,
+    statement: &Statement,
+    point: &[Frac],
+    value: Frac,
+) -> Result<Solved, Memory>
+    requires each { length point.now ≡ length statement.now.adj }
+    requires listed { All (IsListed book.old.sheets) statement.now.adj }
+    requires distinct { AreDistinct statement.now.adj }
+    ensures written { IfOk result (λ s. Writes book.old (statement_of statement.now) point.now value s book.new) }
+    ensures said { IfOk result (CellsAreListed book.old) }
+    ensures sheets { book.new.sheets ≡ book.old.sheets }
+    ensures memory { OnErr result (book.new ≡ book.old) }
+{
+    match put(alloc, book, &statement.adj, point) {
+        Ok(()) => Ok(Solved::Optimal(told(statement.objective, statement.goal, value))),
+        Err(PutFault::NoRoom(cell)) => Ok(Solved::NoRoom(cell)),
+        Err(PutFault::Memory) => Err(Memory),
+    }
+}

@@ -1,0 +1,10 @@
+//! What holds of every statement that the names of a sheet make. This crate has the definitions and their laws.
+#![tactic(auto)]
+
+ghost use Rattle.statement_laws.specs.Laws.{FaultsAreListed, StatementsAreWhole};
+
+/// Each cell that a statement names lies on one of the sheets, each to be decided once, and each side is there.
+pub fn statement_laws()
+    ensures whole { StatementsAreWhole }
+    ensures faults { FaultsAreListed }
+{}

@@ -1,0 +1,9 @@
+pub mod Bytes
+pub mod Tokens
+pub mod Wholes
+pub mod Quotients
+pub mod Lengths
+pub mod Contents
+pub mod Worth
+pub mod Saying
+pub mod Written
