@@ -1,11 +1,13 @@
 // Formulas, part by part.
-ghost use Rattle.std.specs.Prelude.{◌≡◌, IfOk};
+ghost use Rattle.std.specs.Prelude.{◌≡◌, IfOk, length};
 ghost use Rattle.formula_ast.specs.Tree.{trees};
 ghost use Rattle.sheet_model.specs.declared.grid.Arg.TheVariants.{One};
-ghost use Rattle.form_extraction.specs.Formulas.{part_of, parts_of, plain};
+ghost use Rattle.form_extraction.specs.Formulas.{call_part as call_of, joined, part_of, parts_of, plain, signed, turned};
+ghost use Rattle.form_table.specs.Operators.{minus_form, percent_form};
+ghost use Rattle.formula_ast.specs.Functions.{Takes};
 ghost use Rattle.extract.specs.Unread.{is_place, read_at, table_place, unread_at};
 
-use cell_refs::{ErrorKind, Span};
+use cell_refs::{ErrorKind, Op, Span};
 use form_calls::call_part;
 use form_parts::{
     FormsOfCells, Part, array_part, infix_part, known_part, minus_part, percent_part, plus_part,
@@ -33,19 +35,87 @@ pub fn form_part<C: FormsOfCells>(alloc: Global, forms: &C, expr: &Expr) -> Resu
         Node::Name(_) | Node::Unknown(_, _) => {
             one(alloc, span, Value::Error(ErrorKind::Malformed))
         }
-        Node::Call(function, args) => {
-            let args = arguments(alloc, forms, *function, args)?;
-            call_part(alloc, forms, span, *function, args)
-        }
-        Node::Plus(of) => Ok(plus_part(span, form_part(alloc, forms, of)?)),
-        Node::Minus(of) => minus_part(alloc, span, form_part(alloc, forms, of)?),
-        Node::Percent(of) => percent_part(alloc, span, form_part(alloc, forms, of)?),
-        Node::Infix(op, left, right) => {
-            let left = form_part(alloc, forms, left)?;
-            let right = form_part(alloc, forms, right)?;
-            infix_part(alloc, span, *op, left, right)
-        }
+        Node::Call(function, args) => called(alloc, forms, span, *function, args),
+        Node::Plus(of) => signed(alloc, forms, span, of),
+        Node::Minus(of) => negated(alloc, forms, span, of),
+        Node::Percent(of) => in_hundredths(alloc, forms, span, of),
+        Node::Infix(op, left, right) => joined(alloc, forms, span, *op, left, right),
     }
+}
+
+// A call of a function. It and the operators stand apart, so that a level of a formula takes little of the stack.
+#[cycle(extracting)]
+fn called<C: FormsOfCells>(
+    alloc: Global,
+    forms: &C,
+    span: Span,
+    function: Func,
+    exprs: &[Expr],
+) -> Result<Part, Memory>
+    requires { Takes function (length exprs.now) }
+    ensures { IfOk result (λ part. part ≡ call_of (C.forms forms.now) span function (parts_of (C.forms forms.now) (trees exprs.now))) }
+{
+    let args = arguments(alloc, forms, function, exprs)?;
+    call_part(alloc, forms, span, function, args)
+}
+
+// A formula with a plus in front.
+#[cycle(extracting)]
+fn signed<C: FormsOfCells>(
+    alloc: Global,
+    forms: &C,
+    span: Span,
+    of: &Expr,
+) -> Result<Part, Memory>
+    ensures { IfOk result (λ part. part ≡ signed span (part_of (C.forms forms.now) of.now)) }
+{
+    let part = form_part(alloc, forms, of)?;
+    Ok(plus_part(span, part))
+}
+
+// A formula with a minus in front.
+#[cycle(extracting)]
+fn negated<C: FormsOfCells>(
+    alloc: Global,
+    forms: &C,
+    span: Span,
+    of: &Expr,
+) -> Result<Part, Memory>
+    ensures { IfOk result (λ part. part ≡ turned span minus_form (part_of (C.forms forms.now) of.now)) }
+{
+    let part = form_part(alloc, forms, of)?;
+    minus_part(alloc, span, part)
+}
+
+// A formula with a percent sign behind.
+#[cycle(extracting)]
+fn in_hundredths<C: FormsOfCells>(
+    alloc: Global,
+    forms: &C,
+    span: Span,
+    of: &Expr,
+) -> Result<Part, Memory>
+    ensures { IfOk result (λ part. part ≡ turned span percent_form (part_of (C.forms forms.now) of.now)) }
+{
+    let part = form_part(alloc, forms, of)?;
+    percent_part(alloc, span, part)
+}
+
+// An operator between two formulas.
+#[cycle(extracting)]
+fn joined<C: FormsOfCells>(
+    alloc: Global,
+    forms: &C,
+    span: Span,
+    op: Op,
+    left: &Expr,
+    right: &Expr,
+) -> Result<Part, Memory>
+    ensures { IfOk result (λ part. part ≡ joined span op (part_of (C.forms forms.now) left.now) (part_of (C.forms forms.now) right.now)) }
+{
+    let left = form_part(alloc, forms, left)?;
+    let right = form_part(alloc, forms, right)?;
+    infix_part(alloc, span, op, left, right)
 }
 
 // The parts of a call's arguments; the forms of a table are left unread.

@@ -1,11 +1,3 @@
-pub mod Digits
-pub mod Cuts
-pub mod Pieces
-pub mod Marks
-pub mod SpellingFactors
-pub mod SpellingProducts
-pub mod SpellingSums
-pub mod Spelling
 pub mod NumberTests
 pub mod Calculated
 pub mod Spreading

@@ -1,7 +1,3 @@
-pub mod Texts
-pub mod Formulas
-pub mod Spelling
-pub mod Worth
 pub mod Tests
 pub mod Conversions
 pub mod Comparison

@@ -6,8 +6,8 @@ mod books;
 #[cfg(test)]
 mod definition;
 #[cfg(test)]
-mod looks;
+mod grids;
 #[cfg(test)]
-mod plain_texts;
+mod looks;
 #[cfg(test)]
 mod tours;

@@ -8,7 +8,7 @@ use Rattle.formula_ast.specs.View.{tree_of}
 use Rattle.recalculation.specs.Evaluation.{grid_of_areas}
 use Rattle.form_table.specs.Operators.{minus_form, percent_form}
 use Rattle.form_extraction.specs.declared.forms.Outcome.TheVariants.{Without}
-use Rattle.form_extraction.specs.Formulas.{call_part, joined, part_of, parts_of, referred, turned}
+use Rattle.form_extraction.specs.Formulas.{call_part, joined, part_of, parts_of, referred, signed, turned}
 use Rattle.form_parts.specs.Steps.{unread}
 use Rattle.extract.specs.Unread.{read_at, table_place, unread_at}
 use Rattle.extract.proofs.Nodes.{unread_go, parts-count, of_node}
@@ -43,47 +43,78 @@ form_part-returns-in-Reference g t c =
     c.reference_part.ensures
 
 -- a call has as many arguments as its function takes
-pub form_part-call_part-requires : goal.form_part-call_part-requires
-form_part-call_part-requires g t c =
-    let forms = g.C.FormsOfCells.forms c.args.forms.now in
+pub form_part-called-requires : goal.form_part-called-requires
+form_part-called-requires g t c κs within =
     let sound = subst (λ n. IsSound (tree_of c.expr.inside.span n)) c.in-Call.is c.expr.invariant in
-    subst (λ n. Takes c.in-Call.function n)
-    (sym (ap length (c.in_ok-args-in-Call.ensures ∙ ap (λ xs. unread_at (table_place c.in-Call.function) (parts_of forms (trees xs))) c.deref-in-Call.ensures.value)
-    ∙ unread_length (table_place c.in-Call.function) (parts_of forms (trees c.in-Call.args.items))
-    ∙ parts-count forms (trees c.in-Call.args.items)))
-    sound.1
+    (omega (arith, within), subst (λ xs. Takes c.in-Call.function (length xs)) (sym c.deref-in-Call.ensures.value) sound.1)
 
-pub form_part-returns-in_ok-args-in-Call : goal.form_part-returns-in_ok-args-in-Call
-form_part-returns-in_ok-args-in-Call g t c =
+pub called-call_part-requires : goal.called-call_part-requires
+called-call_part-requires g t c =
+    let forms = g.C.FormsOfCells.forms c.args.forms.now in
+    subst (λ n. Takes c.args.function n)
+    (sym (ap length c.in_ok-args.ensures
+    ∙ unread_length (table_place c.args.function) (parts_of forms (trees c.args.exprs.now))
+    ∙ parts-count forms (trees c.args.exprs.now)))
+    c.args.requires
+
+pub called-returns-in_ok-args : goal.called-returns-in_ok-args
+called-returns-in_ok-args g t c =
     let forms = g.C.FormsOfCells.forms c.args.forms.now in
     subst (λ part. IfOk c.call_part.result (λ p. p ≡ part))
-    (ap (call_part forms c.expr.inside.span c.in-Call.function) (c.in_ok-args-in-Call.ensures ∙ ap (λ xs. unread_at (table_place c.in-Call.function) (parts_of forms (trees xs))) c.deref-in-Call.ensures.value)
-    ∙ call_unread forms c.expr.inside.span c.in-Call.function (parts_of forms (trees c.in-Call.args.items))
-    ∙ sym (of_node forms c.args.expr.now c.expr.inside.span c.expr.inside.node _ c.expr.view_is c.in-Call.is))
+    (ap (call_part forms c.args.span c.args.function) c.in_ok-args.ensures
+    ∙ call_unread forms c.args.span c.args.function (parts_of forms (trees c.args.exprs.now)))
     c.call_part.ensures
 
-pub form_part-returns-in_ok-form_part-in-Minus : goal.form_part-returns-in_ok-form_part-in-Minus
-form_part-returns-in_ok-form_part-in-Minus g t c =
+pub form_part-returns-in-Call : goal.form_part-returns-in-Call
+form_part-returns-in-Call g t c =
     let forms = g.C.FormsOfCells.forms c.args.forms.now in
-    subst (λ part. IfOk c.minus_part.result (λ p. p ≡ part))
-    (ap (turned c.expr.inside.span minus_form) (c.in_ok-form_part-in-Minus.ensures ∙ ap (part_of forms) c.deref-in-Minus.ensures)
+    subst (λ part. IfOk c.called.result (λ p. p ≡ part))
+    (ap (λ xs. call_part forms c.expr.inside.span c.in-Call.function (parts_of forms (trees xs))) c.deref-in-Call.ensures.value
+    ∙ sym (of_node forms c.args.expr.now c.expr.inside.span c.expr.inside.node _ c.expr.view_is c.in-Call.is))
+    c.called.ensures
+
+pub form_part-returns-in-Plus : goal.form_part-returns-in-Plus
+form_part-returns-in-Plus g t c =
+    let forms = g.C.FormsOfCells.forms c.args.forms.now in
+    subst (λ part. IfOk c.signed.result (λ p. p ≡ part))
+    (ap (λ of. signed c.expr.inside.span (part_of forms of)) c.deref-in-Plus.ensures
+    ∙ sym (of_node forms c.args.expr.now c.expr.inside.span c.expr.inside.node _ c.expr.view_is c.in-Plus.is))
+    c.signed.ensures
+
+pub form_part-returns-in-Minus : goal.form_part-returns-in-Minus
+form_part-returns-in-Minus g t c =
+    let forms = g.C.FormsOfCells.forms c.args.forms.now in
+    subst (λ part. IfOk c.negated.result (λ p. p ≡ part))
+    (ap (λ of. turned c.expr.inside.span minus_form (part_of forms of)) c.deref-in-Minus.ensures
     ∙ sym (of_node forms c.args.expr.now c.expr.inside.span c.expr.inside.node _ c.expr.view_is c.in-Minus.is))
-    c.minus_part.ensures
+    c.negated.ensures
 
-pub form_part-returns-in_ok-form_part-in-Percent : goal.form_part-returns-in_ok-form_part-in-Percent
-form_part-returns-in_ok-form_part-in-Percent g t c =
+pub form_part-returns-in-Percent : goal.form_part-returns-in-Percent
+form_part-returns-in-Percent g t c =
     let forms = g.C.FormsOfCells.forms c.args.forms.now in
-    subst (λ part. IfOk c.percent_part.result (λ p. p ≡ part))
-    (ap (turned c.expr.inside.span percent_form) (c.in_ok-form_part-in-Percent.ensures ∙ ap (part_of forms) c.deref-in-Percent.ensures)
+    subst (λ part. IfOk c.in_hundredths.result (λ p. p ≡ part))
+    (ap (λ of. turned c.expr.inside.span percent_form (part_of forms of)) c.deref-in-Percent.ensures
     ∙ sym (of_node forms c.args.expr.now c.expr.inside.span c.expr.inside.node _ c.expr.view_is c.in-Percent.is))
-    c.percent_part.ensures
+    c.in_hundredths.ensures
 
-pub form_part-returns-in_ok-right-in-Infix : goal.form_part-returns-in_ok-right-in-Infix
-form_part-returns-in_ok-right-in-Infix g t c =
+pub form_part-returns-in-Infix : goal.form_part-returns-in-Infix
+form_part-returns-in-Infix g t c =
     let forms = g.C.FormsOfCells.forms c.args.forms.now in
-    let left = c.in_ok-left-in-Infix.ensures ∙ ap (part_of forms) c.deref-in-Infix.ensures in
-    let right = c.in_ok-right-in-Infix.ensures ∙ ap (part_of forms) c.deref-in-Infix-2.ensures in
-    subst (λ part. IfOk c.infix_part.result (λ p. p ≡ part))
-    ((λ i. joined c.expr.inside.span c.in-Infix.op (left i) (right i))
+    subst (λ part. IfOk c.joined.result (λ p. p ≡ part))
+    ((λ i. joined c.expr.inside.span c.in-Infix.op (part_of forms (c.deref-in-Infix.ensures i)) (part_of forms (c.deref-in-Infix-2.ensures i)))
     ∙ sym (of_node forms c.args.expr.now c.expr.inside.span c.expr.inside.node _ c.expr.view_is c.in-Infix.is))
+    c.joined.ensures
+
+pub negated-returns-in_ok-part : goal.negated-returns-in_ok-part
+negated-returns-in_ok-part g t c =
+    subst (λ part. IfOk c.minus_part.result (λ p. p ≡ part)) (ap (turned c.args.span minus_form) c.in_ok-part.ensures) c.minus_part.ensures
+
+pub in_hundredths-returns-in_ok-part : goal.in_hundredths-returns-in_ok-part
+in_hundredths-returns-in_ok-part g t c =
+    subst (λ part. IfOk c.percent_part.result (λ p. p ≡ part)) (ap (turned c.args.span percent_form) c.in_ok-part.ensures) c.percent_part.ensures
+
+pub joined-returns-in_ok-right : goal.joined-returns-in_ok-right
+joined-returns-in_ok-right g t c =
+    subst (λ part. IfOk c.infix_part.result (λ p. p ≡ part))
+    (λ i. joined c.args.span c.args.op (c.in_ok-left.ensures i) (c.in_ok-right.ensures i))
     c.infix_part.ensures
