@@ -61,12 +61,7 @@ fn called<C: FormsOfCells>(
 
 // A formula with a plus in front.
 #[cycle(extracting)]
-fn signed<C: FormsOfCells>(
-    alloc: Global,
-    forms: &C,
-    span: Span,
-    of: &Expr,
-) -> Result<Part, Memory>
+fn signed<C: FormsOfCells>(alloc: Global, forms: &C, span: Span, of: &Expr) -> Result<Part, Memory>
     ensures { IfOk result (λ part. part ≡ signed span (part_of (C.forms forms.now) of.now)) }
 {
     let part = form_part(alloc, forms, of)?;
@@ -75,12 +70,7 @@ fn signed<C: FormsOfCells>(
 
 // A formula with a minus in front.
 #[cycle(extracting)]
-fn negated<C: FormsOfCells>(
-    alloc: Global,
-    forms: &C,
-    span: Span,
-    of: &Expr,
-) -> Result<Part, Memory>
+fn negated<C: FormsOfCells>(alloc: Global, forms: &C, span: Span, of: &Expr) -> Result<Part, Memory>
     ensures { IfOk result (λ part. part ≡ turned span minus_form (part_of (C.forms forms.now) of.now)) }
 {
     let part = form_part(alloc, forms, of)?;
