@@ -11,7 +11,6 @@ use Rattle.opensolver_cli.specs.declared.words.Job as job_words
 use Rattle.opensolver_cli.specs.declared.words.Named as words
 use Rattle.opensolver_cli.specs.declared.words.Pick as pick_words
 use Rattle.opensolver_cli.specs.declared.words.Pick.TheVariants as picks
-use Rattle.opensolver_cli.specs.declared.words.TheConstants.{DEFAULT_BUDGET}
 
 -- the file of the names and those of the sheets
 pub record Named : Type 0 where
@@ -60,6 +59,10 @@ abbrev pub is_sheet : List ℕ → Bool
 is_sheet word = is_some (stem_of word)
 
 -- ---- options
+-- how many units a search may spend where the words say nothing
+abbrev pub default_budget : ℕ
+default_budget = 100000
+
 -- how many units a search may spend: a whole number in digits, from 1 on and no more than the most
 abbrev pub budget_in : List ℕ → Option ℕ
 budget_in word =
@@ -95,7 +98,7 @@ job_of names budget pick sheets =
 abbrev pub job_over : List ℕ → List (List ℕ) → Option Job
 job_over names words =
     option_and_then (λ b. option_and_then (λ p. job_of names b.0 p.0 p.1) (option_in (codes "--pick") pick_in depth b.1))
-    (option_in (codes "--budget") budget_in DEFAULT_BUDGET words)
+    (option_in (codes "--budget") budget_in default_budget words)
 
 abbrev pub job_in : List (List ℕ) → Option Job
 job_in (word ∷ names ∷ words) = if bytes_eq word (codes "--names") then job_over names words else None

@@ -71,7 +71,7 @@ fn job_over<'a>(names: &'a str, words: &'a [String]) -> Option<Job<'a>>
 
 // The budget in front of other words, and these.
 fn budget_before(words: &[String]) -> Option<(u64, &[String])>
-    ensures read { option_map (λ p. (p.0, line.texts_of p.1.now)) result ≡ line.option_in (codes "--budget") line.budget_in DEFAULT_BUDGET (line.texts_of words.now) }
+    ensures read { option_map (λ p. (p.0, line.texts_of p.1.now)) result ≡ line.option_in (codes "--budget") line.budget_in line.default_budget (line.texts_of words.now) }
     ensures few { IfSome result (λ p. p.0 ≤ most_units) }
 {
     let [word, value, others @ ..] = words else {

@@ -1,1 +1,2 @@
 pub mod TextKinds
+pub mod Limits

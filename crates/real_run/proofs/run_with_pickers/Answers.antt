@@ -1,8 +1,8 @@
 use Rattle.std.proofs.Common.{refl}
 use Rattle.node_pick.specs.Rules.{best_first, depth_first, oldest_first}
 use Rattle.real_run.proofs.PickerLaws.{rule_by_kind, three}
-use Rattle.real_run.proofs.ended.Goals as goal
-use Rattle.real_run.proofs.ended.OwnLists.{own-1}
+use Rattle.real_run.proofs.run_with_pickers.Goals as goal
+use Rattle.real_run.proofs.run_with_pickers.OwnLists.{own-1}
 
 pub run-status-requires : goal.run-status-requires
 run-status-requires g c =
