@@ -1,10 +1,9 @@
 // Formulas, part by part.
-ghost use Rattle.std.specs.Prelude.{◌≡◌, IfOk, length};
+ghost use Rattle.std.specs.Prelude.{◌≡◌, IfOk};
 ghost use Rattle.formula_ast.specs.Tree.{trees};
 ghost use Rattle.sheet_model.specs.declared.grid.Arg.TheVariants.{One};
-ghost use Rattle.form_extraction.specs.Formulas.{call_part as call_of, joined, part_of, parts_of, plain, signed, turned};
+ghost use Rattle.form_extraction.specs.Formulas.{joined, part_of, parts_of, plain, signed, turned};
 ghost use Rattle.form_table.specs.Operators.{minus_form, percent_form};
-ghost use Rattle.formula_ast.specs.Functions.{Takes};
 ghost use Rattle.extract.specs.Unread.{is_place, read_at, table_place, unread_at};
 
 use cell_refs::{ErrorKind, Op, Span};
@@ -35,7 +34,10 @@ pub fn form_part<C: FormsOfCells>(alloc: Global, forms: &C, expr: &Expr) -> Resu
         Node::Name(_) | Node::Unknown(_, _) => {
             one(alloc, span, Value::Error(ErrorKind::Malformed))
         }
-        Node::Call(function, args) => called(alloc, forms, span, *function, args),
+        Node::Call(function, args) => {
+            let args = arguments(alloc, forms, *function, args)?;
+            call_part(alloc, forms, span, *function, args)
+        }
         Node::Plus(of) => signed(alloc, forms, span, of),
         Node::Minus(of) => negated(alloc, forms, span, of),
         Node::Percent(of) => in_hundredths(alloc, forms, span, of),
@@ -43,23 +45,7 @@ pub fn form_part<C: FormsOfCells>(alloc: Global, forms: &C, expr: &Expr) -> Resu
     }
 }
 
-// A call of a function. It and the operators stand apart, so that a level of a formula takes little of the stack.
-#[cycle(extracting)]
-fn called<C: FormsOfCells>(
-    alloc: Global,
-    forms: &C,
-    span: Span,
-    function: Func,
-    exprs: &[Expr],
-) -> Result<Part, Memory>
-    requires { Takes function (length exprs.now) }
-    ensures { IfOk result (λ part. part ≡ call_of (C.forms forms.now) span function (parts_of (C.forms forms.now) (trees exprs.now))) }
-{
-    let args = arguments(alloc, forms, function, exprs)?;
-    call_part(alloc, forms, span, function, args)
-}
-
-// A formula with a plus in front.
+// A formula with a plus in front. The operators stand apart, so that a level of a formula takes little of the stack.
 #[cycle(extracting)]
 fn signed<C: FormsOfCells>(alloc: Global, forms: &C, span: Span, of: &Expr) -> Result<Part, Memory>
     ensures { IfOk result (λ part. part ≡ signed span (part_of (C.forms forms.now) of.now)) }

@@ -43,35 +43,24 @@ form_part-returns-in-Reference g t c =
     c.reference_part.ensures
 
 -- a call has as many arguments as its function takes
-pub form_part-called-requires : goal.form_part-called-requires
-form_part-called-requires g t c κs within =
-    let sound = subst (λ n. IsSound (tree_of c.expr.inside.span n)) c.in-Call.is c.expr.invariant in
-    (omega (arith, within), subst (λ xs. Takes c.in-Call.function (length xs)) (sym c.deref-in-Call.ensures.value) sound.1)
-
-pub called-call_part-requires : goal.called-call_part-requires
-called-call_part-requires g t c =
+pub form_part-call_part-requires : goal.form_part-call_part-requires
+form_part-call_part-requires g t c =
     let forms = g.C.FormsOfCells.forms c.args.forms.now in
-    subst (λ n. Takes c.args.function n)
-    (sym (ap length c.in_ok-args.ensures
-    ∙ unread_length (table_place c.args.function) (parts_of forms (trees c.args.exprs.now))
-    ∙ parts-count forms (trees c.args.exprs.now)))
-    c.args.requires
+    let sound = subst (λ n. IsSound (tree_of c.expr.inside.span n)) c.in-Call.is c.expr.invariant in
+    subst (λ n. Takes c.in-Call.function n)
+    (sym (ap length (c.in_ok-args-in-Call.ensures ∙ ap (λ xs. unread_at (table_place c.in-Call.function) (parts_of forms (trees xs))) c.deref-in-Call.ensures.value)
+    ∙ unread_length (table_place c.in-Call.function) (parts_of forms (trees c.in-Call.args.items))
+    ∙ parts-count forms (trees c.in-Call.args.items)))
+    sound.1
 
-pub called-returns-in_ok-args : goal.called-returns-in_ok-args
-called-returns-in_ok-args g t c =
+pub form_part-returns-in_ok-args-in-Call : goal.form_part-returns-in_ok-args-in-Call
+form_part-returns-in_ok-args-in-Call g t c =
     let forms = g.C.FormsOfCells.forms c.args.forms.now in
     subst (λ part. IfOk c.call_part.result (λ p. p ≡ part))
-    (ap (call_part forms c.args.span c.args.function) c.in_ok-args.ensures
-    ∙ call_unread forms c.args.span c.args.function (parts_of forms (trees c.args.exprs.now)))
-    c.call_part.ensures
-
-pub form_part-returns-in-Call : goal.form_part-returns-in-Call
-form_part-returns-in-Call g t c =
-    let forms = g.C.FormsOfCells.forms c.args.forms.now in
-    subst (λ part. IfOk c.called.result (λ p. p ≡ part))
-    (ap (λ xs. call_part forms c.expr.inside.span c.in-Call.function (parts_of forms (trees xs))) c.deref-in-Call.ensures.value
+    (ap (call_part forms c.expr.inside.span c.in-Call.function) (c.in_ok-args-in-Call.ensures ∙ ap (λ xs. unread_at (table_place c.in-Call.function) (parts_of forms (trees xs))) c.deref-in-Call.ensures.value)
+    ∙ call_unread forms c.expr.inside.span c.in-Call.function (parts_of forms (trees c.in-Call.args.items))
     ∙ sym (of_node forms c.args.expr.now c.expr.inside.span c.expr.inside.node _ c.expr.view_is c.in-Call.is))
-    c.called.ensures
+    c.call_part.ensures
 
 pub form_part-returns-in-Plus : goal.form_part-returns-in-Plus
 form_part-returns-in-Plus g t c =
@@ -105,16 +94,16 @@ form_part-returns-in-Infix g t c =
     ∙ sym (of_node forms c.args.expr.now c.expr.inside.span c.expr.inside.node _ c.expr.view_is c.in-Infix.is))
     c.joined.ensures
 
-pub negated-returns-in_ok-part : goal.negated-returns-in_ok-part
-negated-returns-in_ok-part g t c =
+pub negated-returns : goal.negated-returns
+negated-returns g t c =
     subst (λ part. IfOk c.minus_part.result (λ p. p ≡ part)) (ap (turned c.args.span minus_form) c.in_ok-part.ensures) c.minus_part.ensures
 
-pub in_hundredths-returns-in_ok-part : goal.in_hundredths-returns-in_ok-part
-in_hundredths-returns-in_ok-part g t c =
+pub in_hundredths-returns : goal.in_hundredths-returns
+in_hundredths-returns g t c =
     subst (λ part. IfOk c.percent_part.result (λ p. p ≡ part)) (ap (turned c.args.span percent_form) c.in_ok-part.ensures) c.percent_part.ensures
 
-pub joined-returns-in_ok-right : goal.joined-returns-in_ok-right
-joined-returns-in_ok-right g t c =
+pub joined-returns : goal.joined-returns
+joined-returns g t c =
     subst (λ part. IfOk c.infix_part.result (λ p. p ≡ part))
     (λ i. joined c.args.span c.args.op (c.in_ok-left.ensures i) (c.in_ok-right.ensures i))
     c.infix_part.ensures

@@ -1,4 +1,4 @@
--- The parts of the arguments so far. An argument and an operand count as one more than their tree, a list of arguments as two more than all its trees, and a call as three more.
+-- The parts of the arguments so far. An argument and an operand count as one more than their tree, and a list of arguments as two more than all its trees.
 use Rattle.std.proofs.Common.{◌≡◌, ◌+◌, ◌*◌, take}
 use Rattle.formula_ast.specs.Size.{node_count, all_count}
 use Rattle.formula_ast.specs.Tree.{trees}
@@ -10,25 +10,22 @@ abbrev pub invariant-arguments-loop-index : goal.invariant-arguments-loop-index
 invariant-arguments-loop-index g l = l.parts.items ≡ unread_at (table_place l.function) (parts_of (g.C.FormsOfCells.forms l.forms) (trees (take l.index l.exprs)))
 
 abbrev pub decreases-form_part : goal.decreases-form_part
-decreases-form_part g l = 4 * node_count l.expr.now
+decreases-form_part g l = 3 * node_count l.expr.now
 
 abbrev pub decreases-argument : goal.decreases-argument
-decreases-argument g l = 4 * node_count l.expr.now + 1
+decreases-argument g l = 3 * node_count l.expr.now + 1
 
 abbrev pub decreases-arguments : goal.decreases-arguments
-decreases-arguments g l = 4 * all_count (trees l.exprs.now) + 2
-
-abbrev pub decreases-called : goal.decreases-called
-decreases-called g l = 4 * all_count (trees l.exprs.now) + 3
+decreases-arguments g l = 3 * all_count (trees l.exprs.now) + 2
 
 abbrev pub decreases-signed : goal.decreases-signed
-decreases-signed g l = 4 * node_count l.of.now + 1
+decreases-signed g l = 3 * node_count l.of.now + 1
 
 abbrev pub decreases-negated : goal.decreases-negated
-decreases-negated g l = 4 * node_count l.of.now + 1
+decreases-negated g l = 3 * node_count l.of.now + 1
 
 abbrev pub decreases-in_hundredths : goal.decreases-in_hundredths
-decreases-in_hundredths g l = 4 * node_count l.of.now + 1
+decreases-in_hundredths g l = 3 * node_count l.of.now + 1
 
 abbrev pub decreases-joined : goal.decreases-joined
-decreases-joined g l = 4 * (node_count l.left.now + node_count l.right.now) + 1
+decreases-joined g l = 3 * (node_count l.left.now + node_count l.right.now) + 1
