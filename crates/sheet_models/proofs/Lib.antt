@@ -1,4 +1,5 @@
 pub mod Opening
+pub mod Steps
 pub mod FormNumbers
 pub mod Rooted
 pub mod Refusals

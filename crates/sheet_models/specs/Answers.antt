@@ -1,12 +1,18 @@
 -- What is answered of a sheet: its linear model, or why it has none.
-use Rattle.std.specs.Prelude.{ℕ, Result, Ok, Err, ⊤}
+use Rattle.std.specs.Prelude.{◌≡◌, ◌+◌, ◌≤◌, ℕ, List, MatchResult, Result, Ok, Err, ⊤}
+use Rattle.cell_refs.specs.declared.cell.Cell.{Cell}
+use Rattle.workbook.specs.Kinds.{book_of}
 use Rattle.workbook.specs.Listed.{IsListed}
 use Rattle.workbook.specs.State.{State}
 use Rattle.workbook.specs.declared.place.Place.{Place}
 use Rattle.workbook.specs.declared.place.Place.TheVariants as place
+use Rattle.extract.specs.Tables.{no_forms}
 use Rattle.form_needs.specs.declared.refusal.FormRefusal.{FormRefusal}
 use Rattle.form_needs.specs.declared.refusal.FormRefusal.TheVariants as refusal
+use Rattle.kept_forms.specs.Keeping.{stale_count}
 use Rattle.solver_names.specs.Answers.{Answers, statement_of}
+use Rattle.solver_names.specs.Sides.{sides_in}
+use Rattle.solver_names.specs.Stated.{statement_in}
 use Rattle.solver_names.specs.declared.fault.NamesFault.{NamesFault}
 use Rattle.solver_names.specs.declared.fault.NamesFault.TheVariants as told
 use Rattle.sheet_models.specs.declared.prepared.NoModel.{NoModel}
@@ -28,6 +34,16 @@ Prepares book sheet (Err (none.Names fault)) = HasFault book sheet fault
 Prepares book sheet (Err (none.Form r)) = IsRefusedBy book sheet r
 Prepares book sheet (Err (none.WideRow row)) = HasWideRow book sheet row
 Prepares book sheet (Err none.Memory) = ⊤
+
+-- ---- steps
+-- how many forms there are to make: one for each formula cell that isn't to be decided, and one for each side
+abbrev pub forms_to_make : State → ℕ → List Cell → ℕ
+forms_to_make book sheet decisions = stale_count (book_of book) (record { decisions = decisions; sides = sides_in book sheet; table = no_forms })
+
+-- no step where the names have a fault, and else at most one for each form that there is to make
+abbrev pub MakesFew : State → ℕ → ℕ → ℕ → Type 0
+MakesFew book sheet before after =
+    MatchResult (statement_in book sheet) (λ s. after ≤ before + forms_to_make book sheet s.decisions) (λ f. after ≡ before)
 
 -- ---- cells in them lie on the sheets
 abbrev pub PlaceIsListed : State → Place → Type 0

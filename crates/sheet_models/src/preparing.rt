@@ -2,7 +2,7 @@
 ghost use Rattle.std.specs.Prelude.{◌≤◌, ◌<◌, IfErr, IfOk, length};
 ghost use Rattle.linear_models.specs.Agreement.{Fits};
 ghost use Rattle.linear_models.specs.Conditions as conditions;
-ghost use Rattle.sheet_models.specs.Answers.{Prepares, StopIsListed};
+ghost use Rattle.sheet_models.specs.Answers.{MakesFew, Prepares, StopIsListed};
 ghost use Rattle.sheet_models.specs.Inner.{IsKeptFor, IsModelled, IsStatement};
 ghost use Rattle.sheet_models.specs.Prepared.{rows_of};
 ghost use Rattle.sheet_problems.specs.Forms.{conditions_of};
@@ -85,6 +85,7 @@ pub fn prepare<L: Ledger>(
     ensures whole { IfOk result (λ p. IsWhole book.now (statement_of p.statement)) }
     ensures said { IfErr result (StopIsListed book.now) }
     ensures counted { steps.old ≤ steps.new }
+    ensures bound { MakesFew book.now sheet.0 steps.old steps.new }
 {
     let statement = stated(alloc, book, sheet)?;
     let forms = settled(alloc, book, &statement, steps)?;

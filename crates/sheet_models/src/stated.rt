@@ -1,9 +1,9 @@
 // What the names of a sheet state, the forms that are kept for it, and the first refusal among them.
-ghost use Rattle.std.specs.Prelude.{◌≡◌, ◌≤◌, ◌<◌, Err, IfErr, IfOk, OnOk, length};
+ghost use Rattle.std.specs.Prelude.{◌≡◌, ◌≤◌, ◌<◌, ◌+◌, Err, IfErr, IfOk, OnOk, length};
 ghost use Rattle.extract.specs.Tables.{no_forms};
 ghost use Rattle.form_needs.specs.FirstRefusal.{AllNumbers, IsRefusal};
 ghost use Rattle.form_needs.specs.Needed.{asked_of};
-ghost use Rattle.sheet_models.specs.Answers.{Prepares, StopIsListed};
+ghost use Rattle.sheet_models.specs.Answers.{Prepares, StopIsListed, forms_to_make};
 ghost use Rattle.sheet_models.specs.Inner.{IsKeptFor, IsStatement, stop_of};
 ghost use Rattle.solver_names.specs.Answers.{statement_of};
 ghost use Rattle.solver_names.specs.Sides.{sides_in};
@@ -54,7 +54,7 @@ fn opened(alloc: Global, book: &Workbook, of: &Statement) -> Result<Forms, Memor
     Forms::open(alloc, &of.adj, sides)
 }
 
-/// The forms of all formulas, and of all sides.
+/// The forms of all formulas, and of all sides, each made once.
 pub(crate) fn settled<L: Ledger>(
     alloc: Global,
     book: &Workbook,
@@ -64,6 +64,7 @@ pub(crate) fn settled<L: Ledger>(
     requires { IsStatement book.now (statement_of of.now) }
     ensures kept { IfOk result (λ forms. IsKeptFor book.now (statement_of of.now) forms) }
     ensures counted { steps.old ≤ steps.new }
+    ensures bound { steps.new ≤ steps.old + forms_to_make book.now of.now.sheet.0 of.now.adj }
 {
     let mut forms = opened(alloc, book, of)?;
     let deps = Deps::open(alloc, book)?;
