@@ -104,6 +104,16 @@ others_keep cells texts m c e = untouched cells texts m c (absent cells c e)
 less : (i j : ℕ) → suc i ≡ suc j → i ≡ j
 less i j e = omega arith
 
+-- a cell that stands in one place alone has that place
+pub own_place : (cells : List Cell) (j : ℕ) (c : Cell) → AreDistinct cells → slice_get cells j ≡ Some c → position (is_same_cell c) cells ≡ Some j
+own_place [] j c distinct h = absurd cc
+own_place (a ∷ cells) zero c distinct h = let same : a ≡ c = cc in position_first (is_same_cell c) a cells (ap (is_same_cell c) same ∙ same_itself c)
+own_place (a ∷ cells) (suc j) c distinct h = by (own_place cells j c (λ i k d e f. less i k (distinct (suc i) (suc k) d e f)) h) (is_same_cell c a) refl
+  where
+    by : position (is_same_cell c) cells ≡ Some j → (t : Bool) → is_same_cell c a ≡ t → position (is_same_cell c) (a ∷ cells) ≡ Some (suc j)
+    by later true is = let k : 0 ≡ suc j = distinct 0 (suc j) c (ap Some (sym (same_cells c a is))) h in absurd (omega arith)
+    by later false is = position_next (is_same_cell c) a cells is ∙ ap (option_map suc) later
+
 abbrev There : (ℚ → List ℕ) → List Cell → List ℚ → Contents → Cell → ℚ → Type 0
 There f cells numbers m c x = option_map (assigned numbers) (position (is_same_cell c) cells) ≡ Some x → get (with_texts m (zip cells (map f numbers))) c ≡ Some (f x)
 

@@ -1,22 +1,26 @@
 -- Workbooks with numbers written into cells.
-use Rattle.std.proofs.Common.{◌≡◌, ℕ, ◌<◌, Bool, true, false, cond, All, List, ◌∷◌, length, map, Option, Some, None, Result, Ok, Err, refl, sym, ap, subst, arith}
+use Rattle.std.proofs.Common.{◌≡◌, ℕ, ◌<◌, Bool, true, false, cond, if◌then◌else◌, All, List, ◌∷◌, length, map, Option, Some, None, Result, Ok, Err, refl, sym, ap, subst, arith}
 use Rattle.std.specs.Prelude.{OnOk, option_map, position, zip}
 use Rattle.std.proofs.lemmas.Bool.{ltb-true}
 use Rattle.fractions.specs.Rational.{ℚ, zero_ℚ}
 use Rattle.frac128.specs.Narrow.{IsNarrow}
+use Rattle.calculations.specs.Calculation.{exact}
 use Rattle.cell_refs.specs.declared.cell.Cell.{Cell}
+use Rattle.cell_refs.specs.declared.error_kind.ErrorKind.TheVariants as kind
 use Rattle.cell_refs.specs.Cells.{is_same_cell}
-use Rattle.recalculation.specs.Entries.{entry}
+use Rattle.sheet_model.specs.declared.value.Value.TheVariants.{Error}
+use Rattle.recalculation.specs.Entries.{Formula, entry}
+use Rattle.recalculation.specs.Evaluation.{cell_value, evaluated}
 use Rattle.affine_forms.specs.Assigned.{assigned}
 use Rattle.form_extraction.specs.Places.{numbered_in, overriding}
 use Rattle.written_cells.specs.Written.{IsWritten, Says}
-use Rattle.written_cells.proofs.Writing.{written_is_overridden}
+use Rattle.written_cells.proofs.Writing.{circle_after, written_is_overridden}
 use Rattle.workbook.specs.declared.fault.AllFault.{AllFault}
 use Rattle.workbook.specs.declared.fault.AllFault.TheVariants as fault
 use Rattle.workbook.specs.Kinds.{book_of, says}
 use Rattle.workbook.specs.Several.{IsField, SetsAll}
 use Rattle.workbook.specs.State.{State}
-use Rattle.write_back.specs.Writing.{AreDistinct, KeepsValues, Puts, number_text, with_numbers}
+use Rattle.write_back.specs.Writing.{AreDistinct, KeepsSides, KeepsValues, Puts, number_text, with_numbers}
 use Rattle.write_back.proofs.Contents.{number_there, others_keep}
 use Rattle.write_back.proofs.Lengths.{IsShort, printed_short}
 use Rattle.write_back.proofs.Saying.{number_says}
@@ -60,6 +64,12 @@ module _ (s : State) (cells : List Cell) (numbers : List ℚ) (long : length num
   pub keeps_values : KeepsValues (book_of s) cells numbers (book_of after)
   keeps_values = written_is_overridden (book_of s) (overriding (numbered_in cells) (assigned numbers)) (book_of after) is_written
 
+  -- so is every formula that stands in no cell
+  pub keeps_sides : KeepsSides (book_of s) cells numbers (book_of after)
+  keeps_sides t = λ i.
+      if circle_after (book_of s) (overriding (numbered_in cells) (assigned numbers)) (book_of after) is_written (Some (Formula t)) i
+      then Error kind.Circular else cell_value (exact (evaluated (λ c. keeps_values c i) t))
+
 -- ---- putting
 -- what putting the texts of numbers answers
 pub puts : (s t : State) (cells : List Cell) (numbers : List ℚ) (texts : List (List ℕ)) (r : Result (Unit {0}) AllFault) → texts ≡ map number_text numbers
@@ -75,6 +85,11 @@ pub recalculated : (s t : State) (cells : List Cell) (numbers : List ℚ) → le
     → OnOk r (KeepsValues (book_of s) cells numbers (book_of t))
 recalculated s t cells numbers long distinct narrow (Ok _) p = subst (λ (u : State). KeepsValues (book_of s) cells numbers (book_of u)) (sym p.1) (keeps_values s cells numbers long distinct narrow)
 recalculated s t cells numbers long distinct narrow (Err f) p = tt
+
+pub sides : (s t : State) (cells : List Cell) (numbers : List ℚ) → length numbers ≡ length cells → AreDistinct cells → All IsNarrow numbers → (r : Result (Unit {0}) AllFault) → Puts s cells numbers r t
+    → OnOk r (KeepsSides (book_of s) cells numbers (book_of t))
+sides s t cells numbers long distinct narrow (Ok _) p = subst (λ (u : State). KeepsSides (book_of s) cells numbers (book_of u)) (sym p.1) (keeps_sides s cells numbers long distinct narrow)
+sides s t cells numbers long distinct narrow (Err f) p = tt
 
 -- ---- fields
 field_by : (t : Bool) (text : List ℕ) → IsShort 82 text → IsField (cond t (61 ∷ text) text)

@@ -3,10 +3,12 @@ use Rattle.std.specs.Prelude.{◌≡◌, ℕ, ◌==◌, if◌then◌else◌, Lis
 use Rattle.std.specs.List.{list_any}
 use Rattle.fractions.specs.Rational.{ℚ}
 use Rattle.cell_refs.specs.declared.cell.Cell.{Cell}
+use Rattle.formula_ast.specs.Tree.{Tree}
 use Rattle.frac128.specs.Printed.{printed}
 use Rattle.recalculation.specs.Entries.{Book, no_overriding}
 use Rattle.recalculation.specs.Recalculation.{val}
 use Rattle.affine_forms.specs.Assigned.{assigned}
+use Rattle.form_extraction.specs.Looked.{side_value}
 use Rattle.form_extraction.specs.Places.{numbered_in, overriding}
 use Rattle.workbook.specs.declared.fault.AllFault.{AllFault}
 use Rattle.workbook.specs.declared.fault.AllFault.TheVariants as fault
@@ -39,6 +41,11 @@ Puts before cells numbers (Err fault.Memory) after = after ≡ before
 abbrev pub KeepsValues : Book → List Cell → List ℚ → Book → Type 0
 KeepsValues before cells numbers after =
     (c : Cell) → val after no_overriding c ≡ val before (overriding (numbered_in cells) (assigned numbers)) c
+
+-- so is every formula that stands in no cell, as a right side that is an expression
+abbrev pub KeepsSides : Book → List Cell → List ℚ → Book → Type 0
+KeepsSides before cells numbers after =
+    (t : Tree) → side_value after no_overriding t ≡ side_value before (overriding (numbered_in cells) (assigned numbers)) t
 
 -- no cell stands twice
 abbrev pub AreDistinct : List Cell → Type 0

@@ -2,7 +2,7 @@
 ghost use Rattle.std.specs.Prelude.{◌≡◌, All, OnOk, length};
 ghost use Rattle.workbook.specs.Kinds.{book_of};
 ghost use Rattle.workbook.specs.Listed.{IsListed};
-ghost use Rattle.write_back.specs.Writing.{AreDistinct, KeepsValues, Puts};
+ghost use Rattle.write_back.specs.Writing.{AreDistinct, KeepsSides, KeepsValues, Puts};
 
 use crate::texts::all_texts;
 use frac128::Frac;
@@ -17,6 +17,7 @@ pub fn put(alloc: Global, book: &mut Workbook, adj: &Adj, numbers: &[Frac]) -> R
     requires distinct { AreDistinct adj.now }
     ensures puts { Puts book.old adj.now numbers.now result book.new }
     ensures recalculated { OnOk result (KeepsValues (book_of book.old) adj.now numbers.now (book_of book.new)) }
+    ensures sides { OnOk result (KeepsSides (book_of book.old) adj.now numbers.now (book_of book.new)) }
 {
     let Ok(texts) = all_texts(alloc, numbers) else {
         return Err(AllFault::Memory);

@@ -62,3 +62,19 @@ pub same_circular : (book other : Book) (is_leaf is_end : Cell → Bool) → ((a
 same_circular book other is_leaf is_end same a =
     same_tests (is_circular book is_leaf a) (is_circular other is_end a) (circular_kept book other is_leaf is_end (λ a b h. sym (same a b) ∙ h) a)
     (circular_kept other book is_end is_leaf (λ a b h. same a b ∙ h) a)
+
+-- a formula that refers to a circular cell of one workbook refers to one of the other, where its circular cells are circular there too
+circle_kept : (book other : Book) (is_leaf is_end : Cell → Bool) → ((a : Cell) → is_circular book is_leaf a ≡ true → is_circular other is_end a ≡ true) → (e : Option Entry)
+    → list_any (λ b. refers e b && is_circular book is_leaf b) (keys book.texts) ≡ true → list_any (λ b. refers e b && is_circular other is_end b) (keys other.texts) ≡ true
+circle_kept book other is_leaf is_end kept e h =
+    let b = passing (λ b. refers e b && is_circular book is_leaf b) (keys book.texts) h in
+    let circular = kept b.0 (second_true (refers e b.0) _ b.1) in
+    found_text other b.0 (λ b. refers e b && is_circular other is_end b) (formula_text other b.0 (first_true (is_formula (entry other b.0)) _ circular))
+    (both (refers e b.0) _ (first_true (refers e b.0) _ b.1) circular)
+
+-- where the circular cells are the same, a formula refers to one in both or in neither
+pub same_circle : (book other : Book) (is_leaf is_end : Cell → Bool) → ((a : Cell) → is_circular book is_leaf a ≡ is_circular other is_end a) → (e : Option Entry)
+    → list_any (λ b. refers e b && is_circular book is_leaf b) (keys book.texts) ≡ list_any (λ b. refers e b && is_circular other is_end b) (keys other.texts)
+same_circle book other is_leaf is_end same e =
+    same_tests (list_any (λ b. refers e b && is_circular book is_leaf b) (keys book.texts)) (list_any (λ b. refers e b && is_circular other is_end b) (keys other.texts))
+    (circle_kept book other is_leaf is_end (λ a h. sym (same a) ∙ h) e) (circle_kept other book is_end is_leaf (λ a h. same a ∙ h) e)

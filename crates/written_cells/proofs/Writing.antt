@@ -1,6 +1,7 @@
 -- The values of the cells, where the number of each overridden cell is written into it.
 use Rattle.std.proofs.Common.{◌≡◌, ℕ, zero, suc, ◌+◌, Bool, true, false, ◌&&◌, if◌then◌else◌, length, refl, sym, ap, ◌∙◌, arith, inl, inr}
 use Rattle.std.specs.Prelude.{not, Option, Some, None, is_some}
+use Rattle.std.specs.List.{list_any}
 use Rattle.std.specs.FinMap.{keys}
 use Rattle.fractions.specs.Rational.{ℚ}
 use Rattle.cell_refs.specs.declared.cell.Cell.{Cell}
@@ -12,7 +13,7 @@ use Rattle.recalculation.specs.Walks.{has_walk, is_formula, refers, steps_to, is
 use Rattle.recalculation.specs.Recalculation.{entry_value, number_or, recalculated, bounded_val, val}
 use Rattle.recalculation.proofs.Values.{val_enough}
 use Rattle.written_cells.specs.Written.{Says, IsWritten, WrittenIsOverridden}
-use Rattle.written_cells.proofs.Kept.{same_circular}
+use Rattle.written_cells.proofs.Kept.{same_circle, same_circular}
 
 -- the test of an overridden cell
 abbrev is_given : Overriding → Cell → Bool
@@ -45,6 +46,11 @@ module _ (before : Book) (over : Overriding) (after : Book) (is : IsWritten befo
   -- the same cells are circular
   circular_after : (a : Cell) → is_circular after (is_given no_overriding) a ≡ is_circular before (is_given over) a
   circular_after a = same_circular after before (is_given no_overriding) (is_given over) same_steps a
+
+  -- a formula, whether it stands in a cell or not, refers to one of them in both workbooks or in neither
+  pub circle_after : (e : Option Entry)
+      → list_any (λ b. refers e b && is_circular after (is_given no_overriding) b) (keys after.texts) ≡ list_any (λ b. refers e b && is_circular before (is_given over) b) (keys before.texts)
+  circle_after e = same_circle after before (is_given no_overriding) (is_given over) circular_after e
 
   -- an overridden cell isn't circular, and one in which its number stands isn't either
   free_before : (a : Cell) (x : ℚ) → over a ≡ Some x → is_circular before (is_given over) a ≡ false

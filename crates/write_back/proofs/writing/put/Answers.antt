@@ -1,5 +1,5 @@
 use Rattle.std.proofs.Common.{map, string_bytes, ap, ◌∙◌}
-use Rattle.write_back.proofs.Written.{puts, recalculated}
+use Rattle.write_back.proofs.Written.{puts, recalculated, sides}
 use Rattle.write_back.proofs.writing.put.Goals as goal
 
 pub returns-clause-puts : goal.returns-clause-puts
@@ -10,3 +10,7 @@ returns-clause-puts c =
 pub returns-clause-recalculated : goal.returns-clause-recalculated
 returns-clause-recalculated c =
     recalculated c.args.book.now c.set_all.new.self c.args.adj.now c.args.numbers.now c.requires.each c.requires.distinct c.in-Ok.ensures.narrow c.set_all.result (returns-clause-puts c)
+
+pub returns-clause-sides : goal.returns-clause-sides
+returns-clause-sides c =
+    sides c.args.book.now c.set_all.new.self c.args.adj.now c.args.numbers.now c.requires.each c.requires.distinct c.in-Ok.ensures.narrow c.set_all.result (returns-clause-puts c)
