@@ -1,5 +1,5 @@
 -- What a search of the model means of the sheet.
-use Rattle.std.proofs.Common.{◌≡◌, ℕ, refl, sym, ap, ◌∙◌, subst, Bool, true, false, List, [], ◌∷◌, length, map, Some, Result, if◌then◌else◌}
+use Rattle.std.proofs.Common.{◌≡◌, ℕ, refl, sym, ap, ◌∙◌, subst, Bool, true, false, List, [], ◌∷◌, length, Some, Result, if◌then◌else◌}
 use Rattle.std.specs.Prelude.{All, IfOk, ℤ}
 use Rattle.std.proofs.lemmas.List.Elements.{All-head, All-tail}
 use Rattle.std.proofs.lemmas.List.FromFn.{length-map-range_with_len}
@@ -27,6 +27,7 @@ use Rattle.sheet_solving.specs.Solving.{Searched, Solves, StandsAt, by_cells}
 use Rattle.sheet_solving.specs.Inner.{Answered, HasSpent, Stands, Writes}
 use Rattle.sheet_solving.proofs.Meaning.{IsBest, best_of}
 use Rattle.sheet_solving.proofs.Paths.{IsBelow, cells_listed}
+use Rattle.sheet_solving.proofs.Recalculated.{is_solved}
 
 -- ---- an optimum
 -- the cell without room is one of the cells
@@ -42,16 +43,15 @@ full_listed sheets contents (c ∷ cells) (x ∷ numbers) cell h e =
     by_room true further e = let same : c ≡ cell = cc in subst (IsListed sheets) same (All-head (IsListed sheets) c cells h)
     by_room false further e = further e
 
-written_solves : (rule : Rule) (budget : ℕ) (before after : State) (p : Prepared) (x : Assignment) (v : ℚ) (s : Solved) → ModelIsTheSheet before p.statement p.model → Answered rule budget p.model (answers.optimal x v)
-    → Writes before p.statement x v s after → Solves rule budget before p s after
-written_solves rule budget before after p x v s same found w = by_end s w
+written_solves : (rule : Rule) (budget : ℕ) (before after : State) (p : Prepared) (x : Assignment) (v : ℚ) (s : Solved) → ModelIsTheSheet before p.statement p.model → IsWhole before p.statement
+    → Answered rule budget p.model (answers.optimal x v) → Writes before p.statement x v s after → Solves rule budget before p s after
+written_solves rule budget before after p x v s same whole found w = by_end s w
   where
     best : IsBest before p.statement x v
     best = best_of before p.statement p.model x v same found.is_true
 
     by_end : (s : Solved) → Writes before p.statement x v s after → Solves rule budget before p s after
-    by_end (solved.Optimal value) w =
-        (found.search, x, v, found.ends, record { optimal = best.optimal; worth = best.worth ∙ sym w.0; room = w.1.room; written = w.1.written; recalculated = w.1.recalculated })
+    by_end (solved.Optimal value) w = (found.search, x, v, found.ends, is_solved before after p.statement x w.1 v value whole.distinct best w.0)
     by_end (solved.NoRoom cell) w = (found.search, x, v, found.ends, record { optimal = best.optimal; full = w.0 }, w.1)
     by_end solved.Infeasible w = absurd w
     by_end solved.Unbounded w = absurd w
@@ -59,11 +59,11 @@ written_solves rule budget before after p x v s same found w = by_end s w
     by_end (solved.Budget n) w = absurd w
 
 -- whatever comes of writing the numbers of the optimum
-pub optimum_solves : (rule : Rule) (budget : ℕ) (before after : State) (p : Prepared) (numbers x : Assignment) (v : ℚ) (r : Result Solved Memory) → ModelIsTheSheet before p.statement p.model → numbers ≡ x
-    → Answered rule budget p.model (answers.optimal x v) → IfOk r (λ s. Writes before p.statement numbers v s after) → IfOk r (λ s. Solves rule budget before p s after)
-optimum_solves rule budget before after p numbers x v r same is found w =
+pub optimum_solves : (rule : Rule) (budget : ℕ) (before after : State) (p : Prepared) (numbers x : Assignment) (v : ℚ) (r : Result Solved Memory) → ModelIsTheSheet before p.statement p.model
+    → IsWhole before p.statement → numbers ≡ x → Answered rule budget p.model (answers.optimal x v) → IfOk r (λ s. Writes before p.statement numbers v s after) → IfOk r (λ s. Solves rule budget before p s after)
+optimum_solves rule budget before after p numbers x v r same whole is found w =
     IfOk-weaker r (λ (s : Solved). Writes before p.statement numbers v s after) (λ (s : Solved). Solves rule budget before p s after)
-    (λ (s : Solved) (w : Writes before p.statement numbers v s after). written_solves rule budget before after p x v s same found (subst (λ (y : Assignment). Writes before p.statement y v s after) is w)) w
+    (λ (s : Solved) (w : Writes before p.statement numbers v s after). written_solves rule budget before after p x v s same whole found (subst (λ (y : Assignment). Writes before p.statement y v s after) is w)) w
 
 -- ---- the other ends
 pub infeasible_solves : (rule : Rule) (budget : ℕ) (book : State) (p : Prepared) → ModelIsTheSheet book p.statement p.model → Answered rule budget p.model answers.infeasible

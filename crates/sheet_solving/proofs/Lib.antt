@@ -1,4 +1,5 @@
 pub mod Meaning
 pub mod Paths
+pub mod Recalculated
 pub mod Running
 pub mod Ends

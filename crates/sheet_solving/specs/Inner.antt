@@ -14,7 +14,7 @@ use Rattle.branch_bound.specs.declared.progress.SearchStop.TheVariants as stop
 use Rattle.workbook.specs.Kinds.{book_of}
 use Rattle.workbook.specs.State.{State}
 use Rattle.solver_names.specs.Statement.{Statement}
-use Rattle.write_back.specs.Writing.{KeepsValues, with_numbers, without_room}
+use Rattle.write_back.specs.Writing.{KeepsSides, KeepsValues, with_numbers, without_room}
 use Rattle.sheet_solving.specs.declared.solved.Solved.{Solved}
 use Rattle.sheet_solving.specs.declared.solved.Solved.TheVariants as solved
 use Rattle.sheet_solving.specs.Solving.{EndsWith, HasOpenLeaf, Searched}
@@ -60,11 +60,12 @@ value_told (reach wanted) v = wanted
 abbrev pub told_of : Statement → ℚ → Option ℚ
 told_of s v = option_map (λ c. value_told s.goal v) s.objective
 
--- the numbers are written into the cells to be decided, and every cell keeps its value
+-- the numbers are written into the cells to be decided, and every cell and every formula that stands in none keeps its value
 pub record IsWritten (before after : State) (s : Statement) (numbers : Assignment) : Type 0 where
   pub room : without_room before s.decisions numbers ≡ None
   pub written : after ≡ with_numbers before s.decisions numbers
   pub recalculated : KeepsValues (book_of before) s.decisions numbers (book_of after)
+  pub sides : KeepsSides (book_of before) s.decisions numbers (book_of after)
 
 -- what comes of writing an optimum with this value of the search
 abbrev pub Writes : State → Statement → Assignment → ℚ → Solved → State → Type 0

@@ -1,20 +1,26 @@
 -- How a search over the model of a sheet ends, and what that means of the sheet.
-use Rattle.std.specs.Prelude.{◌≡◌, ◌<◌, ◌≤◌, ℕ, ℤ, Bool, List, All, length, map, Option, Some, None, slice_index_or, ⊤}
+use Rattle.std.specs.Prelude.{◌≡◌, ◌<◌, ◌≤◌, ℕ, ℤ, Bool, List, All, length, map, Option, Some, None, slice_get, slice_index_or, ⊤}
+use Rattle.std.specs.Option.{option_and_then}
 use Rattle.fractions.specs.Rational.{ℚ}
 use Rattle.optimality.specs.Problem.{Assignment}
-use Rattle.optimality.specs.Optimal.{Optimal, Infeasible, Unbounded, objective_at}
+use Rattle.optimality.specs.Optimal.{IsNotNegative, IsWhole, IsZeroOrOne, Optimal, Infeasible, Stand, Unbounded, objective_at}
 use Rattle.cell_refs.specs.declared.cell.Cell.{Cell}
 use Rattle.linear_models.specs.Model.{Model}
 use Rattle.node_pick.specs.Rules.{Rule}
 use Rattle.searches.specs.Answers as answers
 use Rattle.searches.specs.Trails as trails
 use Rattle.branch_bound.specs.Ends.{IsWideAt}
+use Rattle.recalculation.specs.Entries.{no_overriding}
 use Rattle.workbook.specs.Kinds.{book_of}
 use Rattle.workbook.specs.Listed.{IsListed}
 use Rattle.workbook.specs.State.{State}
-use Rattle.solver_names.specs.Statement.{Statement}
-use Rattle.sheet_problems.specs.SheetProblem.{problem_in}
-use Rattle.write_back.specs.Writing.{KeepsValues, with_numbers, without_room}
+use Rattle.workbook.specs.declared.place.Place.{Place}
+use Rattle.workbook.specs.declared.place.Place.TheVariants as place
+use Rattle.solver_names.specs.Sides.{sides_in}
+use Rattle.solver_names.specs.Statement.{RowOf, Statement}
+use Rattle.sheet_problems.specs.Places.{number_in, put_over, value_at}
+use Rattle.sheet_problems.specs.SheetProblem.{not_negative_in, problem_in}
+use Rattle.write_back.specs.Writing.{with_numbers, without_room}
 use Rattle.sheet_models.specs.Prepared.{Prepared}
 use Rattle.sheet_solving.specs.declared.solved.Solved.{Solved}
 use Rattle.sheet_solving.specs.declared.solved.Solved.TheVariants as solved
@@ -38,13 +44,38 @@ abbrev pub HasOpenLeaf : Model → trails.State → Type 0
 HasOpenLeaf m s = ¬ ((s.work ≡ None) × trails.IsOver m s)
 
 -- ---- what an answer means
--- an optimal assignment was found and is written into the cells to be decided; recalculated, every cell is what it was under it
+-- the number of a place of the workbook as it is, with no cell overridden
+abbrev pub number_now : State → Statement → Place → Option ℚ
+number_now book s p = option_and_then number_in (value_at (book_of book) (sides_in book s.sheet) no_overriding p)
+
+-- both sides of a row are numbers in the workbook as it is, and they are in its relation
+pub record Holds (book : State) (s : Statement) (r : RowOf) : Type 0 where
+  pub left : ℚ
+  pub right : ℚ
+  pub left_is : number_now book s (place.Cell r.left) ≡ Some left
+  pub right_is : number_now book s r.right ≡ Some right
+  pub stand : Stand r.relation left right
+
+-- the number of a decision cell in the workbook as it is passes the test
+abbrev pub DecisionHas : (ℚ → Type 0) → State → Statement → ℕ → Type 0
+DecisionHas P book s decision = (c : Cell) × (x : ℚ) × (slice_get s.decisions decision ≡ Some c) × (number_now book s (place.Cell c) ≡ Some x) × P x
+
+-- every row and every mark holds in the workbook as it is
+pub record MeetsAll (book : State) (s : Statement) : Type 0 where
+  pub rows : All (Holds book s) s.rows
+  pub whole : All (DecisionHas IsWhole book s) s.whole
+  pub binary : All (DecisionHas IsZeroOrOne book s) s.binary
+  pub not_negative : All (DecisionHas IsNotNegative book s) (not_negative_in s)
+
+-- an optimal assignment was found and is written into the cells to be decided; recalculated, every cell and every right side is what
+-- it was under it, and so the workbook meets every constraint
 pub record IsSolved (before after : State) (s : Statement) (numbers : Assignment) (value : Option ℚ) : Type 0 where
   pub optimal : Optimal (problem_in before s) numbers
   pub worth : objective_at (problem_in before s) numbers ≡ value
   pub room : without_room before s.decisions numbers ≡ None
   pub written : after ≡ with_numbers before s.decisions numbers
-  pub recalculated : KeepsValues (book_of before) s.decisions numbers (book_of after)
+  pub recalculated : (p : Place) → value_at (book_of after) (sides_in after s.sheet) no_overriding p ≡ value_at (book_of before) (sides_in before s.sheet) (put_over s.decisions numbers) p
+  pub meets : MeetsAll after s
 
 -- an optimal assignment was found, and a cell to be decided, the first of them, has no room for its number
 pub record HasNoRoom (before : State) (s : Statement) (numbers : Assignment) (cell : Cell) : Type 0 where

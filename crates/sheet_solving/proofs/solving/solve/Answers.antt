@@ -5,7 +5,7 @@ use Rattle.sheet_solving.proofs.solving.solve.Goals as goal
 pub returns-in-Ok-Optimal-clause-solves : goal.returns-in-Ok-Optimal-clause-solves
 returns-in-Ok-Optimal-clause-solves g c =
     let found = rw c.in-Ok-Optimal.field-0-is at c.in-Ok-Optimal.ensures.runs in
-    optimum_solves _ c.args.budget c.args.book.now _ (prepared_of c.args.of) _ _ _ c.write.result c.requires.model c.deref.ensures.value found c.write.ensures.written
+    optimum_solves _ c.args.budget c.args.book.now _ (prepared_of c.args.of) _ _ _ c.write.result c.requires.model c.requires.whole c.deref.ensures.value found c.write.ensures.written
 
 pub returns-in-Ok-Infeasible-clause-solves : goal.returns-in-Ok-Infeasible-clause-solves
 returns-in-Ok-Infeasible-clause-solves g c =

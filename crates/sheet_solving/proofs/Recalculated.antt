@@ -1,0 +1,108 @@
+-- The workbook into which an optimum is written, recalculated.
+use Rattle.std.proofs.Common.{◌≡◌, ◌∙◌, refl, ap, sym, arith, ℕ, zero, suc, List, [], ◌∷◌, length, map, Option, Some, None}
+use Rattle.std.specs.Prelude.{All, option_map, slice_get}
+use Rattle.std.specs.Option.{option_and_then}
+use Rattle.std.proofs.lemmas.List.Elements.{All-cons, All-head, All-nil, All-tail, All-weaker}
+use Rattle.fractions.specs.Rational.{ℚ}
+use Rattle.fractions.specs.Vectors.{at}
+use Rattle.cell_refs.specs.declared.cell.Cell.{Cell}
+use Rattle.optimality.specs.Problem.{Assignment, Row}
+use Rattle.optimality.specs.Optimal.{Has, IsNotNegative, IsWhole, IsZeroOrOne, Meets, Permitted}
+use Rattle.recalculation.specs.Entries.{no_overriding}
+use Rattle.workbook.specs.Kinds.{book_of}
+use Rattle.workbook.specs.State.{State}
+use Rattle.workbook.specs.declared.place.Place.{Place}
+use Rattle.workbook.specs.declared.place.Place.TheVariants as place
+use Rattle.solver_names.specs.Sides.{sides_in}
+use Rattle.solver_names.specs.Statement.{RowOf, Statement}
+use Rattle.sheet_problems.specs.Places.{number_in, put_over, tree_of, value_at, worth_at}
+use Rattle.sheet_problems.specs.SheetProblem.{not_negative_in, problem_in, row_of}
+use Rattle.sheet_problems.proofs.Numbers.{decision_is_its_number}
+use Rattle.write_back.specs.Writing.{AreDistinct, with_numbers}
+use Rattle.write_back.proofs.Contents.{own_place}
+use Rattle.sheet_solving.specs.Inner.{IsWritten, told_of}
+use Rattle.sheet_solving.specs.Solving.{DecisionHas, Holds, IsSolved, MeetsAll, number_now}
+use Rattle.sheet_solving.proofs.Meaning.{IsBest}
+
+-- ---- lists
+-- the element at a place
+at_of : (xs : List ℚ) (j : ℕ) (x : ℚ) → slice_get xs j ≡ Some x → at xs j ≡ x
+at_of [] j x h = absurd cc
+at_of (y ∷ xs) zero x h = cc
+at_of (y ∷ xs) (suc j) x h = at_of xs j x h
+
+less : (i j : ℕ) → suc i ≡ suc j → i ≡ j
+less i j e = omega arith
+
+-- a list of the same length has an element there too
+also_there : (xs : List ℚ) (cells : List Cell) (j : ℕ) (x : ℚ) → length xs ≡ length cells → slice_get xs j ≡ Some x → slice_get cells j ≡ None → ⊥
+also_there [] cells j x e h k = cc
+also_there (y ∷ xs) [] j x e h k = omega (arith, e)
+also_there (y ∷ xs) (c ∷ cells) zero x e h k = cc
+also_there (y ∷ xs) (c ∷ cells) (suc j) x e h k = also_there xs cells j x (less _ _ e) h k
+
+-- ---- what is kept
+-- the right sides that are expressions stand in names, which are as before
+same_sides : (before after : State) (sheet : ℕ) (cells : List Cell) (numbers : List ℚ) → after ≡ with_numbers before cells numbers → sides_in after sheet ≡ sides_in before sheet
+same_sides before after sheet cells numbers e = ap (λ (book : State). sides_in book sheet) e
+
+module _ (before after : State) (s : Statement) (numbers : Assignment) (is : IsWritten before after s numbers) where
+  -- every cell and every right side is what it was under the numbers
+  keeps : (p : Place) → value_at (book_of after) (sides_in after s.sheet) no_overriding p ≡ value_at (book_of before) (sides_in before s.sheet) (put_over s.decisions numbers) p
+  keeps (place.Cell c) = ap Some (is.recalculated c)
+  keeps (place.Side k) = λ i. option_map (λ t. is.sides t i) (tree_of (same_sides before after s.sheet s.decisions numbers is.written i) k)
+
+  -- so is the number that it counts as
+  keeps_number : (p : Place) → number_now after s p ≡ worth_at (book_of before) (sides_in before s.sheet) s.decisions p numbers
+  keeps_number p = ap (option_and_then number_in) (keeps p)
+
+  abbrev before_of : RowOf → Row
+  before_of r = row_of (book_of before) (sides_in before s.sheet) s r
+
+  -- a row that holds under the numbers holds in the workbook as it is now
+  row_holds : (r : RowOf) → Meets numbers (before_of r) → Holds after s r
+  row_holds r h = record {
+    left = h.left;
+    right = h.right;
+    left_is = keeps_number (place.Cell r.left) ∙ h.left_is;
+    right_is = keeps_number r.right ∙ h.right_is;
+    stand = h.stand;
+  }
+
+  rows_hold : (rows : List RowOf) → All (Meets numbers) (map before_of rows) → All (Holds after s) rows
+  rows_hold [] h = All-nil (Holds after s)
+  rows_hold (r ∷ rows) h =
+      All-cons (Holds after s) r rows (row_holds r (All-head (Meets numbers) (before_of r) (map before_of rows) h))
+      (rows_hold rows (All-tail (Meets numbers) (before_of r) (map before_of rows) h))
+
+  -- a decision cell has its number
+  decision_has : AreDistinct s.decisions → length numbers ≡ length s.decisions → (P : ℚ → Type 0) (j : ℕ) → Has P numbers j → DecisionHas P after s j
+  decision_has distinct long P j h = by (slice_get s.decisions j) refl
+    where
+      by : (o : Option Cell) → slice_get s.decisions j ≡ o → DecisionHas P after s j
+      by None e = absurd (also_there numbers s.decisions j h.0 long h.1 e)
+      by (Some c) e =
+          let own : worth_at (book_of before) (sides_in before s.sheet) s.decisions (place.Cell c) numbers ≡ Some (at numbers j) =
+          decision_is_its_number (book_of before) (sides_in before s.sheet) s.decisions c j (own_place s.decisions j c distinct e) numbers in
+          (c, h.0, e, keeps_number (place.Cell c) ∙ (own ∙ ap Some (at_of numbers j h.0 h.1)), h.2)
+
+  -- so what is permitted holds in the workbook
+  meets_all : AreDistinct s.decisions → Permitted (problem_in before s) numbers → MeetsAll after s
+  meets_all distinct permitted = record {
+    rows = rows_hold s.rows permitted.rows;
+    whole = All-weaker (Has IsWhole numbers) (DecisionHas IsWhole after s) (decision_has distinct permitted.one_each IsWhole) s.whole permitted.whole;
+    binary = All-weaker (Has IsZeroOrOne numbers) (DecisionHas IsZeroOrOne after s) (decision_has distinct permitted.one_each IsZeroOrOne) s.binary permitted.binary;
+    not_negative =
+        All-weaker (Has IsNotNegative numbers) (DecisionHas IsNotNegative after s) (decision_has distinct permitted.one_each IsNotNegative) (not_negative_in s) permitted.not_negative;
+  }
+
+  -- an optimum of the sheet that is written, with the objective's number
+  pub is_solved : (v : ℚ) (value : Option ℚ) → AreDistinct s.decisions → IsBest before s numbers v → value ≡ told_of s v → IsSolved before after s numbers value
+  is_solved v value distinct best told = record {
+    optimal = best.optimal;
+    worth = best.worth ∙ sym told;
+    room = is.room;
+    written = is.written;
+    recalculated = keeps;
+    meets = meets_all distinct best.optimal.permitted;
+  }
