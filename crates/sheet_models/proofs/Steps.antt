@@ -6,19 +6,18 @@ use Rattle.workbook.specs.State.{State}
 use Rattle.solver_names.specs.Answers.{statement_of}
 use Rattle.solver_names.specs.Stated.{statement_in}
 use Rattle.solver_names.specs.Statement.{Statement}
-use Rattle.solver_names.specs.declared.faults.Fault.{Fault}
 use Rattle.solver_names.specs.declared.statements.Statement.{Statement as Declared}
 use Rattle.sheet_models.specs.Answers.{MakesFew, forms_to_make}
 use Rattle.sheet_models.specs.Inner.{IsStatement}
 
 -- by what is stated
-abbrev IsFew : State → ℕ → ℕ → ℕ → Result Statement Fault → Type 0
+abbrev IsFew : {E : Type 0} → State → ℕ → ℕ → ℕ → Result Statement E → Type 0
 IsFew book sheet before after r = MatchResult r (λ s. after ≤ before + forms_to_make book sheet s.decisions) (λ f. after ≡ before)
 
 no_fewer : (n m : ℕ) → n ≤ n + m
 no_fewer n m = omega arith
 
-none_by : (book : State) (sheet n : ℕ) (r : Result Statement Fault) → IsFew book sheet n n r
+none_by : {E : Type 0} (book : State) (sheet n : ℕ) (r : Result Statement E) → IsFew book sheet n n r
 none_by book sheet n (Ok s) = no_fewer n (forms_to_make book sheet s.decisions)
 none_by book sheet n (Err f) = refl
 
