@@ -9,4 +9,10 @@ fn main(rt: HostRuntime) -> ExitCode {
 }
 
 #[cfg(test)]
+mod limit_tests;
+#[cfg(test)]
+mod option_tests;
+#[cfg(test)]
+mod run_tests;
+#[cfg(test)]
 mod workbook_tests;

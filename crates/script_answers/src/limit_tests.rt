@@ -1,0 +1,355 @@
+// Runs over files and scripts with as much as there may be, and with one more.
+use crate::run_tests::{NEVER, ran};
+use opensolver_cli::Status;
+use std::alloc::Global;
+use std::test::Fail;
+
+// A text of many parts: what stands before, a piece, how often it stands, what stands behind, and how often all of that
+// stands.
+type Long<'a> = (&'a str, &'a str, usize, &'a str, usize);
+
+const EMPTY: Long<'static> = ("", "", 0, "", 0);
+
+const WORDS: &str = "--names names.csv plan.csv other.csv";
+
+const FILES: [&str; 33] = [
+    "names.csv",
+    "a1.csv",
+    "a2.csv",
+    "a3.csv",
+    "a4.csv",
+    "a5.csv",
+    "a6.csv",
+    "a7.csv",
+    "a8.csv",
+    "b1.csv",
+    "b2.csv",
+    "b3.csv",
+    "b4.csv",
+    "b5.csv",
+    "b6.csv",
+    "b7.csv",
+    "b8.csv",
+    "c1.csv",
+    "c2.csv",
+    "c3.csv",
+    "c4.csv",
+    "c5.csv",
+    "c6.csv",
+    "c7.csv",
+    "c8.csv",
+    "d1.csv",
+    "d2.csv",
+    "d3.csv",
+    "d4.csv",
+    "d5.csv",
+    "d6.csv",
+    "d7.csv",
+    "d8.csv",
+];
+
+// The bytes of a long text.
+fn bytes(alloc: Global, long: &Long) -> Result<Vec<u8>, Fail> {
+    let mut bytes = Vec::new(alloc);
+    for _ in 0..long.4 {
+        bytes.extend_from_slice(long.0.as_bytes())?;
+        push_pieces(&mut bytes, long.1, long.2)?;
+        bytes.extend_from_slice(long.3.as_bytes())?;
+    }
+    Ok(bytes)
+}
+
+// Adds a piece so many times.
+fn push_pieces(bytes: &mut Vec<u8>, piece: &str, count: usize) -> Result<(), Fail> {
+    for _ in 0..count {
+        bytes.extend_from_slice(piece.as_bytes())?;
+    }
+    Ok(())
+}
+
+// The sheets `plan` and `other`, the script, how the run ends, and what it prints.
+type Case<'a> = (Long<'a>, &'a [u8], Long<'a>, Status, &'a str);
+
+const SHEETS: &[Case<'static>] = &[
+    (("1\n", "", 0, "", 4096), b"", EMPTY, Status::Done, ""),
+    (
+        ("1\n", "", 0, "", 4097),
+        b"",
+        EMPTY,
+        Status::Limit,
+        "limit rows 4096\n",
+    ),
+    (("", ",", 255, "", 1), b"", EMPTY, Status::Done, ""),
+    (
+        ("", ",", 256, "", 1),
+        b"",
+        EMPTY,
+        Status::Limit,
+        "limit columns 256\n",
+    ),
+    (("", "x", 8192, "", 1), b"", EMPTY, Status::Done, ""),
+    (
+        ("", "x", 8193, "", 1),
+        b"",
+        EMPTY,
+        Status::Limit,
+        "limit field 8192\n",
+    ),
+    (("1", ",1", 16, "\n", 3855), b"", EMPTY, Status::Done, ""),
+    (
+        ("1", ",1", 16, "\n", 3856),
+        b"",
+        EMPTY,
+        Status::Limit,
+        "limit cells 65536\n",
+    ),
+    (("=1", ",=1", 4, "\n", 3276), b"", EMPTY, Status::Done, ""),
+    (
+        ("=1", ",=1", 4, "\n", 3277),
+        b"",
+        EMPTY,
+        Status::Limit,
+        "limit formulas 16384\n",
+    ),
+];
+
+// What two sheets may hold together.
+const TWO_SHEETS: &[Case<'static>] = &[
+    (("1", ",1", 15, "\n", 4096), b"", EMPTY, Status::Done, ""),
+    (
+        ("1", ",1", 15, "\n", 4096),
+        b"1",
+        EMPTY,
+        Status::Limit,
+        "limit cells 65536\n",
+    ),
+    (
+        ("=1", ",=1", 15, "\n", 4096),
+        b"=1",
+        EMPTY,
+        Status::Limit,
+        "limit cells 65536\n",
+    ),
+    (("=1", ",=1", 3, "\n", 4096), b"1", EMPTY, Status::Done, ""),
+    (
+        ("=1", ",=1", 3, "\n", 4096),
+        b"=1",
+        EMPTY,
+        Status::Limit,
+        "limit formulas 16384\n",
+    ),
+    (
+        ("of:=1", ",of:=1", 3, "\n", 4096),
+        b"of:=1",
+        EMPTY,
+        Status::Limit,
+        "limit formulas 16384\n",
+    ),
+];
+
+// Sets over sheets that are nearly full.
+const EDITS: &[Case<'static>] = &[
+    (
+        ("1", ",1", 216, "\n", 302),
+        b"1\n7\n",
+        (
+            "set,plan!A303,x\nset,plan!A303,\nset,plan!A302,x\nset,plan!A1,\nset,plan!A303,=1\nset,other!A3,=1\nset,plan!A4097,x\n",
+            "",
+            0,
+            "",
+            1,
+        ),
+        Status::Refused,
+        "refused too-many-cells\nok\nok\nok\nok\nrefused too-many-cells\nrefused out-of-sheet\n",
+    ),
+    (
+        ("=1", ",=1", 3, "\n", 4096),
+        b"1\n7\n",
+        (
+            "set,plan!E1,=1\nset,other!A1,of:=1\nset,plan!A1,=2\nset,plan!A1,2\nset,plan!E1,=1\n",
+            "",
+            0,
+            "",
+            1,
+        ),
+        Status::Refused,
+        "refused too-many-formulas\nrefused too-many-formulas\nok\nok\nok\n",
+    ),
+    (
+        ("1\n5\n", "", 0, "", 1),
+        b"1\n7\n",
+        ("set,plan!A2,", "x", 8192, "\n", 1),
+        Status::Done,
+        "ok\n",
+    ),
+    (
+        ("1\n5\n", "", 0, "", 1),
+        b"1\n7\n",
+        ("set,plan!B2,", "x", 8193, "\nshow,plan!B2\n", 1),
+        Status::Refused,
+        "refused field-too-long\nempty\n",
+    ),
+];
+
+// How a run over the sheets `plan` and `other` ends, and what it prints.
+fn ran_over_sheets(
+    alloc: Global,
+    plan: &Long,
+    other: &[u8],
+    script: &Long,
+) -> Result<(Status, Vec<u8>), Fail> {
+    let plan = bytes(alloc, plan)?;
+    let script = bytes(alloc, script)?;
+    let files = [
+        ("names.csv", b"".as_slice()),
+        ("plan.csv", plan.as_slice()),
+        ("other.csv", other),
+    ];
+    ran(alloc, WORDS, &files, &script, NEVER)
+}
+
+#[test]
+fn sheets_at_their_limits(rt: HostRuntime) -> Result<(), Fail> {
+    for (plan, other, script, end, want) in SHEETS {
+        let (status, printed) = ran_over_sheets(rt.alloc(), plan, other, script)?;
+        assert_eq!(rt; printed.as_slice(), want.as_bytes());
+        assert!(rt; status == *end);
+    }
+    Ok(())
+}
+
+#[test]
+fn two_sheets_at_their_limits(rt: HostRuntime) -> Result<(), Fail> {
+    for (plan, other, script, end, want) in TWO_SHEETS {
+        let (status, printed) = ran_over_sheets(rt.alloc(), plan, other, script)?;
+        assert_eq!(rt; printed.as_slice(), want.as_bytes());
+        assert!(rt; status == *end);
+    }
+    Ok(())
+}
+
+#[test]
+fn edits_at_the_limits_of_sheets(rt: HostRuntime) -> Result<(), Fail> {
+    for (plan, other, script, end, want) in EDITS {
+        let (status, printed) = ran_over_sheets(rt.alloc(), plan, other, script)?;
+        assert_eq!(rt; printed.as_slice(), want.as_bytes());
+        assert!(rt; status == *end);
+    }
+    Ok(())
+}
+
+// So many times the byte.
+fn filled(alloc: Global, byte: u8, count: usize) -> Result<Vec<u8>, Fail> {
+    let mut bytes = Vec::new(alloc);
+    bytes.resize(count, byte)?;
+    Ok(bytes)
+}
+
+// How a run ends whose file of names and whose script have so many bytes, and what it prints. Of sheets there is this file alone.
+fn ran_over_bytes(
+    alloc: Global,
+    names: usize,
+    sheet: &str,
+    script: usize,
+) -> Result<(Status, Vec<u8>), Fail> {
+    let names = filled(alloc, b' ', names)?;
+    let script = filled(alloc, b'\xff', script)?;
+    let files = [("names.csv", names.as_slice()), (sheet, b"".as_slice())];
+    let line = "--names names.csv plan.csv";
+    ran(alloc, line, &files, &script, NEVER)
+}
+
+#[test]
+fn files_of_as_many_bytes_as_there_may_be(rt: HostRuntime) -> Result<(), Fail> {
+    for (names, end, want) in [
+        (16777216, Status::BadInput, "bad-input plan.csv missing\n"),
+        (16777217, Status::Limit, "limit file 16777216\n"),
+    ] {
+        let (status, printed) = ran_over_bytes(rt.alloc(), names, "more.csv", 0)?;
+        assert_eq!(rt; printed.as_slice(), want.as_bytes());
+        assert!(rt; status == end);
+    }
+    Ok(())
+}
+
+#[test]
+fn scripts_of_as_many_bytes_as_there_may_be(rt: HostRuntime) -> Result<(), Fail> {
+    for (script, end, want) in [
+        (16777216, Status::BadInput, "bad-input script not-utf8 0\n"),
+        (16777217, Status::Limit, "limit script 16777216\n"),
+    ] {
+        let (status, printed) = ran_over_bytes(rt.alloc(), 0, "plan.csv", script)?;
+        assert_eq!(rt; printed.as_slice(), want.as_bytes());
+        assert!(rt; status == end);
+    }
+    Ok(())
+}
+
+// As many sheets as there may be, each of 2,048 texts, and the file of names.
+#[test]
+fn as_many_sheets_as_there_may_be(rt: HostRuntime) -> Result<(), Fail> {
+    let alloc = rt.alloc();
+    let sheet = bytes(alloc, &("1,1\n", "", 0, "", 1024))?;
+    let mut line = String::from_str(alloc, "--names names.csv")?;
+    let mut files = Vec::new(alloc);
+    for name in FILES {
+        if files.is_empty() {
+            files.push((name, b"".as_slice()))?;
+        } else {
+            line.push_str(" ")?;
+            line.push_str(name)?;
+            files.push((name, sheet.as_slice()))?;
+        }
+    }
+    let script = b"set,d8!A1025,x\nset,d8!A1024,x\nset,d8!A1,\nset,d8!A1025,x\nset,d8!A1,x\n";
+    let want = b"refused too-many-cells\nok\nok\nok\nrefused too-many-cells\n";
+    let (status, printed) = ran(alloc, line.as_str(), &files, script, NEVER)?;
+    assert_eq!(rt; printed.as_slice(), want.as_slice());
+    assert!(rt; status == Status::Refused);
+    Ok(())
+}
+
+// The file of names: a long text, behind it so many names, how the run ends, and what it prints.
+const NAME_FILES: &[(Long<'static>, usize, Status, &str)] = &[
+    (EMPTY, 32768, Status::Done, ""),
+    (EMPTY, 32769, Status::Limit, "limit names 32768\n"),
+    ((",x,", "y", 8192, "\n", 1), 1, Status::Done, ""),
+    (
+        (",x,", "y", 8193, "\n", 1),
+        1,
+        Status::Limit,
+        "limit field 8192\n",
+    ),
+    (
+        (",x_0,1\n", "", 0, "", 1),
+        32768,
+        Status::BadInput,
+        "bad-input names.csv name-row 2\n",
+    ),
+];
+
+// Adds the records of so many names, each another one.
+fn push_names(alloc: Global, bytes: &mut Vec<u8>, count: usize) -> Result<(), Fail> {
+    for place in 0..count {
+        let record = format!(in alloc; ",x_{place},1\n")?;
+        bytes.extend_from_slice(record.as_bytes())?;
+    }
+    Ok(())
+}
+
+#[test]
+fn files_of_names_at_their_limits(rt: HostRuntime) -> Result<(), Fail> {
+    for (long, count, end, want) in NAME_FILES {
+        let mut names = bytes(rt.alloc(), long)?;
+        push_names(rt.alloc(), &mut names, *count)?;
+        let files = [
+            ("names.csv", names.as_slice()),
+            ("plan.csv", b"".as_slice()),
+        ];
+        let line = "--names names.csv plan.csv";
+        let (status, printed) = ran(rt.alloc(), line, &files, b"", NEVER)?;
+        assert_eq!(rt; printed.as_slice(), want.as_bytes());
+        assert!(rt; status == *end);
+    }
+    Ok(())
+}
