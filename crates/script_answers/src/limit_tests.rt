@@ -191,27 +191,17 @@ const EDITS: &[Case<'static>] = &[
     ),
 ];
 
-// How a run over the sheets `plan` and `other` ends, and what it prints.
-fn ran_over_sheets(
-    alloc: Global,
-    plan: &Long,
-    other: &[u8],
-    script: &Long,
-) -> Result<(Status, Vec<u8>), Fail> {
-    let plan = bytes(alloc, plan)?;
-    let script = bytes(alloc, script)?;
-    let files = [
-        ("names.csv", b"".as_slice()),
-        ("plan.csv", plan.as_slice()),
-        ("other.csv", other),
-    ];
-    ran(alloc, WORDS, &files, &script, NEVER)
-}
-
 #[test]
 fn sheets_at_their_limits(rt: HostRuntime) -> Result<(), Fail> {
     for (plan, other, script, end, want) in SHEETS {
-        let (status, printed) = ran_over_sheets(rt.alloc(), plan, other, script)?;
+        let plan = bytes(rt.alloc(), plan)?;
+        let script = bytes(rt.alloc(), script)?;
+        let files = [
+            ("names.csv", b"".as_slice()),
+            ("plan.csv", plan.as_slice()),
+            ("other.csv", *other),
+        ];
+        let (status, printed) = ran(rt.alloc(), WORDS, &files, &script, NEVER)?;
         assert_eq!(rt; printed.as_slice(), want.as_bytes());
         assert!(rt; status == *end);
     }
@@ -221,7 +211,14 @@ fn sheets_at_their_limits(rt: HostRuntime) -> Result<(), Fail> {
 #[test]
 fn two_sheets_at_their_limits(rt: HostRuntime) -> Result<(), Fail> {
     for (plan, other, script, end, want) in TWO_SHEETS {
-        let (status, printed) = ran_over_sheets(rt.alloc(), plan, other, script)?;
+        let plan = bytes(rt.alloc(), plan)?;
+        let script = bytes(rt.alloc(), script)?;
+        let files = [
+            ("names.csv", b"".as_slice()),
+            ("plan.csv", plan.as_slice()),
+            ("other.csv", *other),
+        ];
+        let (status, printed) = ran(rt.alloc(), WORDS, &files, &script, NEVER)?;
         assert_eq!(rt; printed.as_slice(), want.as_bytes());
         assert!(rt; status == *end);
     }
@@ -231,7 +228,14 @@ fn two_sheets_at_their_limits(rt: HostRuntime) -> Result<(), Fail> {
 #[test]
 fn edits_at_the_limits_of_sheets(rt: HostRuntime) -> Result<(), Fail> {
     for (plan, other, script, end, want) in EDITS {
-        let (status, printed) = ran_over_sheets(rt.alloc(), plan, other, script)?;
+        let plan = bytes(rt.alloc(), plan)?;
+        let script = bytes(rt.alloc(), script)?;
+        let files = [
+            ("names.csv", b"".as_slice()),
+            ("plan.csv", plan.as_slice()),
+            ("other.csv", *other),
+        ];
+        let (status, printed) = ran(rt.alloc(), WORDS, &files, &script, NEVER)?;
         assert_eq!(rt; printed.as_slice(), want.as_bytes());
         assert!(rt; status == *end);
     }
