@@ -16,3 +16,5 @@ pub mod Replacing
 pub mod Determined
 pub mod Exchanging
 pub mod Several
+pub mod Naming
+pub mod Saving

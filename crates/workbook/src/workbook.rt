@@ -403,7 +403,7 @@ pub(crate) fn is_outside(cell: Cell) -> bool
 }
 
 // Whether a text is longer than a field.
-fn is_long(text: &str) -> bool
+pub(crate) fn is_long(text: &str) -> bool
     ensures { result ≡ nat_lt TEXT_BYTES (length text.now) }
 {
     text.len() > TEXT_BYTES as usize
