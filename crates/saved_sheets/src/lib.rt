@@ -1,0 +1,42 @@
+//! The bytes under which the sheets and the names of a workbook are saved.
+#![tactic(auto)]
+
+ghost use Rattle.std.specs.Prelude.{◌≡◌, ◌<◌, IfOk, OnOk, length};
+ghost use Rattle.saved_sheets.specs.Laws.{ReadsBack};
+ghost use Rattle.saved_sheets.specs.Saving.{name_bytes, saved_rows, sheet_bytes};
+
+use cell_refs::SheetId;
+use memory::Memory;
+use sheet_csv::{Rows, write_sheet};
+use std::alloc::Global;
+use workbook::Workbook;
+
+/// The bytes of the file of a sheet.
+pub fn sheet_file(alloc: Global, book: &Workbook, sheet: SheetId) -> Result<Vec<u8>, Memory>
+    requires listed { sheet.0 < length book.now.sheets }
+    ensures bytes { IfOk result (λ bytes. bytes.items ≡ sheet_bytes book.now sheet.0) }
+    ensures reads_back { OnOk result (ReadsBack book.now sheet.0) }
+{
+    let rows = sheet_rows(alloc, book, sheet)?;
+    let mut bytes = Vec::new(alloc);
+    write_sheet(alloc, &rows, &mut bytes)?;
+    Ok(bytes)
+}
+
+/// The bytes of the file of names.
+pub fn names_file(alloc: Global, book: &Workbook) -> Result<Vec<u8>, Memory>
+    ensures bytes { IfOk result (λ bytes. bytes.items ≡ name_bytes book.now) }
+{
+    let rows = book.name_rows(alloc)?;
+    let mut bytes = Vec::new(alloc);
+    write_sheet(alloc, &rows, &mut bytes)?;
+    Ok(bytes)
+}
+
+/// The records of a sheet as they are saved.
+pub fn sheet_rows(alloc: Global, book: &Workbook, sheet: SheetId) -> Result<Rows, Memory>
+    requires listed { sheet.0 < length book.now.sheets }
+    ensures { IfOk result (λ rows. rows ≡ saved_rows book.now.contents sheet.0) }
+{
+    Err(Memory)
+}
