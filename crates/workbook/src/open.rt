@@ -1,5 +1,5 @@
 // Opening a workbook.
-ghost use Rattle.std.specs.Prelude.{◌≡◌, ◌≢◌, ◌≤◌, ◌<◌, ◌++◌, ◌∷◌, [], All, IfOk, MatchBool, OnOk, length, option_map};
+ghost use Rattle.std.specs.Prelude.{◌≡◌, ◌≢◌, ◌≤◌, ◌<◌, ◌++◌, ◌∷◌, [], All, IfOk, IfSome, MatchBool, OnOk, length, option_map};
 ghost use Rattle.workbook.specs.Files.{SheetFile, is_new, name_in, sheet_in, with_name};
 ghost use Rattle.workbook.specs.Determined.{OneOpening};
 ghost use Rattle.workbook.specs.Opening.{Opens};
@@ -218,9 +218,10 @@ fn name_in(alloc: Global, sheets: &SheetNames, fields: &Record) -> Result<Option
     }))
 }
 
-// The sheet of a name, or none for the whole workbook, where there is no text; none at all where there is no such sheet.
-fn sheet_in(sheets: &SheetNames, text: &str) -> Option<Option<SheetId>>
-    ensures { option_map (option_map (λ s. s.0)) result ≡ sheet_in sheets.now text.now }
+/// The sheet of a name, or none for the whole workbook, where there is no text; none at all where there is no such sheet.
+pub fn sheet_in(sheets: &SheetNames, text: &str) -> Option<Option<SheetId>>
+    ensures sheet { option_map (option_map (λ s. s.0)) result ≡ sheet_in sheets.now text.now }
+    ensures listed { IfSome result (λ sheet. IfSome sheet (λ s. s.0 < length sheets.now)) }
 {
     if text.is_empty() {
         return Some(None);
