@@ -1,4 +1,5 @@
 pub mod Commands
+pub mod Saved
 pub mod Addresses
 pub mod Locating
 pub mod Preceded

@@ -1,5 +1,5 @@
 -- The lines that are printed.
-use Rattle.std.specs.Prelude.{ℕ, ◌==◌, Bool, true, false, if◌then◌else◌, List, [], ◌∷◌, ◌++◌, All, Some, None, bytes_eq, codes, decimal, take}
+use Rattle.std.specs.Prelude.{ℕ, ◌==◌, Bool, true, false, if◌then◌else◌, List, [], ◌∷◌, ◌++◌, All, Some, None, bytes_eq, codes, decimal, length, take}
 use Rattle.cell_refs.specs.ErrorText.{error_text}
 use Rattle.frac128.specs.Printed.{printed}
 use Rattle.sheet_model.specs.declared.value.Value.{Value}
@@ -34,10 +34,12 @@ said sheets (answer.Optimal None) = codes "optimal"
 said sheets (answer.Optimal (Some value)) = codes "optimal " ++ printed value
 said sheets answer.Infeasible = codes "infeasible"
 said sheets answer.Unbounded = codes "unbounded"
+said sheets (answer.ToSave files) = codes "saved " ++ decimal (length files.items)
 said sheets answer.UnknownCommand = codes "refused unknown-command"
 said sheets answer.BadAddress = codes "refused bad-address"
 said sheets answer.UnknownSheet = codes "refused unknown-sheet"
 said sheets answer.OutOfSheet = codes "refused out-of-sheet"
+said sheets answer.BadNumber = codes "refused bad-number"
 said sheets answer.BadName = codes "refused bad-name"
 said sheets answer.FieldTooLong = codes "refused field-too-long"
 said sheets answer.TooManyCells = codes "refused too-many-cells"

@@ -1,11 +1,14 @@
--- What the texts of a record name: a cell, a sheet. Where they name none, what is answered.
+-- What the texts of a record name: a cell, a sheet, a number of units. Where they name none, what is answered.
 use Rattle.std.specs.Prelude.{ℕ, ◌-◌, Bool, ◌&&◌, nat_le, if◌then◌else◌, List, Option, Some, None, Result, Ok, Err}
+use Rattle.std.specs.Str.Parse.{digits_value}
 use Rattle.cell_refs.specs.declared.cell.Cell.{Cell}
 use Rattle.cell_refs.specs.declared.limits.TheConstants.{COLUMNS, ROWS}
 use Rattle.cell_refs.specs.Names.{place_in}
+use Rattle.workbook.specs.Files.{sheet_in}
 use Rattle.commands.specs.declared.answer.Answer.{Answer}
 use Rattle.commands.specs.declared.answer.Answer.TheVariants as answer
-use Rattle.commands.specs.Addresses.{Address, address_in}
+use Rattle.commands.specs.declared.units.TheConstants.{MOST_UNITS}
+use Rattle.commands.specs.Addresses.{Address, address_in, is_number}
 
 -- ---- cells
 -- its row and its column are those of a sheet
@@ -33,3 +36,23 @@ or_unknown None = Err answer.UnknownSheet
 -- the sheet of this name
 abbrev pub sheet_named : List (List ℕ) → List ℕ → Result ℕ Answer
 sheet_named sheets name = or_unknown (place_in sheets name)
+
+-- the sheet of this name, or the whole workbook where the text is empty
+abbrev pub sheet_or_book : List (List ℕ) → List ℕ → Result (Option ℕ) Answer
+sheet_or_book sheets name = or_unknown (sheet_in sheets name)
+
+-- ---- numbers of units
+abbrev pub units_within : ℕ → Option ℕ
+units_within n = if nat_le 1 n && nat_le n MOST_UNITS then Some n else None
+
+-- a whole number in digits, from 1 on and no more than the most
+abbrev pub units_in : List ℕ → Option ℕ
+units_in text = if is_number text then units_within (digits_value 10 text) else None
+
+abbrev pub or_bad : Option ℕ → Result ℕ Answer
+or_bad (Some n) = Ok n
+or_bad None = Err answer.BadNumber
+
+-- the number of units that a text names
+abbrev pub units_named : List ℕ → Result ℕ Answer
+units_named text = or_bad (units_in text)

@@ -2,6 +2,7 @@
 ghost use Rattle.std.specs.Prelude.{◌≡◌, List, ℕ};
 ghost use Rattle.commands.specs.Lines.{is_refusal};
 
+use crate::save_file::SaveFile;
 use cell_refs::Cell;
 use form_needs::FormRefusal;
 use frac128::Frac;
@@ -29,10 +30,13 @@ pub enum Answer {
     Infeasible,
     /// There is no best value.
     Unbounded,
+    /// The files that have changed, in the order in which they are written.
+    ToSave(Vec<SaveFile>),
     UnknownCommand,
     BadAddress,
     UnknownSheet,
     OutOfSheet,
+    BadNumber,
     BadName,
     FieldTooLong,
     TooManyCells,
@@ -64,6 +68,7 @@ impl Answer {
         match self {
             Answer::Done | Answer::Shown(_) | Answer::Model(_) => false,
             Answer::Optimal(_) | Answer::Infeasible | Answer::Unbounded => false,
+            Answer::ToSave(_) => false,
             _ => true,
         }
     }

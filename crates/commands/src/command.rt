@@ -1,6 +1,6 @@
 // The commands of a script.
 ghost use Rattle.std.specs.Prelude.{◌≡◌, IfOk, OnErr};
-ghost use Rattle.commands.specs.Commands.{IsSaid, Unknown, command_of, in_table, spoken, with_one, with_two};
+ghost use Rattle.commands.specs.Commands.{HasText, Unknown, command_of, in_table, spoken, with_none, with_one, with_three, with_two};
 
 use sheet_csv::Record;
 use sheet_model::Memory;
@@ -12,31 +12,55 @@ pub enum Command {
     /// The address of a cell, and the text that is put into it.
     Set(String, String),
     Clear(String),
+    /// A sheet, or nothing for the whole workbook, a name, and the text that it gets.
+    Name(String, String, String),
+    /// A sheet, or nothing for the whole workbook, and the name that is removed.
+    Unname(String, String),
     Show(String),
     /// The name of the sheet whose linear model is shown.
     Model(String),
     /// The name of the sheet that is solved.
     Solve(String),
+    /// How many units a later search may spend.
+    Budget(String),
+    Save,
     Unknown,
 }
 
 impl Command {
-    /// The command of a record. No memory is wanted where it is none.
+    /// The command of a record. No memory is wanted where it is none, or has no text.
     pub fn of(alloc: Global, fields: &Record) -> Result<Command, Memory>
         ensures command { IfOk result (λ c. spoken c ≡ command_of fields.now) }
-        ensures memory { OnErr result (IsSaid (command_of fields.now)) }
+        ensures memory { OnErr result (HasText (command_of fields.now)) }
     {
         match fields.len() {
+            1 => Ok(Command::with_none(fields.text(0))),
             2 => Command::with_one(alloc, fields.text(0), fields.text(1)),
             3 => Command::with_two(alloc, fields.text(0), fields.text(1), fields.text(2)),
+            4 => Command::with_three(
+                alloc,
+                fields.text(0),
+                (fields.text(1), fields.text(2), fields.text(3)),
+            ),
             _ => Ok(Command::Unknown),
+        }
+    }
+
+    // The command of a word alone.
+    fn with_none(word: &str) -> Command
+        ensures { spoken result ≡ in_table word.now Unknown with_none }
+    {
+        if word == "save" {
+            Command::Save
+        } else {
+            Command::Unknown
         }
     }
 
     // The command of a word and one text behind it.
     fn with_one(alloc: Global, word: &str, text: &str) -> Result<Command, Memory>
         ensures command { IfOk result (λ c. spoken c ≡ in_table word.now (λ x. Unknown) with_one text.now) }
-        ensures memory { OnErr result (IsSaid (in_table word.now (λ x. Unknown) with_one text.now)) }
+        ensures memory { OnErr result (HasText (in_table word.now (λ x. Unknown) with_one text.now)) }
     {
         if word == "clear" {
             return Ok(Command::Clear(String::from_str(alloc, text)?));
@@ -50,18 +74,40 @@ impl Command {
         if word == "solve" {
             return Ok(Command::Solve(String::from_str(alloc, text)?));
         }
+        if word == "budget" {
+            return Ok(Command::Budget(String::from_str(alloc, text)?));
+        }
         Ok(Command::Unknown)
     }
 
     // The command of a word and two texts behind it.
     fn with_two(alloc: Global, word: &str, first: &str, second: &str) -> Result<Command, Memory>
         ensures command { IfOk result (λ c. spoken c ≡ in_table word.now (λ x y. Unknown) with_two first.now second.now) }
-        ensures memory { OnErr result (IsSaid (in_table word.now (λ x y. Unknown) with_two first.now second.now)) }
+        ensures memory { OnErr result (HasText (in_table word.now (λ x y. Unknown) with_two first.now second.now)) }
     {
         if word == "set" {
             let first = String::from_str(alloc, first)?;
             let second = String::from_str(alloc, second)?;
             return Ok(Command::Set(first, second));
+        }
+        if word == "unname" {
+            let first = String::from_str(alloc, first)?;
+            let second = String::from_str(alloc, second)?;
+            return Ok(Command::Unname(first, second));
+        }
+        Ok(Command::Unknown)
+    }
+
+    // The command of a word and three texts behind it.
+    fn with_three(alloc: Global, word: &str, texts: (&str, &str, &str)) -> Result<Command, Memory>
+        ensures command { IfOk result (λ c. spoken c ≡ in_table word.now (λ x y z. Unknown) with_three texts.0.now texts.1.now texts.2.now) }
+        ensures memory { OnErr result (HasText (in_table word.now (λ x y z. Unknown) with_three texts.0.now texts.1.now texts.2.now)) }
+    {
+        if word == "name" {
+            let first = String::from_str(alloc, texts.0)?;
+            let second = String::from_str(alloc, texts.1)?;
+            let third = String::from_str(alloc, texts.2)?;
+            return Ok(Command::Name(first, second, third));
         }
         Ok(Command::Unknown)
     }

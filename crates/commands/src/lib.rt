@@ -1,4 +1,4 @@
-//! The commands of a script: what a record says, the cell that it names, and what is printed of an answer.
+//! The commands of a script: what a record says, what its texts name, and what is printed of an answer.
 #![tactic(auto)]
 
 mod address;
@@ -8,10 +8,14 @@ mod laws;
 mod lines;
 mod locating;
 mod refusals;
+mod save_file;
+mod units;
 
 pub use answer::{Answer, PathStep};
 pub use command::Command;
 pub use laws::addresses_are_spelled;
 pub use lines::line;
 pub use locating::locate;
+pub use save_file::SaveFile;
 pub use sheet_model::Memory;
+pub use units::{MOST_UNITS, units_in};

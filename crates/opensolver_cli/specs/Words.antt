@@ -6,7 +6,7 @@ use Rattle.std.specs.List.{list_all, slice_split}
 use Rattle.std.specs.Str.{all_ascii_digits, bytes_eq}
 use Rattle.std.specs.Str.Parse.{digits_value}
 use Rattle.node_pick.specs.Rules.{Rule, best_first, depth_first, oldest_first}
-use Rattle.session.specs.States.{most_units}
+use Rattle.session.specs.States.{MOST_UNITS}
 use Rattle.opensolver_cli.specs.declared.words.Job as job_words
 use Rattle.opensolver_cli.specs.declared.words.Named as words
 use Rattle.opensolver_cli.specs.declared.words.Pick as pick_words
@@ -66,7 +66,7 @@ default_budget = 100000
 -- how many units a search may spend: a whole number in digits, from 1 on and no more than the most
 abbrev pub budget_in : List ℕ → Option ℕ
 budget_in word =
-    if (nat_lt 0 (length word) && all_ascii_digits word) && (nat_le 1 (digits_value 10 word) && nat_le (digits_value 10 word) most_units)
+    if (nat_lt 0 (length word) && all_ascii_digits word) && (nat_le 1 (digits_value 10 word) && nat_le (digits_value 10 word) MOST_UNITS)
     then Some (digits_value 10 word) else None
 
 abbrev pub pick_in : List ℕ → Option Pick

@@ -3,7 +3,7 @@ ghost use Rattle.std.specs.Prelude.{◌≡◌, ◌<◌, ◌≤◌, Some, length,
 ghost use Rattle.solver_io.specs.Bytes.{PutCause};
 ghost use Rattle.solver_io.specs.Files.{Files};
 ghost use Rattle.sheet_csv.specs.Sheet.{Record};
-ghost use Rattle.session.specs.States.{most_units};
+ghost use Rattle.session.specs.States.{MOST_UNITS};
 ghost use Rattle.opensolver_cli.specs.Answering.{AnswersRecord, AnswersRecords, IsSaid, IsSinkFault, Says};
 ghost use Rattle.opensolver_cli.specs.Headline.{setting_of};
 ghost use Rattle.opensolver_cli.specs.Words.{Named, Pick, rule_of};
@@ -26,7 +26,7 @@ pub(crate) fn answer_records<K: Sink>(
     out: &mut K,
     pick: &mut Box<dyn Picker>,
 ) -> Status
-    requires few { budget ≤ most_units }
+    requires few { budget ≤ MOST_UNITS }
     ensures answers { (named : Named) (chosen : Pick) (files : Files) → rule pick.old ≡ rule_of chosen → AnswersRecords (setting_of (record { named = named; budget = budget; pick = chosen }) book files) rows.now (K.pieces out.old) (K.pieces out.new) (Some files) result }
     ensures cause { IsSinkFault (K.faults out.old) (K.faults out.new) result }
 {

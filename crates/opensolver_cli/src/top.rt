@@ -2,7 +2,7 @@
 ghost use Rattle.std.specs.Prelude.{◌≡◌, ◌≢◌, ◌<◌, ◌≤◌, ◌∷◌, [], All, Err, IfSome, Some, length, map, string_bytes, true};
 ghost use Rattle.cell_refs.specs.declared.limits.TheConstants.{SHEETS};
 ghost use Rattle.node_pick.specs.Rules.{best_first, depth_first, oldest_first};
-ghost use Rattle.session.specs.States.{most_units};
+ghost use Rattle.session.specs.States.{MOST_UNITS};
 ghost use Rattle.opensolver_cli.specs.Answering.{IsSinkFault, Says};
 ghost use Rattle.opensolver_cli.specs.Completeness.{EndsExactly};
 ghost use Rattle.opensolver_cli.specs.Findings.{book_in};
@@ -80,7 +80,7 @@ fn run_job<F: Folder, S: Source, K: Sink>(
 ) -> Status
     requires some { 0 < length job.now.named.sheets.now }
     requires sheets { All (λ w. is_sheet (string_bytes w) ≡ true) job.now.named.sheets.now }
-    requires few { job.now.budget ≤ most_units }
+    requires few { job.now.budget ≤ MOST_UNITS }
     requires pick { rule pick.old ≡ rule_of (pick_read job.now.pick) }
     ensures headline { RunsAs (Some (Script (job_read job.now)))
         (seen (F.content folder.old) (F.read_faults folder.old) (F.write_faults folder.old) (S.left script.old) (S.faults script.old) (K.pieces out.old) (K.faults out.old))

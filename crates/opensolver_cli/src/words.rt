@@ -1,7 +1,7 @@
 // The words of the command line.
 ghost use Rattle.std.specs.Prelude.{◌≡◌, ◌==◌, ◌≢◌, ◌<◌, ◌≤◌, [], All, IfSome, codes, length, option_map, string_bytes, true};
 ghost use Rattle.std.specs.List.{list_all, slice_split};
-ghost use Rattle.session.specs.States.{most_units};
+ghost use Rattle.session.specs.States.{MOST_UNITS};
 ghost use Rattle.opensolver_cli.specs.Words as line;
 
 /// How many units a search may spend where nothing is said.
@@ -37,7 +37,7 @@ pub(crate) struct Job<'a> {
 /// What the words `--names FILE [--budget N] [--pick PICKER] FILE...` ask for; none where they aren't of this form.
 pub(crate) fn job_of(words: &[String]) -> Option<Job<'_>>
     ensures asked { option_map (λ j. line.Script (line.job_read j)) result ≡ line.asked_of (line.texts_of words.now) }
-    ensures budget { IfSome result (λ j. j.budget ≤ most_units) }
+    ensures budget { IfSome result (λ j. j.budget ≤ MOST_UNITS) }
     ensures some { IfSome result (λ j. 0 < length j.named.sheets.now) }
     ensures sheets { IfSome result (λ j. All (λ w. line.is_sheet (string_bytes w) ≡ true) j.named.sheets.now) }
 {
@@ -53,7 +53,7 @@ pub(crate) fn job_of(words: &[String]) -> Option<Job<'_>>
 // The same, of the words behind the file of the names.
 fn job_over<'a>(names: &'a str, words: &'a [String]) -> Option<Job<'a>>
     ensures job { option_map line.job_read result ≡ line.job_over names.now (line.texts_of words.now) }
-    ensures budget { IfSome result (λ j. j.budget ≤ most_units) }
+    ensures budget { IfSome result (λ j. j.budget ≤ MOST_UNITS) }
     ensures some { IfSome result (λ j. 0 < length j.named.sheets.now) }
     ensures sheets { IfSome result (λ j. All (λ w. line.is_sheet (string_bytes w) ≡ true) j.named.sheets.now) }
 {
@@ -72,7 +72,7 @@ fn job_over<'a>(names: &'a str, words: &'a [String]) -> Option<Job<'a>>
 // The budget in front of other words, and these.
 fn budget_before(words: &[String]) -> Option<(u64, &[String])>
     ensures read { option_map (λ p. (p.0, line.texts_of p.1.now)) result ≡ line.option_in (codes "--budget") line.budget_in line.default_budget (line.texts_of words.now) }
-    ensures few { IfSome result (λ p. p.0 ≤ most_units) }
+    ensures few { IfSome result (λ p. p.0 ≤ MOST_UNITS) }
 {
     let [word, value, others @ ..] = words else {
         return Some((DEFAULT_BUDGET, words));
@@ -101,7 +101,7 @@ fn pick_before(words: &[String]) -> Option<(Pick, &[String])>
 // How many units a search may spend.
 fn budget_in(word: &str) -> Option<u64>
     ensures read { result ≡ line.budget_in word.now }
-    ensures few { IfSome result (λ n. n ≤ most_units) }
+    ensures few { IfSome result (λ n. n ≤ MOST_UNITS) }
 {
     if word.starts_with('+') {
         return None;

@@ -4,6 +4,7 @@ use Rattle.std.specs.Coded.{Coded, code_by, coded×, coded_list, coded_ℕ, code
 use Rattle.cell_refs.specs.declared.cell.Cell.{Cell}
 use Rattle.workbook.specs.State.{State}
 use Rattle.workbook.specs.Codes.{state_code}
+use Rattle.commands.specs.declared.units.TheConstants.{MOST_UNITS}
 
 -- which files differ from what was read or saved: for each sheet whether it does, and whether the names do
 pub record Changes : Type 0 where
@@ -19,11 +20,6 @@ pub record SessionState : Type 0 where
 -- a session as a contract sees it: its state; what is kept beside the state changes no answer
 pub record Session : Type 0 where
   pub state : SessionState
-
--- ---- limits
--- the greatest budget
-abbrev pub most_units : ℕ
-most_units = 1000000
 
 -- ---- changes of one part; all other parts stay as they were
 -- no file has changed
@@ -49,11 +45,22 @@ mark_cells changed (c ∷ cells) = mark_cells (mark_sheet changed c.sheet.0) cel
 abbrev pub with_changed : SessionState → List Cell → SessionState
 with_changed s cells = record s { changed = mark_cells s.changed cells }
 
+-- the file of names does
+abbrev pub with_names_changed : SessionState → SessionState
+with_names_changed s = record s { changed = record (s.changed) { names = true } }
+
+-- no file does any more
+abbrev pub with_none_changed : SessionState → SessionState
+with_none_changed s = record s { changed = none_changed (length s.book.sheets) }
+
+abbrev pub with_budget : SessionState → ℕ → SessionState
+with_budget s budget = record s { budget = budget }
+
 -- ---- what always holds
 -- each sheet counts as changed or doesn't, and the budget is none that is too great
 pub record IsSession (s : SessionState) : Type 0 where
   pub sheets : length s.changed.sheets ≡ length s.book.sheets
-  pub budget : s.budget ≤ most_units
+  pub budget : s.budget ≤ MOST_UNITS
 
 -- ---- codes
 abbrev pub changes_code : Coded Changes

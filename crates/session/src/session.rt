@@ -7,19 +7,20 @@ ghost use Rattle.solver_names.specs.Answers.{statement_of};
 ghost use Rattle.statement_laws.specs.Laws.{IsWhole};
 ghost use Rattle.workbook.specs.Edits.{is_outside, set_fault};
 ghost use Rattle.workbook.specs.Listed.{IsListed};
-ghost use Rattle.commands.specs.Commands.{Clear, Model as ToModel, Set, Show, Solve, spoken};
+ghost use Rattle.commands.specs.Commands.{Budget, Clear, Model as ToModel, Name, Save, Set, Show, Solve, Unname, spoken};
 ghost use Rattle.commands.specs.Lines.{CanBeSaid};
-ghost use Rattle.commands.specs.Locating.{cell_named, sheet_named};
-ghost use Rattle.session.specs.Edits.{cell_to_set, unless};
+ghost use Rattle.commands.specs.Locating.{cell_named, sheet_named, units_named};
+ghost use Rattle.session.specs.Edits.{cell_to_set, home_to_name, home_to_unname, unless};
 ghost use Rattle.session.specs.Interrupted.{IsInterrupted, TakesMemory};
 ghost use Rattle.session.specs.Solves.{SearchEnds, SolvesSheet};
-ghost use Rattle.session.specs.States.{IsSession, most_units, opened, with_changed};
-ghost use Rattle.session.specs.Steps.{Applies, Does, IsDone, ModelsSheet, Shows, with_text};
+ghost use Rattle.session.specs.Saves.{Saves};
+ghost use Rattle.session.specs.States.{IsSession, opened, with_budget, with_changed, with_none_changed};
+ghost use Rattle.session.specs.Steps.{Applies, Does, IsDone, ModelsSheet, Shows, with_name, with_text, without_name};
 
 use crate::models::{model_of, prepared, told};
 use crate::paths::steps_of;
 use cell_refs::{Cell, SheetId, SheetNames};
-use commands::{Answer, Command, Memory, locate};
+use commands::{Answer, Command, MOST_UNITS, Memory, locate, units_in};
 use dep_table::Deps;
 use node_pick::Picker;
 use recalc::{Shown, value};
@@ -27,7 +28,7 @@ use sheet_models::Prepared;
 use sheet_solving::{Solved, solve};
 use std::alloc::Global;
 use std::marker::Model;
-use workbook::{EditFault, Workbook};
+use workbook::{EditFault, Workbook, sheet_in, unname_fault};
 
 /// A workbook to which commands are applied, the files that have changed since they were read, and the budget of a solve in
 /// units.
@@ -65,7 +66,7 @@ impl Model for Session {
 impl Session {
     /// A session over a workbook that was opened from files.
     pub fn open(alloc: Global, book: Workbook, budget: u64) -> Result<Session, Memory>
-        requires { budget ≤ most_units }
+        requires { budget ≤ MOST_UNITS }
         ensures { IfOk result (λ session. session ≡ record { state = opened book budget }) }
     {
         let mut changed_sheets = Vec::new(alloc);
@@ -97,11 +98,25 @@ impl Session {
         match command {
             Command::Set(address, text) => self.set(address.as_str(), text.as_str()),
             Command::Clear(address) => self.clear(address.as_str()),
+            Command::Name(sheet, name, text) => {
+                self.name(sheet.as_str(), name.as_str(), text.as_str())
+            }
+            Command::Unname(sheet, name) => self.unname(sheet.as_str(), name.as_str()),
             Command::Show(address) => self.show(address.as_str()),
             Command::Model(sheet) => self.model(sheet.as_str()),
             Command::Solve(sheet) => self.solve(sheet.as_str(), pick),
+            Command::Budget(units) => Ok(self.set_budget(units.as_str())),
+            Command::Save => self.save(),
             Command::Unknown => Ok(Answer::UnknownCommand),
         }
+    }
+
+    /// Says that the files are written that an answer has named: none counts as changed any more.
+    pub fn saved(&mut self)
+        ensures { self.new.state ≡ with_none_changed self.old.state }
+    {
+        self.changed_sheets.fill(false);
+        self.changed_names = false;
     }
 
     // Puts a text into the cell that is named.
