@@ -7,20 +7,20 @@ ghost use Rattle.solver_names.specs.Answers.{statement_of};
 ghost use Rattle.statement_laws.specs.Laws.{IsWhole};
 ghost use Rattle.workbook.specs.Edits.{is_outside, set_fault};
 ghost use Rattle.workbook.specs.Listed.{IsListed};
-ghost use Rattle.commands.specs.Commands.{Budget, Clear, Model as ToModel, Name, Save, Set, Show, Solve, Unname, spoken};
+ghost use Rattle.commands.specs.Commands.{Clear, Model as ToModel, Set, Show, Solve, spoken};
 ghost use Rattle.commands.specs.Lines.{CanBeSaid};
-ghost use Rattle.commands.specs.Locating.{cell_named, sheet_named, units_named};
-ghost use Rattle.session.specs.Edits.{cell_to_set, home_to_name, home_to_unname, unless};
+ghost use Rattle.commands.specs.Locating.{cell_named, sheet_named};
+ghost use Rattle.session.specs.Edits.{cell_to_set, unless};
 ghost use Rattle.session.specs.Interrupted.{IsInterrupted, TakesMemory};
 ghost use Rattle.session.specs.Solves.{SearchEnds, SolvesSheet};
-ghost use Rattle.session.specs.Saves.{Saves};
-ghost use Rattle.session.specs.States.{IsSession, opened, with_budget, with_changed, with_none_changed};
-ghost use Rattle.session.specs.Steps.{Applies, Does, IsDone, ModelsSheet, Shows, with_name, with_text, without_name};
+ghost use Rattle.session.specs.States.{IsSession, opened, with_changed};
+ghost use Rattle.session.specs.Steps.{Applies, Does, IsDone, ModelsSheet, Shows, with_text};
 
+use crate::edits::told_fault;
 use crate::models::{model_of, prepared, told};
 use crate::paths::steps_of;
 use cell_refs::{Cell, SheetId, SheetNames};
-use commands::{Answer, Command, MOST_UNITS, Memory, locate, units_in};
+use commands::{Answer, Command, MOST_UNITS, Memory, locate};
 use dep_table::Deps;
 use node_pick::Picker;
 use recalc::{Shown, value};
@@ -28,17 +28,17 @@ use sheet_models::Prepared;
 use sheet_solving::{Solved, solve};
 use std::alloc::Global;
 use std::marker::Model;
-use workbook::{EditFault, Workbook, sheet_in, unname_fault};
+use workbook::Workbook;
 
 /// A workbook to which commands are applied, the files that have changed since they were read, and the budget of a solve in
 /// units.
 #[derive(Drop)]
 pub struct Session {
-    alloc: Global,
-    book: Workbook,
-    changed_sheets: Vec<bool>,
-    changed_names: bool,
-    budget: u64,
+    pub(crate) alloc: Global,
+    pub(crate) book: Workbook,
+    pub(crate) changed_sheets: Vec<bool>,
+    pub(crate) changed_names: bool,
+    pub(crate) budget: u64,
 }
 
 impl Model for Session {
@@ -111,14 +111,6 @@ impl Session {
         }
     }
 
-    /// Says that the files are written that an answer has named: none counts as changed any more.
-    pub fn saved(&mut self)
-        ensures { self.new.state ≡ with_none_changed self.old.state }
-    {
-        self.changed_sheets.fill(false);
-        self.changed_names = false;
-    }
-
     // Puts a text into the cell that is named.
     fn set(&mut self, address: &str, text: &str) -> Result<Answer, Memory>
         ensures step { IfOk result (λ answer. Does (λ cell. IsDone (with_text self.old.state cell text.now)) self.old.state (cell_to_set self.old.state.book address.now text.now) answer self.new.state) }
@@ -145,13 +137,7 @@ impl Session {
                 self.changed_sheets[usize::from(cell.sheet.0)] = true;
                 Ok(Answer::Done)
             }
-            Err(EditFault::OutOfSheet) => Ok(Answer::OutOfSheet),
-            Err(EditFault::FieldTooLong) => Ok(Answer::FieldTooLong),
-            Err(EditFault::TooManyCells) => Ok(Answer::TooManyCells),
-            Err(EditFault::TooManyFormulas) => Ok(Answer::TooManyFormulas),
-            Err(EditFault::BadName) => Ok(Answer::BadName),
-            Err(EditFault::TooManyNames) => Ok(Answer::TooManyNames),
-            Err(EditFault::Memory) => Err(Memory),
+            Err(fault) => told_fault(fault),
         }
     }
 
