@@ -1,51 +1,118 @@
 -- How the answering of records ends.
-use Rattle.std.specs.Prelude.{◌≡◌, ◌⊎◌, ◌∷◌, ℕ, Bool, List, [], Option, ⊤, false, true}
+use Rattle.std.specs.Prelude.{◌≡◌, ◌⊎◌, ◌∷◌, ℕ, Bool, List, [], Option, Some, Vec, option_map, slice_get, take, ⊤, false, true}
+use Rattle.std.specs.Global.{Global}
 use Rattle.std.specs.declared.result.Result.{Result}
 use Rattle.std.specs.declared.result.Result.TheVariants.{Ok, Err}
 use Rattle.solver_io.specs.Bytes.{Takes, TakesSome}
 use Rattle.solver_io.specs.Causes.{Rose}
-use Rattle.solver_io.specs.Files.{Files}
+use Rattle.solver_io.specs.Files.{Files, SameButTold}
 use Rattle.solver_io.specs.declared.ends.PutEnd.{PutEnd}
 use Rattle.solver_io.specs.declared.ends.PutEnd.TheVariants as put
 use Rattle.sheet_csv.specs.Sheet.{Record}
 use Rattle.commands.specs.Commands.{command_of}
 use Rattle.commands.specs.Lines.{answer_text, is_refusal}
+use Rattle.commands.specs.Saved.{SavedFile}
 use Rattle.commands.specs.declared.answer.Answer.{Answer}
+use Rattle.commands.specs.declared.answer.Answer.TheVariants as answer
 use Rattle.node_pick.specs.Rules.{Rule}
 use Rattle.session.specs.States.{SessionState}
 use Rattle.session.specs.Steps.{Step}
-use Rattle.opensolver_cli.specs.Courses.{AllAnswered, CutShort, EndsBefore, EndsInSink, Setting}
+use Rattle.opensolver_cli.specs.Courses.{AllAnswered, CutShort, EndsBefore, EndsInFolder, EndsInSink, Setting}
+use Rattle.opensolver_cli.specs.Outside.{FolderFailed, NoneFailed, SinkFailed, Written}
+use Rattle.opensolver_cli.specs.Words.{Named}
+use Rattle.opensolver_cli.specs.Worlds.{files_after, with_saved, word_of}
 use Rattle.opensolver_cli.specs.declared.status.Status.{Status}
 use Rattle.opensolver_cli.specs.declared.status.Status.TheVariants as status
 
--- the record was answered, by a picker of this rule, and its lines printed as one piece; and whether the answer is a refusal
-pub record IsAnswered (rule : Rule) (old : SessionState) (fields : Record) (before after : Option (List (List ℕ))) (new : SessionState) (refused : Bool) : Type 0 where
+-- ---- files
+-- the files are written, where the folder tells them
+abbrev pub IsSaved : Named → Answer → Written → Written → Type 0
+IsSaved named a before after = after.files ≡ option_map (λ (files : Files). files_after named files a) before.files
+
+-- the folder refused the file at a place; those before it are written, and what is held under its name isn't told
+pub record IsRefusedAt (named : Named) (saved : List SavedFile) (before after : Option Files) : Type 0 where
+  pub done : ℕ
+  pub file : SavedFile
+  pub there : slice_get saved done ≡ Some file
+  pub others : SameButTold (option_map (λ (files : Files). with_saved named files (take done saved)) before) after (word_of named file.sheet)
+
+-- what the writing of files leaves in the folder
+abbrev pub SavesFiles : Named → List SavedFile → Option Files → Option Files → Result (Unit {0}) PutEnd → Type 0
+SavesFiles named saved before after (Ok _) = after ≡ option_map (λ (files : Files). with_saved named files saved) before
+SavesFiles named saved before after (Err _) = IsRefusedAt named saved before after
+
+-- the same of the files that an answer names, if it names some
+abbrev pub SavesAnswer : Named → Answer → Option Files → Option Files → Result (Unit {0}) PutEnd → Type 0
+SavesAnswer named a before after (Ok _) = after ≡ option_map (λ (files : Files). files_after named files a) before
+SavesAnswer named (answer.ToSave saved) before after (Err _) = IsRefusedAt named saved.items before after
+SavesAnswer named _ before after (Err _) = ⊥
+
+-- ---- one record
+-- the record was answered, by a picker of this rule, what it saves is saved, and its lines are printed as one piece; and whether the
+-- answer is a refusal
+pub record IsAnswered (rule : Rule) (named : Named) (old : SessionState) (fields : Record) (before after : Written) (new : SessionState) (refused : Bool) : Type 0 where
   pub answer : Answer
   pub step : Step rule old (command_of fields) answer new
-  pub printed : Takes before after (answer_text old.book.sheets answer ∷ [])
+  pub saved : IsSaved named answer before after
+  pub printed : Takes before.pieces after.pieces (answer_text old.book.sheets answer ∷ [])
   pub refusal : is_refusal old.book.sheets answer ≡ refused
 
--- the record was answered, and a part of its lines printed or nothing
-pub record IsCutOff (rule : Rule) (old : SessionState) (fields : Record) (before after : Option (List (List ℕ))) (new : SessionState) : Type 0 where
+-- the record was answered, what it saves is saved, and a part of its lines printed or nothing
+pub record IsCutOff (rule : Rule) (named : Named) (old : SessionState) (fields : Record) (before after : Written) : Type 0 where
   pub answer : Answer
+  pub new : SessionState
   pub step : Step rule old (command_of fields) answer new
-  pub printed : TakesSome before after (answer_text old.book.sheets answer)
+  pub saved : IsSaved named answer before after
+  pub printed : TakesSome before.pieces after.pieces (answer_text old.book.sheets answer)
+
+-- the folder refused one of the files that the record saves, and nothing is printed
+pub record IsCutInFolder (rule : Rule) (named : Named) (old : SessionState) (fields : Record) (before after : Written) : Type 0 where
+  pub saved : Vec SavedFile Global
+  pub new : SessionState
+  pub step : Step rule old (command_of fields) (answer.ToSave saved) new
+  pub refused : IsRefusedAt named saved.items before.files after.files
+  pub printed : after.pieces ≡ before.pieces
+
+-- nothing is printed and nothing saved
+pub record NothingIsWritten (before after : Written) : Type 0 where
+  pub files : after.files ≡ before.files
+  pub pieces : after.pieces ≡ before.pieces
 
 -- the record's answer was printed; or a write failed, or memory ran out then or before
-abbrev pub AnswersRecord : Rule → SessionState → Record → Option (List (List ℕ)) → Option (List (List ℕ)) → SessionState → Result Bool PutEnd → Type 0
-AnswersRecord rule old fields before after new (Ok refused) = IsAnswered rule old fields before after new refused
-AnswersRecord rule old fields before after new (Err put.Failed) = IsCutOff rule old fields before after new
-AnswersRecord rule old fields before after new (Err put.Memory) = IsCutOff rule old fields before after new ⊎ (after ≡ before)
+abbrev pub AnswersRecord : Rule → Named → SessionState → Record → Written → Written → SessionState → Result Bool PutEnd → Type 0
+AnswersRecord rule named old fields before after new (Ok refused) = IsAnswered rule named old fields before after new refused × NoneFailed before after
+AnswersRecord rule named old fields before after new (Err put.Failed) =
+    (IsCutOff rule named old fields before after × SinkFailed before after) ⊎ (IsCutInFolder rule named old fields before after × FolderFailed before after)
+AnswersRecord rule named old fields before after new (Err put.Memory) =
+    (IsCutOff rule named old fields before after ⊎ (IsCutInFolder rule named old fields before after ⊎ NothingIsWritten before after)) × NoneFailed before after
 
+-- ---- all records
 -- all records were answered, or a write failed or memory ran out meanwhile
-abbrev pub AnswersRecords : Setting → List Record → Option (List (List ℕ)) → Option (List (List ℕ)) → Option Files → Status → Type 0
-AnswersRecords setting records before after files status.Done = AllAnswered setting records before after files false
-AnswersRecords setting records before after files status.Refused = AllAnswered setting records before after files true
-AnswersRecords setting records before after files status.WriteFault = CutShort (λ w fields part. EndsInSink setting w fields part files) setting records before after
-AnswersRecords setting records before after files status.Memory =
-    (after ≡ before) ⊎ CutShort (λ w fields part. EndsInSink setting w fields part files ⊎ EndsBefore w part files) setting records before after
-AnswersRecords setting records before after files _ = ⊥
+abbrev pub AnswersRecords : Setting → List Record → Written → Written → Status → Type 0
+AnswersRecords setting records before after status.Done = AllAnswered setting records before after false
+AnswersRecords setting records before after status.Refused = AllAnswered setting records before after true
+AnswersRecords setting records before after status.WriteFault =
+    (CutShort (λ w fields part. EndsInSink setting w fields part after.files) setting records before.pieces after.pieces × SinkFailed before after)
+    ⊎ (CutShort (λ w fields part. EndsInFolder setting w fields part after.files) setting records before.pieces after.pieces × FolderFailed before after)
+AnswersRecords setting records before after status.Memory =
+    NothingIsWritten before after
+    ⊎ CutShort (λ w fields part. EndsInSink setting w fields part after.files ⊎ (EndsInFolder setting w fields part after.files ⊎ EndsBefore w part after.files)) setting records before.pieces after.pieces
+AnswersRecords setting records before after _ = ⊥
 
+-- these are the ends of that
+abbrev pub EndsAnswering : Status → Type 0
+EndsAnswering status.Done = ⊤
+EndsAnswering status.Refused = ⊤
+EndsAnswering status.WriteFault = ⊤
+EndsAnswering status.Memory = ⊤
+EndsAnswering _ = ⊥
+
+-- a fault of a write is the status where a count of them rose, and else the counts are as before
+abbrev pub IsPutFault : Written → Written → Status → Type 0
+IsPutFault before after status.WriteFault = SinkFailed before after ⊎ FolderFailed before after
+IsPutFault before after _ = NoneFailed before after
+
+-- ---- one line
 -- a fault of the sink is the status where its count rose, and else the count is as before
 abbrev pub IsSinkFault : ℕ → ℕ → Status → Type 0
 IsSinkFault before now status.WriteFault = Rose before now

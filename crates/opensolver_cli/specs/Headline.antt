@@ -6,9 +6,9 @@ use Rattle.cell_refs.specs.declared.limits.TheConstants.{SHEETS}
 use Rattle.sheet_csv.specs.Sheet.{Record}
 use Rattle.workbook.specs.State.{State}
 use Rattle.session.specs.States.{opened}
-use Rattle.opensolver_cli.specs.Courses.{AllAnswered, CutShort, EndsBefore, EndsInSink, Setting}
+use Rattle.opensolver_cli.specs.Courses.{AllAnswered, CutShort, EndsBefore, EndsInFolder, EndsInSink, Setting}
 use Rattle.opensolver_cli.specs.Findings.{book_in, found}
-use Rattle.opensolver_cli.specs.Outside.{IsFolderLeft, IsScriptLeft, NothingIsSeen, Outside, Prints, PrintsSome}
+use Rattle.opensolver_cli.specs.Outside.{FolderFailed, IsFolderLeft, IsScriptLeft, NoneFailed, NothingIsSeen, Outside, Prints, PrintsSome, SinkFailed, written}
 use Rattle.opensolver_cli.specs.Stops.{status_of, stop_line}
 use Rattle.opensolver_cli.specs.Words.{Asked, Job, MadeUp, Named, Script}
 use Rattle.opensolver_cli.specs.declared.stop.Stop.{Stop}
@@ -38,21 +38,24 @@ Goes Done job files script after =
 abbrev pub Stops : (Stop → Type 0) → Job → Files → List ℕ → Type 0
 Stops Done job files script = (stop : Stop) × (found job.named files script ≡ Err stop) × Done stop
 
--- a write of the sink failed at a record, or memory ran out at one
+-- a write of the sink failed at a record, or one of the folder
 abbrev pub IsCutByWrite : Setting → List Record → Outside → Outside → Type 0
 IsCutByWrite setting records before after =
-    CutShort (λ w fields part. EndsInSink setting w fields part after.files) setting records before.pieces after.pieces
+    (CutShort (λ w fields part. EndsInSink setting w fields part after.files) setting records before.pieces after.pieces × SinkFailed (written before) (written after))
+    ⊎ (CutShort (λ w fields part. EndsInFolder setting w fields part after.files) setting records before.pieces after.pieces × FolderFailed (written before) (written after))
 
+-- memory ran out at a record
 abbrev pub IsCutByMemory : Setting → List Record → Outside → Outside → Type 0
 IsCutByMemory setting records before after =
-    CutShort (λ w fields part. EndsInSink setting w fields part after.files ⊎ EndsBefore w part after.files) setting records before.pieces after.pieces
+    CutShort (λ w fields part. EndsInSink setting w fields part after.files ⊎ (EndsInFolder setting w fields part after.files ⊎ EndsBefore w part after.files))
+    setting records before.pieces after.pieces
 
 -- how a run over these files and this script ends
 abbrev pub EndsAs : Job → Files → List ℕ → Outside → Outside → Status → Type 0
 EndsAs job files script before after status.Done =
-    Goes (λ setting records. AllAnswered setting records before.pieces after.pieces after.files false) job files script after
+    Goes (λ setting records. AllAnswered setting records (written before) (written after) false) job files script after
 EndsAs job files script before after status.Refused =
-    Goes (λ setting records. AllAnswered setting records before.pieces after.pieces after.files true) job files script after
+    Goes (λ setting records. AllAnswered setting records (written before) (written after) true) job files script after
 EndsAs job files script before after status.Usage = ⊥
 EndsAs job files script before after status.ReadFault = NothingIsSeen before after
 EndsAs job files script before after status.WriteFault =
@@ -108,6 +111,5 @@ pub record IsCounted (before after : Outside) (ends : Status) : Type 0 where
   pub read_fault : ends ≡ status.ReadFault → IsReadFault before after
   pub quiet : ends ≡ status.ReadFault → after.pieces ≡ before.pieces
   pub no_read_fault : ends ≢ status.ReadFault → (after.folder_reads ≡ before.folder_reads) × (after.script_reads ≡ before.script_reads)
-  pub write_fault : ends ≡ status.WriteFault → Rose before.sink_writes after.sink_writes
-  pub no_write_fault : ends ≢ status.WriteFault → after.sink_writes ≡ before.sink_writes
-  pub saves : after.folder_writes ≡ before.folder_writes
+  pub write_fault : ends ≡ status.WriteFault → SinkFailed (written before) (written after) ⊎ FolderFailed (written before) (written after)
+  pub no_write_fault : ends ≢ status.WriteFault → NoneFailed (written before) (written after)

@@ -2,6 +2,7 @@
 -- told, and the counts of calls that failed; before it and after it.
 use Rattle.std.specs.Prelude.{◌≡◌, ◌∷◌, ℕ, List, [], Option}
 use Rattle.solver_io.specs.Bytes.{Takes, TakesSome}
+use Rattle.solver_io.specs.Causes.{Rose}
 use Rattle.solver_io.specs.Files.{Files}
 
 -- what is told, and how many reads and writes of the folder, reads of the script and writes of the sink have failed
@@ -25,6 +26,35 @@ seen files reads writes left script_reads pieces sink_writes = record {
   script_reads = script_reads;
   sink_writes = sink_writes;
 }
+
+-- ---- what is written
+-- the folder's files and the pieces that the sink took, where they are told, and how many writes of each have failed
+pub record Written : Type 0 where
+  pub files : Option Files
+  pub pieces : Option (List (List ℕ))
+  pub folder_writes : ℕ
+  pub sink_writes : ℕ
+
+-- the same of a folder and a sink, in this order
+abbrev pub put_in : Option Files → ℕ → Option (List (List ℕ)) → ℕ → Written
+put_in files writes pieces sink_writes = record { files = files; pieces = pieces; folder_writes = writes; sink_writes = sink_writes }
+
+abbrev pub written : Outside → Written
+written o = record { files = o.files; pieces = o.pieces; folder_writes = o.folder_writes; sink_writes = o.sink_writes }
+
+-- no write failed
+pub record NoneFailed (before after : Written) : Type 0 where
+  pub folder : after.folder_writes ≡ before.folder_writes
+  pub sink : after.sink_writes ≡ before.sink_writes
+
+-- a write of the sink failed, and none of the folder; or a write of the folder, and none of the sink
+pub record SinkFailed (before after : Written) : Type 0 where
+  pub rose : Rose before.sink_writes after.sink_writes
+  pub folder : after.folder_writes ≡ before.folder_writes
+
+pub record FolderFailed (before after : Written) : Type 0 where
+  pub rose : Rose before.folder_writes after.folder_writes
+  pub sink : after.sink_writes ≡ before.sink_writes
 
 -- ---- what is left as it was
 -- the script isn't touched

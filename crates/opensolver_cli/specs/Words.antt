@@ -3,10 +3,9 @@ use Rattle.std.specs.Prelude.{ℕ, ◌-◌, if◌then◌else◌, ◌==◌, ◌&&
 use Rattle.std.specs.Option.{option_and_then}
 use Rattle.std.specs.Global.{Global}
 use Rattle.std.specs.List.{list_all, slice_split}
-use Rattle.std.specs.Str.{all_ascii_digits, bytes_eq}
-use Rattle.std.specs.Str.Parse.{digits_value}
+use Rattle.std.specs.Str.{bytes_eq}
 use Rattle.node_pick.specs.Rules.{Rule, best_first, depth_first, oldest_first}
-use Rattle.session.specs.States.{MOST_UNITS}
+use Rattle.commands.specs.Locating.{units_in}
 use Rattle.opensolver_cli.specs.declared.words.Job as job_words
 use Rattle.opensolver_cli.specs.declared.words.Named as words
 use Rattle.opensolver_cli.specs.declared.words.Pick as pick_words
@@ -63,12 +62,6 @@ is_sheet word = is_some (stem_of word)
 abbrev pub default_budget : ℕ
 default_budget = 100000
 
--- how many units a search may spend: a whole number in digits, from 1 on and no more than the most
-abbrev pub budget_in : List ℕ → Option ℕ
-budget_in word =
-    if (nat_lt 0 (length word) && all_ascii_digits word) && (nat_le 1 (digits_value 10 word) && nat_le (digits_value 10 word) MOST_UNITS)
-    then Some (digits_value 10 word) else None
-
 abbrev pub pick_in : List ℕ → Option Pick
 pick_in word =
     if bytes_eq word (codes "depth") then Some depth
@@ -98,7 +91,7 @@ job_of names budget pick sheets =
 abbrev pub job_over : List ℕ → List (List ℕ) → Option Job
 job_over names words =
     option_and_then (λ b. option_and_then (λ p. job_of names b.0 p.0 p.1) (option_in (codes "--pick") pick_in depth b.1))
-    (option_in (codes "--budget") budget_in default_budget words)
+    (option_in (codes "--budget") units_in default_budget words)
 
 abbrev pub job_in : List (List ℕ) → Option Job
 job_in (word ∷ names ∷ words) = if bytes_eq word (codes "--names") then job_over names words else None

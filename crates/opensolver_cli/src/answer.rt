@@ -1,41 +1,53 @@
 // Answering the records of a script.
-ghost use Rattle.std.specs.Prelude.{◌≡◌, ◌<◌, ◌≤◌, Some, length, slice_get};
+ghost use Rattle.std.specs.Prelude.{◌≡◌, ◌<◌, ◌≤◌, IfSome, Some, length, slice_get};
 ghost use Rattle.solver_io.specs.Bytes.{PutCause};
-ghost use Rattle.solver_io.specs.Files.{Files};
 ghost use Rattle.sheet_csv.specs.Sheet.{Record};
-ghost use Rattle.session.specs.States.{MOST_UNITS};
-ghost use Rattle.opensolver_cli.specs.Answering.{AnswersRecord, AnswersRecords, IsSaid, IsSinkFault, Says};
+ghost use Rattle.commands.specs.declared.units.TheConstants.{MOST_UNITS};
+ghost use Rattle.opensolver_cli.specs.Answering.{AnswersRecord, AnswersRecords, EndsAnswering, IsPutFault, IsSaid, IsSinkFault, Says};
 ghost use Rattle.opensolver_cli.specs.Headline.{setting_of};
-ghost use Rattle.opensolver_cli.specs.Words.{Named, Pick, rule_of};
+ghost use Rattle.opensolver_cli.specs.Outside.{put_in};
+ghost use Rattle.opensolver_cli.specs.Words.{job_read, named_of, pick_read, rule_of};
 
 use crate::Status;
+use crate::saving::save;
+use crate::words::{Job, Named};
 use node_pick::Picker;
 use session::{Command, Session, line};
 use sheet_csv::Rows;
-use solver_io::{PutEnd, Sink};
+use solver_io::{Folder, PutEnd, Sink};
 use std::alloc::Global;
 use workbook::Workbook;
 
-/// Answers each of the records, over a workbook that was opened, with this budget for a search, which opens the nodes that the
-/// picker chooses.
-pub(crate) fn answer_records<K: Sink>(
+/// Answers each of the records, over a workbook that was opened, with the job's budget for a search, which opens the nodes that the
+/// picker chooses, and writes the files that are saved.
+pub(crate) fn answer_records<F: Folder, K: Sink>(
     alloc: Global,
     book: Workbook,
-    budget: u64,
+    job: &Job,
     rows: &Rows,
+    folder: &mut F,
     out: &mut K,
     pick: &mut Box<dyn Picker>,
 ) -> Status
-    requires few { budget ≤ MOST_UNITS }
-    ensures answers { (named : Named) (chosen : Pick) (files : Files) → rule pick.old ≡ rule_of chosen → AnswersRecords (setting_of (record { named = named; budget = budget; pick = chosen }) book files) rows.now (K.pieces out.old) (K.pieces out.new) (Some files) result }
-    ensures cause { IsSinkFault (K.faults out.old) (K.faults out.new) result }
+    requires few { job.now.budget ≤ MOST_UNITS }
+    requires pick { rule pick.old ≡ rule_of (pick_read job.now.pick) }
+    ensures answers { IfSome (F.content folder.old) (λ files. AnswersRecords (setting_of (job_read job.now) book files) rows.now
+        (put_in (F.content folder.old) (F.write_faults folder.old) (K.pieces out.old) (K.faults out.old))
+        (put_in (F.content folder.new) (F.write_faults folder.new) (K.pieces out.new) (K.faults out.new))
+        result) }
+    ensures ends { EndsAnswering result }
+    ensures cause { IsPutFault
+        (put_in (F.content folder.old) (F.write_faults folder.old) (K.pieces out.old) (K.faults out.old))
+        (put_in (F.content folder.new) (F.write_faults folder.new) (K.pieces out.new) (K.faults out.new))
+        result }
+    ensures reads { F.read_faults folder.new ≡ F.read_faults folder.old }
 {
-    let Ok(mut session) = Session::open(alloc, book, budget) else {
+    let Ok(mut session) = Session::open(alloc, book, job.budget) else {
         return Status::Memory;
     };
     let mut refused = false;
     for place in 0..rows.len() {
-        match answer_record(alloc, &mut session, rows, place, out, pick) {
+        match answer_record(alloc, &mut session, &job.named, (rows, place), folder, out, pick) {
             Ok(is_refusal) => refused = refused || is_refusal,
             Err(PutEnd::Failed) => return Status::WriteFault,
             Err(PutEnd::Memory) => return Status::Memory,
@@ -49,26 +61,31 @@ pub(crate) fn answer_records<K: Sink>(
 }
 
 // Answers the record at a place, and says whether the answer is a refusal.
-fn answer_record<K: Sink>(
+fn answer_record<F: Folder, K: Sink>(
     alloc: Global,
     session: &mut Session,
-    rows: &Rows,
-    place: usize,
+    named: &Named,
+    at: (&Rows, usize),
+    folder: &mut F,
     out: &mut K,
     pick: &mut Box<dyn Picker>,
 ) -> Result<bool, PutEnd>
-    requires within { place < length rows.now }
-    ensures answers { (fields : Record) × (slice_get rows.now place ≡ Some fields) × AnswersRecord (rule pick.old) session.old.state fields (K.pieces out.old) (K.pieces out.new) session.new.state result }
+    requires within { at.1 < length at.0.now }
+    ensures answers { (fields : Record) × (slice_get at.0.now at.1 ≡ Some fields) × AnswersRecord (rule pick.old) (named_of named.now) session.old.state fields
+        (put_in (F.content folder.old) (F.write_faults folder.old) (K.pieces out.old) (K.faults out.old))
+        (put_in (F.content folder.new) (F.write_faults folder.new) (K.pieces out.new) (K.faults out.new))
+        session.new.state result }
     ensures sheets { session.new.state.book.sheets ≡ session.old.state.book.sheets }
     ensures rule { rule pick.new ≡ rule pick.old }
-    ensures cause { PutCause (K.faults out.old) (K.faults out.new) result }
+    ensures reads { F.read_faults folder.new ≡ F.read_faults folder.old }
 {
-    let Ok(command) = Command::of(alloc, rows.at(place)) else {
+    let Ok(command) = Command::of(alloc, at.0.at(at.1)) else {
         return Err(PutEnd::Memory);
     };
     let Ok(answer) = session.apply(&command, pick) else {
         return Err(PutEnd::Memory);
     };
+    save(named, &answer, session, folder)?;
     let Ok(text) = line(alloc, &answer, session.sheets()) else {
         return Err(PutEnd::Memory);
     };

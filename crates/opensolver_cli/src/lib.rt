@@ -3,6 +3,7 @@
 
 mod answer;
 mod files;
+mod saving;
 mod script;
 mod status;
 mod stop;

@@ -2,7 +2,7 @@
 ghost use Rattle.std.specs.Prelude.{◌≡◌, ◌≢◌, ◌<◌, ◌≤◌, ◌∷◌, [], All, Err, IfSome, Some, length, map, string_bytes, true};
 ghost use Rattle.cell_refs.specs.declared.limits.TheConstants.{SHEETS};
 ghost use Rattle.node_pick.specs.Rules.{best_first, depth_first, oldest_first};
-ghost use Rattle.session.specs.States.{MOST_UNITS};
+ghost use Rattle.commands.specs.declared.units.TheConstants.{MOST_UNITS};
 ghost use Rattle.opensolver_cli.specs.Answering.{IsSinkFault, Says};
 ghost use Rattle.opensolver_cli.specs.Completeness.{EndsExactly};
 ghost use Rattle.opensolver_cli.specs.Findings.{book_in};
@@ -28,7 +28,8 @@ use workbook::Workbook;
 const USAGE: &str =
     "usage: opensolver --names FILE [--budget N] [--pick depth|best|oldest] FILE...\n";
 
-/// Reads the files that the words name and the script to its end, and answers each record of the script.
+/// Reads the files that the words name and the script to its end, answers each record of the script, and writes the files that it
+/// saves.
 pub fn run<F: Folder, S: Source, K: Sink>(
     alloc: Global,
     words: &[String],
@@ -47,7 +48,6 @@ pub fn run<F: Folder, S: Source, K: Sink>(
         (seen (F.content folder.old) (F.read_faults folder.old) (F.write_faults folder.old) (S.left script.old) (S.faults script.old) (K.pieces out.old) (K.faults out.old))
         (seen (F.content folder.new) (F.read_faults folder.new) (F.write_faults folder.new) (S.left script.new) (S.faults script.new) (K.pieces out.new) (K.faults out.new))
         result }
-    ensures folder { F.content folder.new ≡ F.content folder.old }
 {
     let Some(job) = job_of(words) else {
         return say(out, USAGE, Status::Usage);
@@ -91,10 +91,9 @@ fn run_job<F: Folder, S: Source, K: Sink>(
         (seen (F.content folder.old) (F.read_faults folder.old) (F.write_faults folder.old) (S.left script.old) (S.faults script.old) (K.pieces out.old) (K.faults out.old))
         (seen (F.content folder.new) (F.read_faults folder.new) (F.write_faults folder.new) (S.left script.new) (S.faults script.new) (K.pieces out.new) (K.faults out.new))
         result }
-    ensures folder { F.content folder.new ≡ F.content folder.old }
 {
     match find(alloc, &job.named, folder, script) {
-        Ok((book, rows)) => answer_records(alloc, book, job.budget, &rows, out, pick),
+        Ok((book, rows)) => answer_records(alloc, book, job, &rows, folder, out, pick),
         Err(End::Stopped(stop)) => say_stop(alloc, &job.named, stop, out),
         Err(End::Failed) => Status::ReadFault,
         Err(End::Memory) => Status::Memory,

@@ -1,8 +1,11 @@
 // The words of the command line.
 ghost use Rattle.std.specs.Prelude.{◌≡◌, ◌==◌, ◌≢◌, ◌<◌, ◌≤◌, [], All, IfSome, codes, length, option_map, string_bytes, true};
 ghost use Rattle.std.specs.List.{list_all, slice_split};
-ghost use Rattle.session.specs.States.{MOST_UNITS};
+ghost use Rattle.commands.specs.declared.units.TheConstants.{MOST_UNITS};
+ghost use Rattle.commands.specs.Locating.{units_in};
 ghost use Rattle.opensolver_cli.specs.Words as line;
+
+use session::units_in;
 
 /// How many units a search may spend where nothing is said.
 pub(crate) const DEFAULT_BUDGET: u64 = 100_000;
@@ -14,9 +17,6 @@ pub(crate) struct Named<'a> {
     /// The files of the sheets, each with a name before its ending.
     pub(crate) sheets: &'a [String],
 }
-
-/// The greatest number of units that a search may spend.
-const MOST_UNITS: u64 = 1_000_000;
 
 /// Which of the pickers chooses the next node of a search.
 #[derive(Clone, Copy)]
@@ -71,7 +71,7 @@ fn job_over<'a>(names: &'a str, words: &'a [String]) -> Option<Job<'a>>
 
 // The budget in front of other words, and these.
 fn budget_before(words: &[String]) -> Option<(u64, &[String])>
-    ensures read { option_map (λ p. (p.0, line.texts_of p.1.now)) result ≡ line.option_in (codes "--budget") line.budget_in line.default_budget (line.texts_of words.now) }
+    ensures read { option_map (λ p. (p.0, line.texts_of p.1.now)) result ≡ line.option_in (codes "--budget") units_in line.default_budget (line.texts_of words.now) }
     ensures few { IfSome result (λ p. p.0 ≤ MOST_UNITS) }
 {
     let [word, value, others @ ..] = words else {
@@ -80,7 +80,7 @@ fn budget_before(words: &[String]) -> Option<(u64, &[String])>
     if word.as_str() != "--budget" {
         return Some((DEFAULT_BUDGET, words));
     }
-    let budget = budget_in(value.as_str())?;
+    let budget = units_in(value.as_str())?;
     Some((budget, others))
 }
 
@@ -96,26 +96,6 @@ fn pick_before(words: &[String]) -> Option<(Pick, &[String])>
     }
     let pick = pick_in(value.as_str())?;
     Some((pick, others))
-}
-
-// How many units a search may spend.
-fn budget_in(word: &str) -> Option<u64>
-    ensures read { result ≡ line.budget_in word.now }
-    ensures few { IfSome result (λ n. n ≤ MOST_UNITS) }
-{
-    if word.starts_with('+') {
-        return None;
-    }
-    match word.parse::<u64>() {
-        Ok(units) => {
-            if 1 <= units && units <= MOST_UNITS {
-                Some(units)
-            } else {
-                None
-            }
-        }
-        Err(_) => None,
-    }
 }
 
 // The picker that the word names.

@@ -56,7 +56,6 @@ pub fn run_with_pickers<F: Folder, S: Source, K: Sink>(
     ensures counts { IfOk result (IsCounted
         (seen (F.content folder.old) (F.read_faults folder.old) (F.write_faults folder.old) (S.left script.old) (S.faults script.old) (K.pieces out.old) (K.faults out.old))
         (seen (F.content folder.new) (F.read_faults folder.new) (F.write_faults folder.new) (S.left script.new) (S.faults script.new) (K.pieces out.new) (K.faults out.new))) }
-    ensures folder { F.content folder.new ≡ F.content folder.old }
     ensures unread { OnErr result (
         seen (F.content folder.new) (F.read_faults folder.new) (F.write_faults folder.new) (S.left script.new) (S.faults script.new) (K.pieces out.new) (K.faults out.new)
         ≡ seen (F.content folder.old) (F.read_faults folder.old) (F.write_faults folder.old) (S.left script.old) (S.faults script.old) (K.pieces out.old) (K.faults out.old)) }
