@@ -72,7 +72,7 @@ fn words(alloc: Global, line: &str) -> Result<Vec<String>, Fail> {
 }
 
 // The folder of these files.
-fn folder(alloc: Global, files: &[(&str, &[u8])], fails: u64) -> Result<MemFolder, Fail> {
+pub(crate) fn folder(alloc: Global, files: &[(&str, &[u8])], fails: u64) -> Result<MemFolder, Fail> {
     let mut held = Vec::new(alloc);
     for (name, bytes) in files {
         held.push((String::from_str(alloc, name)?, bytes.to_vec(alloc)?))?;
@@ -91,11 +91,22 @@ pub(crate) fn ran(
     script: &[u8],
     fails: Fails,
 ) -> Result<(Status, Vec<u8>), Fail> {
-    let words = words(alloc, line)?;
     let mut folder = folder(alloc, files, fails.0)?;
+    ran_over(alloc, line, &mut folder, script, fails)
+}
+
+// The same over a folder, in which the run leaves what it saves.
+pub(crate) fn ran_over(
+    alloc: Global,
+    line: &str,
+    folder: &mut MemFolder,
+    script: &[u8],
+    fails: Fails,
+) -> Result<(Status, Vec<u8>), Fail> {
+    let words = words(alloc, line)?;
     let mut source = MemSource::new(alloc, script.to_vec(alloc)?, [fails.1].to_vec(alloc)?);
     let mut sink = MemSink::new(alloc, [fails.2].to_vec(alloc)?);
-    let status = run_with_pickers(alloc, &words, &mut folder, &mut source, &mut sink)?;
+    let status = run_with_pickers(alloc, &words, folder, &mut source, &mut sink)?;
     Ok((status, sink.bytes().to_vec(alloc)?))
 }
 
