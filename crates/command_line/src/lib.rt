@@ -1,0 +1,7 @@
+//! The words of the command line, and what they ask for.
+#![tactic(auto)]
+
+mod line;
+mod words;
+
+pub use words::{Asked, DEFAULT_BUDGET, Job, Named, Pick, asked, stem_of};
