@@ -4,4 +4,4 @@
 mod line;
 mod words;
 
-pub use words::{Asked, DEFAULT_BUDGET, Job, Named, Pick, asked, stem_of};
+pub use words::{Asked, DEFAULT_BUDGET, Job, MOST_MADE_UP, Named, Pick, asked, stem_of};
