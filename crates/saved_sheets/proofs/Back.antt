@@ -12,7 +12,7 @@ use Rattle.workbook.specs.State.{State}
 use Rattle.recalculation.specs.Entries.{Contents}
 use Rattle.saved_sheets.specs.Laws.{ReadsBack}
 use Rattle.saved_sheets.specs.Saving.{columns_used, rows_used, saved_row, saved_rows}
-use Rattle.saved_sheets.proofs.Fields.{found_field, has_a_field, has_its_text}
+use Rattle.saved_sheets.proofs.SavedFields.{found_field, has_a_field, has_its_text}
 
 -- each record has a field
 have_fields : (contents : Contents) (sheet : ℕ) → All (λ row. row ≢ []) (saved_rows contents sheet)

@@ -2,5 +2,6 @@ pub mod Greatest
 pub mod Used
 pub mod Reached
 pub mod Passes
-pub mod Fields
+pub mod SavedFields
 pub mod Back
+pub mod Rows

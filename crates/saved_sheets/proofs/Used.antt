@@ -67,6 +67,18 @@ is_listed book listed q there = let text = some_of (get book.contents q) there i
 pub few_rows : (book : State) (sheet : ℕ) → TextsAreListed book → rows_used book.contents sheet ≤ ROWS
 few_rows book sheet listed = rows_within book.contents sheet ROWS (λ q on. (is_listed book listed q on.0).row)
 
+pub few_widths : (book : State) (sheet : ℕ) → TextsAreListed book → (widths : List ℕ) → widths ≡ used_widths book.contents sheet → length widths ≤ ROWS
+few_widths book sheet listed widths are =
+    let rows = ap length are ∙ length-map-range_with_len (columns_used book.contents sheet) 0 (rows_used book.contents sheet) in
+    let few = few_rows book sheet listed in
+    omega (arith, rows, few)
+
+pub width_at : (contents : Contents) (sheet : ℕ) (widths : List ℕ) → widths ≡ used_widths contents sheet → (row : ℕ) → row < length widths
+    → get_or widths row 0 ≡ columns_used contents sheet row
+width_at contents sheet widths are row lt =
+    let rows = ap length are ∙ length-map-range_with_len (columns_used contents sheet) 0 (rows_used contents sheet) in
+    ap (λ (ws : List ℕ). get_or ws row 0) are ∙ get_or-map-range_with_len (columns_used contents sheet) 0 (rows_used contents sheet) row row 0 (omega (arith, lt, rows)) (omega arith)
+
 -- ---- widths that reach to some cells, and no further
 pub record AreWidthsOf (These : Cell → Type 0) (widths : List ℕ) : Type 0 where
   pub reach : (q : Cell) → These q → q.col < get_or widths q.row 0

@@ -47,7 +47,8 @@ pub fn sheet_rows(alloc: Global, book: &Workbook, sheet: SheetId) -> Result<Rows
     let widths = used_widths(alloc, book, sheet)?;
     let mut rows = Rows::new(alloc);
     for row in 0..widths.len() as u16 {
-        add_row(alloc, book, sheet, row, widths[usize::from(row)], &mut rows)?;
+        let columns = widths[usize::from(row)];
+        add_row(alloc, book, sheet, row, columns, &mut rows)?;
     }
     Ok(rows)
 }

@@ -24,7 +24,7 @@ pub(crate) fn used_widths(alloc: Global, book: &Workbook, sheet: SheetId) -> Res
 
 // Makes the row of a cell reach to it, where the cell lies on the sheet.
 fn reach(widths: &mut Vec<u16>, sheet: SheetId, cell: Cell) -> Result<(), Memory>
-    requires inside { cell.col < COLUMNS }
+    requires { cell.col < COLUMNS }
     ensures { OnOk result (IsReachedOn (cell.sheet.0 == sheet.0) cell widths.old.items widths.new.items) }
 {
     if cell.sheet != sheet {

@@ -1,6 +1,6 @@
 use Rattle.std.proofs.Common.{None, subst, sym, ◌∙◌}
 use Rattle.saved_sheets.proofs.Passes.{IsSeen, all_seen, fewer_left, none_seen, with_next}
-use Rattle.saved_sheets.proofs.Used.{AreWidthsOf, few_rows, is_listed, widths_are}
+use Rattle.saved_sheets.proofs.Used.{AreWidthsOf, few_widths, is_listed, widths_are}
 use Rattle.saved_sheets.proofs.widths.used_widths.Goals as goal
 
 pub loop-cell-init : goal.loop-cell-init
@@ -23,4 +23,7 @@ returns-clause-widths c =
     (all_seen c.args.book.now.contents c.args.sheet.0 c.loop-cell.after c.loop-cell.widths.items c.in_default.ensures c.loop-cell.invariant)
 
 pub returns-clause-rows : goal.returns-clause-rows
-returns-clause-rows c = ?
+returns-clause-rows c =
+    few_widths c.args.book.now c.args.sheet.0 c.texts_are_listed.ensures c.loop-cell.widths.items
+    (widths_are c.args.book.now.contents c.args.sheet.0 c.loop-cell.widths.items
+    (all_seen c.args.book.now.contents c.args.sheet.0 c.loop-cell.after c.loop-cell.widths.items c.in_default.ensures c.loop-cell.invariant))
