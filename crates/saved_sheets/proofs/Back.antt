@@ -4,6 +4,7 @@ use Rattle.std.specs.Prelude.{All}
 use Rattle.std.specs.FinMap.{from_entries, get}
 use Rattle.std.specs.List.{range_with_len}
 use Rattle.std.proofs.lemmas.List.Elements.{All-map}
+use Rattle.cell_refs.specs.Cells.{cell_cmp}
 use Rattle.sheet_csv.specs.Saved.{IsSaved}
 use Rattle.sheet_csv.specs.Sheet.{Record, saved_text, sheet_records}
 use Rattle.workbook.specs.Files.{texts_in_records}
@@ -23,5 +24,5 @@ have_fields contents sheet =
 pub reads_back : (book : State) (sheet : ℕ) → TextsAreSome book
     → (IsSaved (saved_rows book.contents sheet) → sheet_records (saved_text (saved_rows book.contents sheet)) ≡ saved_rows book.contents sheet) → ReadsBack book sheet
 reads_back book sheet some back unmarked cell on =
-    ap (λ (rows : List Record). get (from_entries (texts_in_records sheet 0 rows)) cell) (back (record { fields = have_fields book.contents sheet; unmarked = unmarked }))
+    ap (λ (rows : List Record). get (from_entries {R = cell_cmp} (texts_in_records sheet 0 rows)) cell) (back (record { fields = have_fields book.contents sheet; unmarked = unmarked }))
     ∙ found_field sheet (saved_rows book.contents sheet) cell on ∙ has_its_text book.contents sheet some cell on

@@ -73,11 +73,11 @@ few_widths book sheet listed widths are =
     let few = few_rows book sheet listed in
     omega (arith, rows, few)
 
-pub width_at : (contents : Contents) (sheet : ℕ) (widths : List ℕ) → widths ≡ used_widths contents sheet → (row : ℕ) → row < length widths
-    → get_or widths row 0 ≡ columns_used contents sheet row
-width_at contents sheet widths are row lt =
+pub width_at : (contents : Contents) (sheet : ℕ) (widths : List ℕ) → widths ≡ used_widths contents sheet → (row d : ℕ) → row < length widths
+    → get_or widths row d ≡ columns_used contents sheet row
+width_at contents sheet widths are row d lt =
     let rows = ap length are ∙ length-map-range_with_len (columns_used contents sheet) 0 (rows_used contents sheet) in
-    ap (λ (ws : List ℕ). get_or ws row 0) are ∙ get_or-map-range_with_len (columns_used contents sheet) 0 (rows_used contents sheet) row row 0 (omega (arith, lt, rows)) (omega arith)
+    ap (λ (ws : List ℕ). get_or ws row d) are ∙ get_or-map-range_with_len (columns_used contents sheet) 0 (rows_used contents sheet) row row d (omega (arith, lt, rows)) (omega arith)
 
 -- ---- widths that reach to some cells, and no further
 pub record AreWidthsOf (These : Cell → Type 0) (widths : List ℕ) : Type 0 where

@@ -18,3 +18,4 @@ pub mod Exchanging
 pub mod Several
 pub mod Naming
 pub mod Saving
+pub mod Filled
