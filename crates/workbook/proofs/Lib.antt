@@ -14,3 +14,4 @@ pub mod OneWay
 pub mod Exchanges
 pub mod Restored
 pub mod Severally
+pub mod NameEdits
