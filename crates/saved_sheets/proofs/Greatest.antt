@@ -73,6 +73,6 @@ module _ (p : Cell → Bool) (f : Cell → ℕ) where
   all_within top (e ∷ es) each =
       let sum = one_more e es in
       let within : cond (p e.0) (max (f e.0) (greatest_at p f es)) (greatest_at p f es) ≤ top =
-          both_within (p e.0) (f e.0) (greatest_at p f es) top (λ passes. each e.0 passes (first_there e es))
-          (all_within top es (λ q passes there. each q passes (still_there e es q there))) in
+      both_within (p e.0) (f e.0) (greatest_at p f es) top (λ passes. each e.0 passes (first_there e es))
+      (all_within top es (λ q passes there. each q passes (still_there e es q there))) in
       omega (arith, sum, within)

@@ -40,7 +40,7 @@ module _ (contents : Contents) (sheet : ℕ) where
   pub column_is_used : (q : Cell) → IsOn contents sheet q → q.col < columns_used contents sheet q.row
   column_is_used q on =
       let within = is_within (λ (c : Cell). (c.sheet.0 == sheet) && (c.row == q.row)) (λ (c : Cell). suc c.col) (entries contents) q
-          (both (q.sheet.0 == sheet) (q.row == q.row) (eq-eqb q.sheet.0 sheet on.1) (eq-eqb q.row q.row refl)) (sym (ap is_some (get-entries contents q)) ∙ on.0) in
+      (both (q.sheet.0 == sheet) (q.row == q.row) (eq-eqb q.sheet.0 sheet on.1) (eq-eqb q.row q.row refl)) (sym (ap is_some (get-entries contents q)) ∙ on.0) in
       omega (arith, within)
 
   -- no more rows and columns are used than the texts reach to
@@ -51,10 +51,10 @@ module _ (contents : Contents) (sheet : ℕ) where
   pub columns_within : (row top : ℕ) → ((q : Cell) → IsOn contents sheet q → q.row ≡ row → q.col < top) → columns_used contents sheet row ≤ top
   columns_within row top each = all_within (λ (c : Cell). (c.sheet.0 == sheet) && (c.row == row)) (λ (c : Cell). suc c.col) top (entries contents)
       (λ q passes there.
-        let on = eqb-true q.sheet.0 sheet (first_true (q.sheet.0 == sheet) (q.row == row) passes) in
-        let at = eqb-true q.row row (second_true (q.sheet.0 == sheet) (q.row == row) passes) in
-        let lt : q.col < top = each q (ap is_some (get-entries contents q) ∙ there, on) at in
-        omega (arith, lt))
+      let on = eqb-true q.sheet.0 sheet (first_true (q.sheet.0 == sheet) (q.row == row) passes) in
+      let at = eqb-true q.row row (second_true (q.sheet.0 == sheet) (q.row == row) passes) in
+      let lt : q.col < top = each q (ap is_some (get-entries contents q) ∙ there, on) at in
+      omega (arith, lt))
 
 some_of : (o : Option (List ℕ)) → is_some o ≡ true → (text : List ℕ) × (o ≡ Some text)
 some_of None h = cc

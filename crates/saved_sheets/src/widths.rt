@@ -8,7 +8,11 @@ use std::alloc::Global;
 use workbook::Workbook;
 
 /// How many columns each row of a sheet uses, down to its last row with a text.
-pub(crate) fn used_widths(alloc: Global, book: &Workbook, sheet: SheetId) -> Result<Vec<u16>, Memory>
+pub(crate) fn used_widths(
+    alloc: Global,
+    book: &Workbook,
+    sheet: SheetId,
+) -> Result<Vec<u16>, Memory>
     ensures widths { IfOk result (λ widths. widths.items ≡ used_widths book.now.contents sheet.0) }
     ensures rows { IfOk result (λ widths. length widths.items ≤ ROWS) }
 {

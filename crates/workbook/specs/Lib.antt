@@ -12,10 +12,10 @@ pub mod Room
 pub mod Gathered
 pub mod Opened
 pub mod Listed
+pub mod Filled
 pub mod Replacing
 pub mod Determined
 pub mod Exchanging
 pub mod Several
 pub mod Naming
 pub mod Saving
-pub mod Filled

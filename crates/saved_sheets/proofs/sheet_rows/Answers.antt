@@ -11,8 +11,8 @@ loop-row-preserved c =
     let columns = c.index-columns.result.now in
     let there : row < length c.in_ok-widths.widths.items = omega (arith, c.len-row-end.ensures, c.loop-row-test.true) in
     let width =
-        c.index-columns.ensures ∙ ap (λ i. get_or c.in_ok-widths.widths.items i columns) c.from.ensures
-        ∙ width_at contents c.args.sheet.0 c.in_ok-widths.widths.items c.in_ok-widths.ensures.widths row columns there in
+    c.index-columns.ensures ∙ ap (λ i. get_or c.in_ok-widths.widths.items i columns) c.from.ensures
+    ∙ width_at contents c.args.sheet.0 c.in_ok-widths.widths.items c.in_ok-widths.ensures.widths row columns there in
     one_more (saved_row contents c.args.sheet.0) row c.loop-row.rows c.add_row.new.rows (fields_to contents c.args.sheet.0 row columns)
     c.loop-row.invariant c.in_ok-add_row.ensures (ap (fields_to contents c.args.sheet.0 row) width)
 
