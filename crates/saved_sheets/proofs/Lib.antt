@@ -5,3 +5,4 @@ pub mod Passes
 pub mod SavedFields
 pub mod Back
 pub mod Rows
+pub mod Examples
