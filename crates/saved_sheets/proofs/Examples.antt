@@ -1,6 +1,7 @@
 -- Sheets and the bytes under which they are saved.
 use Rattle.std.proofs.Common.{◌≡◌, ℕ, zero, suc, T, List, [], ◌∷◌, ◌++◌, map, Option, refl, ap, ◌∙◌}
 use Rattle.std.specs.Prelude.{◌==◌, ◌&&◌, codes, filter, unwrap_or}
+use Rattle.csv.specs.Writing.{escaped, fields_text, is_blank}
 use Rattle.std.specs.FinMap.{entries, entries-from_sorted, find, from_sorted, get, get-from_sorted, is_sorted}
 use Rattle.std.specs.List.{range_with_len}
 use Rattle.cell_refs.specs.declared.cell.Cell.{Cell}
@@ -51,6 +52,7 @@ abbrev gap : List TextInCell
 gap = text 0 0 0 (codes "1") ∷ text 0 2 1 (codes "x") ∷ []
 
 gap_row : saved_text (saved_rows (from_sorted {R = cell_cmp} gap) 0) ≡ codes "1" ++ (10 ∷ 34 ∷ 34 ∷ 10 ∷ codes ",x") ++ 10 ∷ []
+unfolding escaped fields_text is_blank
 gap_row = saves gap tt 0 _ refl
 
 -- fields before the first text of a row are empty
@@ -58,6 +60,7 @@ abbrev third : List TextInCell
 third = text 0 0 2 (codes "z") ∷ []
 
 third_column : saved_text (saved_rows (from_sorted {R = cell_cmp} third) 0) ≡ codes ",,z" ++ 10 ∷ []
+unfolding escaped fields_text is_blank
 third_column = saves third tt 0 _ refl
 
 -- a sheet without texts has no records, and no bytes
@@ -65,6 +68,7 @@ abbrev elsewhere : List TextInCell
 elsewhere = text 1 0 0 (codes "y") ∷ []
 
 no_bytes : saved_text (saved_rows (from_sorted {R = cell_cmp} elsewhere) 0) ≡ []
+unfolding escaped fields_text is_blank
 no_bytes = saves elsewhere tt 0 _ refl
 
 -- rows before the first text are empty
@@ -73,6 +77,7 @@ fifth = text 0 4 0 (codes "a") ∷ []
 
 fifth_row : saved_text (saved_rows (from_sorted {R = cell_cmp} fifth) 0)
     ≡ 34 ∷ 34 ∷ 10 ∷ 34 ∷ 34 ∷ 10 ∷ 34 ∷ 34 ∷ 10 ∷ 34 ∷ 34 ∷ 10 ∷ 97 ∷ 10 ∷ []
+unfolding escaped fields_text is_blank
 fifth_row = saves fifth tt 0 _ refl
 
 -- texts with a quotation mark, a comma or a line end stand in quotation marks
@@ -81,4 +86,5 @@ quoted = text 0 0 0 (97 ∷ 34 ∷ 98 ∷ []) ∷ text 0 0 1 (codes "a,b") ∷ t
 
 quotation_marks : saved_text (saved_rows (from_sorted {R = cell_cmp} quoted) 0)
     ≡ 34 ∷ 97 ∷ 34 ∷ 34 ∷ 98 ∷ 34 ∷ 44 ∷ 34 ∷ 97 ∷ 44 ∷ 98 ∷ 34 ∷ 44 ∷ 34 ∷ 97 ∷ 10 ∷ 98 ∷ 34 ∷ 10 ∷ []
+unfolding escaped fields_text is_blank
 quotation_marks = saves quoted tt 0 _ refl
