@@ -1,5 +1,5 @@
 -- Rows that reach to one more cell.
-use Rattle.std.proofs.Common.{◌≡◌, ◌≢◌, ◌<◌, ◌≤◌, ℕ, suc, max, Bool, true, false, List, [], get_or, length, refl, sym, ap, subst, ◌∙◌, arith, ◌⊎◌, inl, inr}
+use Rattle.std.proofs.Common.{◌≡◌, ◌≢◌, ◌<◌, ◌≤◌, ℕ, suc, max, List, [], get_or, length, refl, sym, subst, arith, ◌⊎◌, inl, inr}
 use Rattle.cell_refs.specs.declared.cell.Cell.{Cell}
 use Rattle.std.proofs.lemmas.Bool.Decides.{eqb_tells}
 use Rattle.saved_sheets.specs.Widths.{IsReached}

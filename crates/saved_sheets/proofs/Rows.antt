@@ -1,5 +1,5 @@
 -- Rows, one after the other.
-use Rattle.std.proofs.Common.{◌≡◌, ◌+◌, ◌<◌, ◌≤◌, ℕ, zero, suc, List, [], ◌∷◌, ◌++◌, length, map, refl, sym, ap, subst, ◌∙◌, arith}
+use Rattle.std.proofs.Common.{◌≡◌, ◌+◌, ◌<◌, ◌≤◌, ℕ, zero, suc, List, [], ◌∷◌, ◌++◌, length, map, refl, sym, ap, ◌∙◌, arith}
 use denote.Ref.{Bor}
 use Rattle.std.specs.List.{range_with_len}
 use Rattle.std.proofs.lemmas.List.{map-append}
@@ -8,7 +8,6 @@ use Rattle.recalculation.specs.Entries.{Contents}
 use Rattle.sheet_csv.specs.Sheet.{Record}
 use Rattle.saved_sheets.specs.Saving.{columns_used, fields_to, rows_used, saved_row, saved_rows, text_at}
 use Rattle.saved_sheets.specs.Widths.{used_widths}
-use Rattle.saved_sheets.proofs.Used.{width_at}
 
 -- one more value of a function
 pub one_more : {X : Type 0} (f : ℕ → X) (n : ℕ) (old now : List X) (x : X) → old ≡ map f (range_with_len 0 n) → now ≡ old ++ x ∷ [] → x ≡ f n

@@ -1,7 +1,6 @@
 -- The rows and the columns of a sheet that reach to its texts.
-use Rattle.std.proofs.Common.{◌≡◌, ◌<◌, ◌≤◌, ℕ, zero, suc, Bool, true, false, ◌&&◌, ◌==◌, List, [], ◌∷◌, get_or, length, map, Option, Some, None, refl, sym, ap, subst, ◌∙◌, arith}
+use Rattle.std.proofs.Common.{◌≡◌, ◌<◌, ◌≤◌, ℕ, zero, suc, Bool, true, false, ◌&&◌, ◌==◌, List, [], ◌∷◌, get_or, length, Option, Some, None, refl, sym, ap, subst, ◌∙◌, arith}
 use Rattle.std.specs.FinMap.{contains_key, entries, get, get-entries}
-use Rattle.std.specs.List.{range_with_len}
 use Rattle.std.specs.Prelude.{is_some}
 use Rattle.std.proofs.lemmas.Bool.{eqb-true, eq-eqb}
 use Rattle.std.proofs.lemmas.Grind.{same_number_lists}
@@ -13,7 +12,7 @@ use Rattle.workbook.specs.Listed.{IsListed, TextsAreListed}
 use Rattle.workbook.specs.State.{State}
 use Rattle.saved_sheets.specs.Saving.{columns_used, rows_used}
 use Rattle.saved_sheets.specs.Widths.{used_widths}
-use Rattle.saved_sheets.proofs.Greatest.{all_within, greatest_at, is_within}
+use Rattle.saved_sheets.proofs.Greatest.{all_within, is_within}
 
 -- some cells of a sheet
 abbrev pub IsOn : Contents → ℕ → Cell → Type 0

@@ -1,5 +1,5 @@
 -- How far the rows of a sheet reach.
-use Rattle.std.specs.Prelude.{◌≡◌, ◌≢◌, ℕ, suc, Bool, true, false, ◌==◌, max, List, length, map, slice_index}
+use Rattle.std.specs.Prelude.{◌≡◌, ◌≢◌, ℕ, suc, Bool, true, false, max, List, length, map, slice_index}
 use Rattle.std.specs.List.{range_with_len}
 use Rattle.cell_refs.specs.declared.cell.Cell.{Cell}
 use Rattle.recalculation.specs.Entries.{Contents}

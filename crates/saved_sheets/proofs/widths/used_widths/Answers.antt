@@ -1,4 +1,4 @@
-use Rattle.std.proofs.Common.{None, subst, sym, ◌∙◌}
+use Rattle.std.proofs.Common.{None, subst, sym}
 use Rattle.saved_sheets.proofs.Passes.{IsSeen, all_seen, fewer_left, none_seen, with_next}
 use Rattle.saved_sheets.proofs.Used.{AreWidthsOf, few_widths, is_listed, widths_are}
 use Rattle.saved_sheets.proofs.widths.used_widths.Goals as goal
