@@ -1,5 +1,5 @@
 -- Command lines and what they ask for.
-use Rattle.std.specs.Prelude.{◌≡◌, ◌∷◌, [], ℕ, List, Some, None, codes}
+use Rattle.std.specs.Prelude.{◌≡◌, ◌∷◌, [], ℕ, Some, None, codes}
 use Rattle.std.proofs.Common.{refl}
 use Rattle.clap.proofs.OnLiterals.{clap_on_literals}
 use Rattle.command_line.specs.Words.{Job, MadeUp, Script, asked_of, best, depth}
@@ -32,6 +32,11 @@ a_picker_and_two_sheets = refl
 the_greatest_size : asked_of (codes "--gen" ∷ codes "12" ∷ []) ≡ Some (MadeUp 12)
 unfolding clap_on_literals
 the_greatest_size = refl
+
+a_dash_in_front_of_a_file : asked_of (codes "--names=n.csv" ∷ codes "--" ∷ codes "-x.csv" ∷ [])
+    ≡ Some (Script (record { named = record { names = codes "n.csv"; sheets = codes "-x.csv" ∷ [] }; budget = 100000; pick = depth }))
+unfolding clap_on_literals
+a_dash_in_front_of_a_file = refl
 
 -- ---- words of another form
 no_size : asked_of (codes "--gen" ∷ codes "0" ∷ []) ≡ None
@@ -74,6 +79,14 @@ no_budget : asked_of (codes "--names" ∷ codes "n.csv" ∷ codes "a.csv" ∷ co
 unfolding clap_on_literals
 no_budget = refl
 
-bad : asked_of (codes "--gen" ∷ codes "12" ∷ []) ≡ Some (MadeUp 11)
+an_option_without_a_value : asked_of (codes "a.csv" ∷ codes "--names" ∷ []) ≡ None
 unfolding clap_on_literals
-bad = refl
+an_option_without_a_value = refl
+
+an_option_for_a_value : asked_of (codes "--names" ∷ codes "--budget" ∷ codes "7" ∷ codes "a.csv" ∷ []) ≡ None
+unfolding clap_on_literals
+an_option_for_a_value = refl
+
+an_unknown_picker : asked_of (codes "--names" ∷ codes "n.csv" ∷ codes "--pick" ∷ codes "worst" ∷ codes "a.csv" ∷ []) ≡ None
+unfolding clap_on_literals
+an_unknown_picker = refl

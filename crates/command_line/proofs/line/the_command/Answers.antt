@@ -1,4 +1,4 @@
-use Rattle.std.proofs.Common.{ap, ap₂, codes, rules, true, ◌≡◌, ◌∙◌}
+use Rattle.std.proofs.Common.{ap, ap₂, rules, true, ◌≡◌, ◌∙◌}
 use Rattle.std.proofs.lemmas.Result.{IfOk-weaker}
 use Rattle.clap.specs.Simple.{app_of_fields, on_top}
 use Rattle.clap.specs.Words.{app_of, rule_of, with_rule}
