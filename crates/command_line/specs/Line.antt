@@ -1,5 +1,5 @@
 -- The command line as one simple command: options that take one value each, and files.
-use Rattle.std.specs.Prelude.{◌∷◌, [], ℕ, List, Some, true, codes}
+use Rattle.std.specs.Prelude.{ℕ, List, Some, true, codes}
 use Rattle.clap.specs.Words.{App, Rule, new_app, new_rule, with_rule}
 use Rattle.clap.specs.Simple.{on_top}
 use Rattle.clap.specs.declared.builder.ArgAction.TheVariants.{Append, Set}

@@ -2,6 +2,11 @@
 #![tactic(auto)]
 
 mod line;
+mod reading;
+mod sheets;
+mod values;
 mod words;
 
-pub use words::{Asked, DEFAULT_BUDGET, Job, MOST_MADE_UP, Named, Pick, asked, stem_of};
+pub use reading::asked;
+pub use sheets::stem_of;
+pub use words::{Asked, DEFAULT_BUDGET, Job, MOST_MADE_UP, Named, Pick};

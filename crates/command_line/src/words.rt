@@ -1,11 +1,4 @@
 // What the words of the command line ask for.
-ghost use Rattle.std.specs.Prelude.{◌≡◌, ◌≢◌, [], IfOk, IfSome, option_map};
-ghost use Rattle.command_line.specs.Read.{IsSound, asked_read};
-ghost use Rattle.command_line.specs.Words as line;
-
-use memory::Memory;
-use std::alloc::Global;
-
 /// How many units a search may spend where nothing is said.
 pub const DEFAULT_BUDGET: u64 = 100_000;
 
@@ -41,20 +34,4 @@ pub struct Job {
 pub enum Asked {
     Script(Job),
     MadeUp(u8),
-}
-
-/// What the words ask for; none where they are of another form. The words stand without the program's name.
-pub fn asked(alloc: Global, words: &[String]) -> Result<Option<Asked>, Memory>
-    ensures asked { IfOk result (λ a. option_map asked_read a ≡ line.asked_of (line.texts_of words.now)) }
-    ensures sound { IfOk result (λ a. IfSome a IsSound) }
-{
-    Err(Memory)
-}
-
-/// What stands behind the last slash and before the ending `.csv`, where that isn't empty.
-pub fn stem_of(word: &str) -> Option<&str>
-    ensures stem { option_map (λ s. s.now) result ≡ line.stem_of word.now }
-    ensures some { IfSome result (λ s. s.now ≢ []) }
-{
-    None
 }
