@@ -24,6 +24,10 @@ use Rattle.opensolver_cli.proofs.StepLaws.{takes_none}
 stepped : (rule : Rule) (old applied new : SessionState) (fields : Record) (s : Spoken) (a : Answer) → s ≡ command_of fields → Applies rule old s a applied → new ≡ once_written a applied → Step rule old (command_of fields) a new
 stepped rule old applied new fields s a is does written = (applied, subst (λ (z : Spoken). Applies rule old z a applied) is does, written)
 
+-- by a picker of this rule
+pub by_rule : (here rule : Rule) (old applied : SessionState) (s : Spoken) (a : Answer) → here ≡ rule → Applies here old s a applied → Applies rule old s a applied
+by_rule here rule old applied s a same does = subst (λ (z : Rule). Applies z old s a applied) same does
+
 -- nothing was done
 pub nothing_done : (rule : Rule) (named : Named) (old new : SessionState) (fields : Record) (w : Written) → AnswersRecord rule named old fields w w new (Err put.Memory)
 nothing_done rule named old new fields w = (inr (inr (record { files = refl; pieces = refl })), record { folder = refl; sink = refl })

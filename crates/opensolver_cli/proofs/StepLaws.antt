@@ -198,10 +198,6 @@ before_it setting m rs u v w before are nothing = record { nothing = refl; files
 abbrev pub AnsweredAt : Rule → Named → SessionState → List Record → ℕ → Written → Written → SessionState → Result Bool PutEnd → Type 0
 AnsweredAt rule named old rows i v w new r = (fields : Record) × (slice_get rows i ≡ Some fields) × AnswersRecord rule named old fields v w new r
 
-same_rule : (here first : Rule) (named : Named) (old : SessionState) (rows : List Record) (i : ℕ) (v w : Written) (new : SessionState) (r : Result Bool PutEnd) → here ≡ first → AnsweredAt here named old rows i v w new r
-    → AnsweredAt first named old rows i v w new r
-same_rule here first named old rows i v w new r is h = subst (λ (z : Rule). AnsweredAt z named old rows i v w new r) is h
-
 same_end : (rule : Rule) (named : Named) (old : SessionState) (rows : List Record) (i : ℕ) (v w : Written) (new : SessionState) (x y : PutEnd) → x ≡ y → AnsweredAt rule named old rows i v w new (Err x)
     → AnsweredAt rule named old rows i v w new (Err y)
 same_end rule named old rows i v w new x y is h = subst (λ (z : PutEnd). AnsweredAt rule named old rows i v w new (Err z)) is h
@@ -251,24 +247,23 @@ first_records job book (Some files) w s is opens =
     subst (λ (z : Session). AreAnswered (setting_of job book files) [] w w z.state false) (sym opens) (none_answered (setting_of job book files) w is)
 
 -- one more record was answered
-pub went_on : (here : Rule) (job : Job) (book : State) (content : Option Files) (m e : SessionState) (rows : List Record) (i : ℕ) (u v w : Written) (before refusal : Bool) → here ≡ rule_of job.pick → i < length rows
-    → AreAnsweredTold job book content (take i rows) u v m before → AnsweredAt here job.named m rows i v w e (Ok refusal) → e.book.sheets ≡ m.book.sheets → AreAnsweredTold job book content (take (i + 1) rows) u w e (before || refusal)
-went_on here job book None m e rows i u v w before refusal rule within are h sheets = tt
-went_on here job book (Some files) m e rows i u v w before refusal rule within are h sheets =
-    let at : AnsweredAt (rule_of job.pick) job.named m rows i v w e (Ok refusal) = same_rule here (rule_of job.pick) job.named m rows i v w e (Ok refusal) rule h in
-    next_answered (setting_of job book files) m e rows i at.0 u v w before refusal within at.1 are at.2.0 sheets
+pub went_on : (job : Job) (book : State) (content : Option Files) (m e : SessionState) (rows : List Record) (i : ℕ) (u v w : Written) (before refusal : Bool) → i < length rows
+    → AreAnsweredTold job book content (take i rows) u v m before → AnsweredAt (rule_of job.pick) job.named m rows i v w e (Ok refusal) → e.book.sheets ≡ m.book.sheets → AreAnsweredTold job book content (take (i + 1) rows) u w e (before || refusal)
+went_on job book None m e rows i u v w before refusal within are h sheets = tt
+went_on job book (Some files) m e rows i u v w before refusal within are h sheets =
+    next_answered (setting_of job book files) m e rows i h.0 u v w before refusal within h.1 are h.2.0 sheets
 
 -- no write of it failed
 pub none_failed : (here : Rule) (named : Named) (m e : SessionState) (rows : List Record) (i : ℕ) (u v w : Written) (refusal : Bool) → NoneFailed u v → AnsweredAt here named m rows i v w e (Ok refusal) → NoneFailed u w
 none_failed here named m e rows i u v w refusal kept h = none_then_none u v w kept h.2.1
 
 -- a write of it failed
-pub write_failed : (here : Rule) (job : Job) (book : State) (content : Option Files) (m e : SessionState) (rows : List Record) (i : ℕ) (u v w : Written) (before : Bool) (x : PutEnd) → here ≡ rule_of job.pick → x ≡ put.Failed → NoneFailed u v
-    → AreAnsweredTold job book content (take i rows) u v m before → AnsweredAt here job.named m rows i v w e (Err x) → IfSome content (λ files. AnswersRecords (setting_of job book files) rows u w status.WriteFault)
-write_failed here job book None m e rows i u v w before x rule failed kept are h = tt
-write_failed here job book (Some files) m e rows i u v w before x rule failed kept are h =
+pub write_failed : (job : Job) (book : State) (content : Option Files) (m e : SessionState) (rows : List Record) (i : ℕ) (u v w : Written) (before : Bool) (x : PutEnd) → x ≡ put.Failed → NoneFailed u v
+    → AreAnsweredTold job book content (take i rows) u v m before → AnsweredAt (rule_of job.pick) job.named m rows i v w e (Err x) → IfSome content (λ files. AnswersRecords (setting_of job book files) rows u w status.WriteFault)
+write_failed job book None m e rows i u v w before x failed kept are h = tt
+write_failed job book (Some files) m e rows i u v w before x failed kept are h =
     cut_by_write (setting_of job book files) m e rows i u v w before kept are
-    (same_end (rule_of job.pick) job.named m rows i v w e x put.Failed failed (same_rule here (rule_of job.pick) job.named m rows i v w e (Err x) rule h))
+    (same_end (rule_of job.pick) job.named m rows i v w e x put.Failed failed h)
 
 write_cause : (u v w : Written) (rule : Rule) (named : Named) (m e : SessionState) (r : Record) → NoneFailed u v → AnswersRecord rule named m r v w e (Err put.Failed) → IsPutFault u w status.WriteFault
 write_cause u v w rule named m e r kept (inl sink) = inl (none_then_sink u v w kept sink.1)
@@ -281,12 +276,12 @@ write_failed_cause here named m e rows i u v w x failed kept h =
     write_cause u v w here named m e at.0 kept at.2
 
 -- memory ran out at it
-pub memory_failed : (here : Rule) (job : Job) (book : State) (content : Option Files) (m e : SessionState) (rows : List Record) (i : ℕ) (u v w : Written) (before : Bool) (x : PutEnd) → here ≡ rule_of job.pick → x ≡ put.Memory
-    → AreAnsweredTold job book content (take i rows) u v m before → AnsweredAt here job.named m rows i v w e (Err x) → IfSome content (λ files. AnswersRecords (setting_of job book files) rows u w status.Memory)
-memory_failed here job book None m e rows i u v w before x rule failed are h = tt
-memory_failed here job book (Some files) m e rows i u v w before x rule failed are h =
+pub memory_failed : (job : Job) (book : State) (content : Option Files) (m e : SessionState) (rows : List Record) (i : ℕ) (u v w : Written) (before : Bool) (x : PutEnd) → x ≡ put.Memory
+    → AreAnsweredTold job book content (take i rows) u v m before → AnsweredAt (rule_of job.pick) job.named m rows i v w e (Err x) → IfSome content (λ files. AnswersRecords (setting_of job book files) rows u w status.Memory)
+memory_failed job book None m e rows i u v w before x failed are h = tt
+memory_failed job book (Some files) m e rows i u v w before x failed are h =
     cut_by_memory (setting_of job book files) m e rows i u v w before are
-    (same_end (rule_of job.pick) job.named m rows i v w e x put.Memory failed (same_rule here (rule_of job.pick) job.named m rows i v w e (Err x) rule h))
+    (same_end (rule_of job.pick) job.named m rows i v w e x put.Memory failed h)
 
 pub memory_failed_cause : (here : Rule) (named : Named) (m e : SessionState) (rows : List Record) (i : ℕ) (u v w : Written) (x : PutEnd) → x ≡ put.Memory → NoneFailed u v → AnsweredAt here named m rows i v w e (Err x) → NoneFailed u w
 memory_failed_cause here named m e rows i u v w x failed kept h = none_then_none u v w kept (same_end here named m rows i v w e x put.Memory failed h).2.1

@@ -8,7 +8,7 @@ ghost use Rattle.opensolver_cli.specs.Words.{job_read, named_of, pick_read, rule
 
 use crate::Status;
 use crate::saving::save;
-use crate::words::{Job, Named};
+use crate::words::Job;
 use node_pick::Picker;
 use session::{Command, Session, line};
 use sheet_csv::{Record, Rows};
@@ -28,7 +28,8 @@ pub(crate) fn answer_records<F: Folder, K: Sink>(
     pick: &mut Box<dyn Picker>,
 ) -> Status
     requires few { job.now.budget ≤ MOST_UNITS }
-    ensures answers { rule pick.old ≡ rule_of (pick_read job.now.pick) → IfSome (F.content folder.old) (λ files. AnswersRecords (setting_of (job_read job.now) book files) rows.now
+    requires pick { rule pick.old ≡ rule_of (pick_read job.now.pick) }
+    ensures answers { IfSome (F.content folder.old) (λ files. AnswersRecords (setting_of (job_read job.now) book files) rows.now
         (put_in (F.content folder.old) (F.write_faults folder.old) (K.pieces out.old) (K.faults out.old))
         (put_in (F.content folder.new) (F.write_faults folder.new) (K.pieces out.new) (K.faults out.new))
         result) }
@@ -44,7 +45,7 @@ pub(crate) fn answer_records<F: Folder, K: Sink>(
     };
     let mut refused = false;
     for place in 0..rows.len() {
-        match answer_record(alloc, &mut session, &job.named, rows.at(place), folder, out, pick) {
+        match answer_record(alloc, &mut session, job, rows.at(place), folder, out, pick) {
             Ok(is_refusal) => refused = refused || is_refusal,
             Err(PutEnd::Failed) => return Status::WriteFault,
             Err(PutEnd::Memory) => return Status::Memory,
@@ -61,13 +62,14 @@ pub(crate) fn answer_records<F: Folder, K: Sink>(
 fn answer_record<F: Folder, K: Sink>(
     alloc: Global,
     session: &mut Session,
-    named: &Named,
+    job: &Job,
     fields: &Record,
     folder: &mut F,
     out: &mut K,
     pick: &mut Box<dyn Picker>,
 ) -> Result<bool, PutEnd>
-    ensures answers { AnswersRecord (rule pick.old) (named_of named.now) session.old.state fields.now
+    requires pick { rule pick.old ≡ rule_of (pick_read job.now.pick) }
+    ensures answers { AnswersRecord (rule_of (pick_read job.now.pick)) (named_of job.now.named) session.old.state fields.now
         (put_in (F.content folder.old) (F.write_faults folder.old) (K.pieces out.old) (K.faults out.old))
         (put_in (F.content folder.new) (F.write_faults folder.new) (K.pieces out.new) (K.faults out.new))
         session.new.state result }
@@ -81,7 +83,7 @@ fn answer_record<F: Folder, K: Sink>(
     let Ok(answer) = session.apply(&command, pick) else {
         return Err(PutEnd::Memory);
     };
-    save(named, &answer, session, folder)?;
+    save(&job.named, &answer, session, folder)?;
     let Ok(text) = line(alloc, &answer, session.sheets()) else {
         return Err(PutEnd::Memory);
     };
