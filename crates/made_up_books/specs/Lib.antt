@@ -1,1 +1,2 @@
 pub mod MadeUp
+pub mod Putting
