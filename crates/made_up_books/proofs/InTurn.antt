@@ -101,7 +101,7 @@ unfolding with_named
 four_names s0 s1 s2 s3 s4 k1 t1 w1 k2 t2 w2 k3 t3 k4 t4 d1 d2 e1 e2 e3 e4 =
     let f1 : s1 ≡ with_named s0 ((k1, w1) ∷ []) = e1 ∙ ap (λ t. with_named s0 ((k1, t) ∷ [])) d1 in
     let f2 : s2 ≡ with_named (with_named s0 ((k1, w1) ∷ [])) ((k2, w2) ∷ []) =
-      e2 ∙ ap (λ t. with_named s1 ((k2, t) ∷ [])) d2 ∙ ap (λ s. with_named s ((k2, w2) ∷ [])) f1 in
+    e2 ∙ ap (λ t. with_named s1 ((k2, t) ∷ [])) d2 ∙ ap (λ s. with_named s ((k2, w2) ∷ [])) f1 in
     let f3 : s3 ≡ with_named s0 ((k1, w1) ∷ (k2, w2) ∷ (k3, t3) ∷ []) =
-      e3 ∙ ap (λ s. with_named s ((k3, t3) ∷ [])) f2 ∙ in_three s0 (k1, w1) (k2, w2) (k3, t3) in
+    e3 ∙ ap (λ s. with_named s ((k3, t3) ∷ [])) f2 ∙ in_three s0 (k1, w1) (k2, w2) (k3, t3) in
     e4 ∙ ap (λ s. with_named s ((k4, t4) ∷ [])) f3

@@ -1,9 +1,12 @@
 -- The whole workbook.
-use Rattle.std.proofs.Common.{◌≡◌, ◌+◌, ◌++◌, ℕ, List, [], ◌∷◌, refl, ap, ◌∙◌}
+use Rattle.std.proofs.Common.{◌≡◌, ◌++◌, ℕ, List, [], ◌∷◌, refl, ap, ◌∙◌}
 use Rattle.std.specs.Prelude.{codes}
 use Rattle.std.specs.FinMap.{empty}
+use Rattle.csv.specs.Machine.{next_record}
+use Rattle.csv.specs.Reading.{records_from, strip_bom}
+use Rattle.workbook.specs.Files.{SheetFile, state_in}
 use Rattle.workbook.specs.State.{State}
-use Rattle.made_up_books.specs.MadeUp.{TextInCell, all_cells, cost_cells, costs, demand_cells, demands, made_up, made_up_names, named_as, sent_cells, sheet_name, supply_cells, total_cell}
+use Rattle.made_up_books.specs.MadeUp.{TextInCell, all_cells, cost_cells, costs, demand_cells, demands, made_up, named_as, sent_cells, sheet_name, supply_cells, total_cell}
 use Rattle.made_up_books.specs.Putting.{demand_names, demand_pairs, number_cells, objective_names, supply_names, with_cells, with_named}
 use Rattle.made_up_books.proofs.InTurn.{Contents, cells_in_turn}
 
@@ -29,13 +32,27 @@ all_cells_are n numbers wanted s0 s1 s2 s3 s4 s5 c d e1 e2 e3 e4 e5 =
     let f2 : s2 ≡ with_cells (with_cells s0 (cost_cells n)) (sent_cells n) = e2 ∙ ap (λ s. with_cells s (sent_cells n)) f1 in
     let f3 : s3 ≡ with_cells (with_cells (with_cells s0 (cost_cells n)) (sent_cells n)) (supply_cells n) = e3 ∙ ap (λ s. with_cells s (supply_cells n)) f2 in
     let f4 : s4 ≡ with_cells (with_cells (with_cells (with_cells s0 (cost_cells n)) (sent_cells n)) (supply_cells n)) (demand_cells n) =
-      e4 ∙ ap (with_cells s3) (ap (demand_pairs n) d ∙ demands_are n) ∙ ap (λ s. with_cells s (demand_cells n)) f3 in
+    e4 ∙ ap (with_cells s3) (ap (demand_pairs n) d ∙ demands_are n) ∙ ap (λ s. with_cells s (demand_cells n)) f3 in
     e5 ∙ ap (λ s. with_cells s (total_cell n ∷ [])) f4 ∙ five s0 (cost_cells n) (sent_cells n) (supply_cells n) (demand_cells n) (total_cell n ∷ [])
 
--- ---- names
-abbrev blank : State
+-- ---- without texts and names
+abbrev pub blank : State
 blank = record { sheets = sheet_name ∷ []; contents = empty; names = [] }
 
+read_of_nothing : state_in (record { stem = sheet_name; bytes = [] } ∷ []) [] ≡ blank
+unfolding strip_bom records_from next_record
+read_of_nothing = refl
+
+pub blank_is : (files before : List SheetFile) (file : SheetFile) (stem bytes : List ℕ) (book : State) → files ≡ before ++ file ∷ [] → before ≡ []
+    → file ≡ record { stem = stem; bytes = bytes } → stem ≡ sheet_name → bytes ≡ [] → book ≡ state_in files [] → book ≡ blank
+blank_is files before file stem bytes book all first is named none opened =
+    let one : files ≡ record { stem = sheet_name; bytes = [] } ∷ [] =
+    all ∙ ap (λ fs. fs ++ file ∷ []) first ∙ ap (λ (f : SheetFile). f ∷ []) is
+    ∙ ap (λ t. (λ (f : SheetFile). f ∷ []) (record { stem = t; bytes = bytes })) named
+    ∙ ap (λ b. (λ (f : SheetFile). f ∷ []) (record { stem = sheet_name; bytes = b })) none in
+    opened ∙ ap (λ fs. state_in fs []) one ∙ read_of_nothing
+
+-- ---- names
 names_are : (contents : Contents) (sent total spent supplies got wanted : List ℕ) →
     with_named
     (with_named
@@ -47,10 +64,10 @@ names_are : (contents : Contents) (sent total spent supplies got wanted : List �
       sheets = sheet_name ∷ [];
       contents = contents;
       names =
-        named_as (codes "solver_adj") sent ∷ named_as (codes "solver_opt") total ∷ named_as (codes "solver_typ") (codes "2")
-        ∷ named_as (codes "solver_num") (codes "2") ∷ named_as (codes "solver_lhs1") spent ∷ named_as (codes "solver_rel1") (codes "1")
-        ∷ named_as (codes "solver_rhs1") supplies ∷ named_as (codes "solver_lhs2") got ∷ named_as (codes "solver_rel2") (codes "3")
-        ∷ named_as (codes "solver_rhs2") wanted ∷ [];
+          named_as (codes "solver_adj") sent ∷ named_as (codes "solver_opt") total ∷ named_as (codes "solver_typ") (codes "2")
+          ∷ named_as (codes "solver_num") (codes "2") ∷ named_as (codes "solver_lhs1") spent ∷ named_as (codes "solver_rel1") (codes "1")
+          ∷ named_as (codes "solver_rhs1") supplies ∷ named_as (codes "solver_lhs2") got ∷ named_as (codes "solver_rel2") (codes "3")
+          ∷ named_as (codes "solver_rhs2") wanted ∷ [];
     }
 unfolding with_named
 names_are contents sent total spent supplies got wanted = refl

@@ -11,7 +11,12 @@ use std::alloc::Global;
 use workbook::Workbook;
 
 /// Puts all texts into their cells.
-pub(crate) fn put_cells(alloc: Global, book: &mut Workbook, size: u16, drawn: &Drawn) -> Result<(), Memory>
+pub(crate) fn put_cells(
+    alloc: Global,
+    book: &mut Workbook,
+    size: u16,
+    drawn: &Drawn,
+) -> Result<(), Memory>
     requires listed { 0 < length book.old.sheets }
     requires some { 1 ≤ size }
     requires few { size ≤ 12 }
@@ -42,7 +47,13 @@ fn put_costs(alloc: Global, book: &mut Workbook, size: u16, costs: &[u16]) -> Re
 }
 
 // The costs of a supplier.
-fn put_cost_row(alloc: Global, book: &mut Workbook, size: u16, costs: &[u16], row: u16) -> Result<(), Memory>
+fn put_cost_row(
+    alloc: Global,
+    book: &mut Workbook,
+    size: u16,
+    costs: &[u16],
+    row: u16,
+) -> Result<(), Memory>
     requires listed { 0 < length book.old.sheets }
     requires few { size ≤ 12 }
     requires all { length costs.now ≡ size * size }
@@ -122,7 +133,13 @@ fn put_demands(alloc: Global, book: &mut Workbook, size: u16, demands: &[u16]) -
 }
 
 // Below a column of what is sent: how much that is, and what the place wants.
-fn put_demand(alloc: Global, book: &mut Workbook, size: u16, col: u16, demand: u16) -> Result<(), Memory>
+fn put_demand(
+    alloc: Global,
+    book: &mut Workbook,
+    size: u16,
+    col: u16,
+    demand: u16,
+) -> Result<(), Memory>
     requires listed { 0 < length book.old.sheets }
     requires some { 1 ≤ size }
     requires few { size ≤ 12 }
@@ -144,13 +161,24 @@ fn put_total(alloc: Global, book: &mut Workbook, size: u16) -> Result<(), Memory
 {
     let costs = area(alloc, 0, 0, size - 1, size - 1)?;
     let sent = area(alloc, size, 0, 2 * size - 1, size - 1)?;
-    put(book, 2 * size + 2, 0, &sum_of_products(alloc, &costs, &sent)?)
+    put(
+        book,
+        2 * size + 2,
+        0,
+        &sum_of_products(alloc, &costs, &sent)?,
+    )
 }
 
 // ---- one cell
 
 // Puts a number into a cell.
-fn put_number(alloc: Global, book: &mut Workbook, row: u16, col: u16, value: u16) -> Result<(), Memory>
+fn put_number(
+    alloc: Global,
+    book: &mut Workbook,
+    row: u16,
+    col: u16,
+    value: u16,
+) -> Result<(), Memory>
     requires listed { 0 < length book.old.sheets }
     ensures { OnOk result (book.new ≡ with_cells book.old (at row col (decimal value) ∷ [])) }
 {

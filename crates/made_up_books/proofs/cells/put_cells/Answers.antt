@@ -1,4 +1,4 @@
-use Rattle.std.proofs.Common.{rules, ◌≡◌, ◌<◌, ◌*◌, length, ap, ◌∙◌, arith}
+use Rattle.std.proofs.Common.{length, ap, ◌∙◌}
 use Rattle.made_up_books.proofs.Drawing.{length_of_costs, length_of_demands}
 use Rattle.made_up_books.proofs.InTurn.{listed_after}
 use Rattle.made_up_books.proofs.Whole.{all_cells_are}

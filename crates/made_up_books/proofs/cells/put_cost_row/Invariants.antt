@@ -1,6 +1,5 @@
 use Rattle.std.proofs.Common.{◌≡◌, ◌<◌, ◌+◌, ◌*◌, length, map}
-use Rattle.std.specs.Prelude.{codes, decimal, slice_index}
-use Rattle.std.specs.List.{flat_map}
+use Rattle.std.specs.Prelude.{decimal, slice_index}
 use Rattle.made_up_books.specs.MadeUp.{at, below}
 use Rattle.made_up_books.specs.Putting.{with_cells}
 use Rattle.made_up_books.proofs.cells.put_cost_row.Given as goal

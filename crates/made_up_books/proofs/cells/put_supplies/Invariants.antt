@@ -1,7 +1,6 @@
-use Rattle.std.proofs.Common.{◌≡◌, ◌<◌, ◌+◌, ◌*◌, length, map}
-use Rattle.std.specs.Prelude.{codes, decimal, slice_index}
+use Rattle.std.proofs.Common.{◌≡◌, ◌<◌, ◌+◌, length}
 use Rattle.std.specs.List.{flat_map}
-use Rattle.made_up_books.specs.MadeUp.{at, below}
+use Rattle.made_up_books.specs.MadeUp.{below}
 use Rattle.made_up_books.specs.Putting.{supply_pair, with_cells}
 use Rattle.made_up_books.proofs.cells.put_supplies.Given as goal
 

@@ -1,5 +1,4 @@
-use Rattle.std.proofs.Common.{rules, ◌≡◌, ◌<◌, length, ◌∙◌, arith}
-use Rattle.made_up_books.specs.Putting.{with_named}
+use Rattle.std.proofs.Common.{◌∙◌}
 use Rattle.made_up_books.proofs.InTurn.{listed_after_names, three_names}
 use Rattle.made_up_books.proofs.names.name_demands.Goals as goal
 
