@@ -3,12 +3,15 @@
 
 mod cells;
 mod draws;
+mod examples;
 mod names;
 mod texts;
 
 ghost use Rattle.std.specs.Prelude.{◌≡◌, ◌≤◌, ◌∷◌, [], IfOk};
 ghost use Rattle.std.specs.FinMap.{empty};
 ghost use Rattle.made_up_books.specs.MadeUp.{made_up, sheet_name};
+
+pub use examples::first_numbers;
 
 use cells::put_cells;
 use draws::Drawn;

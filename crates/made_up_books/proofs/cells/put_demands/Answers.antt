@@ -11,7 +11,7 @@ loop-col-init c = record { cells = sym (no_cells _); listed = c.requires.listed 
 
 pub loop-col-preserved : goal.loop-col-preserved
 loop-col-preserved c = record {
-  cells = rows_go_on (λ j. demand_pair c.args.size j (slice_index c.args.demands.now j)) c.args.book.now c.loop-col.book _ c.loop-col.col _ c.loop-col.invariant.cells c.in_ok-put_demand.ensures (cc);
+  cells = rows_go_on (λ j. demand_pair c.args.size j (slice_index c.args.demands.now j)) c.args.book.now c.loop-col.book _ c.loop-col.col _ c.loop-col.invariant.cells c.in_ok-put_demand.ensures (ap (λ k. demand_pair c.args.size c.loop-col.col (slice_index c.args.demands.now k)) c.from.ensures);
   listed = listed_after c.loop-col.book _ _ c.in_ok-put_demand.ensures c.loop-col.invariant.listed;
 }
 
