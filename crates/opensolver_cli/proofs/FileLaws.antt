@@ -8,7 +8,7 @@ use Rattle.solver_io.specs.Files.{Files}
 use Rattle.workbook.specs.Files.{SheetFile}
 use Rattle.opensolver_cli.specs.Findings.{and_then, file_held, sheet_files, sheets_held}
 use Rattle.opensolver_cli.specs.Inputs.{ReadsSheet, ReadsSheets}
-use Rattle.opensolver_cli.specs.Words.{stem_of, texts_of}
+use Rattle.command_line.specs.Words.{stem_of, texts_of}
 use Rattle.opensolver_cli.specs.declared.stop.End.{End}
 use Rattle.opensolver_cli.specs.declared.stop.End.TheVariants as end
 use Rattle.opensolver_cli.specs.declared.stop.Input.TheVariants as input

@@ -1,4 +1,3 @@
-pub mod WordLaws
 pub mod FileLaws
 pub mod StepLaws
 pub mod RecordLaws

@@ -17,7 +17,7 @@ use Rattle.session.specs.States.{SessionState}
 use Rattle.session.specs.Steps.{Applies, Step, once_written}
 use Rattle.opensolver_cli.specs.Answering.{AnswersRecord, IsAnswered, IsCutInFolder, IsCutOff, IsRefusedAt, IsSaved, SavesAnswer}
 use Rattle.opensolver_cli.specs.Outside.{Written, put_in}
-use Rattle.opensolver_cli.specs.Words.{Named}
+use Rattle.command_line.specs.Words.{Named}
 use Rattle.opensolver_cli.proofs.StepLaws.{takes_none}
 
 -- what a command did is the step of its record, once the files are written

@@ -12,7 +12,7 @@ use Rattle.opensolver_cli.specs.Headline.{EndsAs, EndsOver, IsCounted, IsReadFau
 use Rattle.opensolver_cli.specs.Inputs.{FindsAll, IsFaultOf, IsSourceLeft}
 use Rattle.opensolver_cli.specs.Outside.{FolderFailed, IsFolderLeft, IsScriptLeft, NoneFailed, Outside, SinkFailed, Written, written}
 use Rattle.opensolver_cli.specs.Stops.{status_of, stop_line}
-use Rattle.opensolver_cli.specs.Words.{Asked, Job, Named, Script}
+use Rattle.command_line.specs.Words.{Asked, Job, Named, Script}
 use Rattle.opensolver_cli.specs.declared.status.Status.{Status}
 use Rattle.opensolver_cli.specs.declared.status.Status.TheVariants as status
 use Rattle.opensolver_cli.specs.declared.stop.End.TheVariants as end

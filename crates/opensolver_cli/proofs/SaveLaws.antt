@@ -10,7 +10,7 @@ use Rattle.commands.specs.Saved.{SavedFile}
 use Rattle.commands.specs.declared.answer.Answer.{Answer}
 use Rattle.commands.specs.declared.answer.Answer.TheVariants as answer
 use Rattle.opensolver_cli.specs.Answering.{IsRefusedAt, SavesAnswer, SavesFiles}
-use Rattle.opensolver_cli.specs.Words.{Named}
+use Rattle.command_line.specs.Words.{Named}
 use Rattle.opensolver_cli.specs.Worlds.{with_saved, word_of}
 
 -- the folder's files with the first of these put in, where they are told

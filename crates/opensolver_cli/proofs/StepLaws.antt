@@ -20,7 +20,7 @@ use Rattle.opensolver_cli.specs.Answering.{AnswersRecord, AnswersRecords, IsAnsw
 use Rattle.opensolver_cli.specs.Courses.{AllAnswered, CutShort, EndsBefore, EndsInFolder, EndsInSink, Setting, sheets_of}
 use Rattle.opensolver_cli.specs.Headline.{setting_of}
 use Rattle.opensolver_cli.specs.Outside.{FolderFailed, NoneFailed, SinkFailed, Written}
-use Rattle.opensolver_cli.specs.Words.{Job, Named, rule_of}
+use Rattle.command_line.specs.Words.{Job, Named, rule_of}
 use Rattle.opensolver_cli.specs.Worlds.{Answered, World, files_after, lines_of, none, more, with_saved, word_of}
 use Rattle.opensolver_cli.specs.declared.status.Status.TheVariants as status
 

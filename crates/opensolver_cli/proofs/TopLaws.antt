@@ -15,7 +15,7 @@ use Rattle.workbook.specs.declared.fault.OpenFault.{OpenFault}
 use Rattle.opensolver_cli.specs.Findings.{book_in, sheet_files}
 use Rattle.opensolver_cli.specs.Inputs.{FindsAll, FindsCommands, OpensFiles, ReadsFile, ReadsRecords, ReadsScript, ReadsSheets}
 use Rattle.opensolver_cli.specs.Stops.{open_stop}
-use Rattle.opensolver_cli.specs.Words.{Named}
+use Rattle.command_line.specs.Words.{Named}
 use Rattle.opensolver_cli.specs.declared.stop.End.{End}
 use Rattle.opensolver_cli.specs.declared.stop.End.TheVariants as end
 use Rattle.opensolver_cli.specs.declared.stop.Input.TheVariants as input

@@ -9,17 +9,20 @@ use Rattle.solver_io.specs.Files.{Files, SameButTold}
 use Rattle.solver_io.specs.declared.ends.PutEnd.{PutEnd}
 use Rattle.solver_io.specs.declared.ends.PutEnd.TheVariants as put
 use Rattle.sheet_csv.specs.Sheet.{Record}
-use Rattle.commands.specs.Commands.{command_of}
+use Rattle.commands.specs.Commands.{Solve, command_of}
 use Rattle.commands.specs.Lines.{answer_text, is_refusal}
 use Rattle.commands.specs.Saved.{SavedFile}
 use Rattle.commands.specs.declared.answer.Answer.{Answer}
 use Rattle.commands.specs.declared.answer.Answer.TheVariants as answer
 use Rattle.node_pick.specs.Rules.{Rule}
-use Rattle.session.specs.States.{SessionState}
+use Rattle.command_line.specs.Words.{default_budget, depth, rule_of}
+use Rattle.made_up_books.specs.MadeUp.{made_up, sheet_name}
+use Rattle.session.specs.States.{SessionState, opened}
 use Rattle.session.specs.Steps.{Step}
 use Rattle.opensolver_cli.specs.Courses.{AllAnswered, CutShort, EndsBefore, EndsInFolder, EndsInSink, Setting}
+use Rattle.opensolver_cli.specs.MadeUp.{made_up_line, status_by}
 use Rattle.opensolver_cli.specs.Outside.{FolderFailed, NoneFailed, SinkFailed, Written}
-use Rattle.opensolver_cli.specs.Words.{Named}
+use Rattle.command_line.specs.Words.{Named}
 use Rattle.opensolver_cli.specs.Worlds.{files_after, with_saved, word_of}
 use Rattle.opensolver_cli.specs.declared.status.Status.{Status}
 use Rattle.opensolver_cli.specs.declared.status.Status.TheVariants as status
@@ -118,8 +121,10 @@ abbrev pub IsSinkFault : ℕ → ℕ → Status → Type 0
 IsSinkFault before now status.WriteFault = Rose before now
 IsSinkFault before now _ = now ≡ before
 
--- a status that comes with a line of its own
+-- a status that comes with one line
 abbrev pub IsSaid : Status → Type 0
+IsSaid status.Done = ⊤
+IsSaid status.Refused = ⊤
 IsSaid status.Usage = ⊤
 IsSaid status.Limit = ⊤
 IsSaid status.BadInput = ⊤
@@ -127,9 +132,19 @@ IsSaid _ = ⊥
 
 -- the line was printed and the status is this one, or a write failed or memory ran out
 abbrev pub Says : List ℕ → Status → Option (List (List ℕ)) → Option (List (List ℕ)) → Status → Type 0
+Says line said before after status.Done = (said ≡ status.Done) × Takes before after (line ∷ [])
+Says line said before after status.Refused = (said ≡ status.Refused) × Takes before after (line ∷ [])
 Says line said before after status.Usage = (said ≡ status.Usage) × Takes before after (line ∷ [])
 Says line said before after status.Limit = (said ≡ status.Limit) × Takes before after (line ∷ [])
 Says line said before after status.BadInput = (said ≡ status.BadInput) × Takes before after (line ∷ [])
 Says line said before after status.WriteFault = TakesSome before after line
 Says line said before after status.Memory = TakesSome before after line
 Says line said before after _ = ⊥
+
+-- ---- a workbook that is made up
+-- its sheet was solved, and the line of the answer printed, or a part of it; or memory ran out before
+abbrev pub SolvesSize : ℕ → Option (List (List ℕ)) → Option (List (List ℕ)) → Status → Type 0
+SolvesSize size before after ends =
+    ((answer : Answer) × (next : SessionState) × Step (rule_of depth) (opened (made_up size) default_budget) (Solve sheet_name) answer next
+    × Says (made_up_line size answer) (status_by (is_refusal (sheet_name ∷ []) answer)) before after ends)
+    ⊎ ((ends ≡ status.Memory) × (after ≡ before))

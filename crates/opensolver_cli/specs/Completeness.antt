@@ -5,7 +5,7 @@ use Rattle.sheet_csv.specs.Sheet.{Record}
 use Rattle.workbook.specs.State.{State}
 use Rattle.opensolver_cli.specs.Findings.{found}
 use Rattle.opensolver_cli.specs.Stops.{status_of}
-use Rattle.opensolver_cli.specs.Words.{Asked, MadeUp, Named, Script}
+use Rattle.command_line.specs.Words.{Asked, MadeUp, Named, Script}
 use Rattle.opensolver_cli.specs.declared.stop.Stop.{Stop}
 use Rattle.opensolver_cli.specs.declared.status.Status.{Status}
 use Rattle.opensolver_cli.specs.declared.status.Status.TheVariants as status
@@ -36,4 +36,4 @@ EndsForTold named _ _ ends = ends ≢ status.Usage
 abbrev pub EndsExactly : Option Asked → Option Files → Option (List ℕ) → Status → Type 0
 EndsExactly None files script ends = (ends ≡ status.Usage) ⊎ IsEarly ends
 EndsExactly (Some (Script job)) files script ends = EndsForTold job.named files script ends
-EndsExactly (Some (MadeUp size)) files script ends = ⊥
+EndsExactly (Some (MadeUp size)) files script ends = IsWhole ends ⊎ IsEarly ends

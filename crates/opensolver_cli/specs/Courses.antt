@@ -13,7 +13,7 @@ use Rattle.commands.specs.Saved.{SavedFile}
 use Rattle.session.specs.States.{SessionState}
 use Rattle.session.specs.Steps.{Step}
 use Rattle.opensolver_cli.specs.Outside.{Written}
-use Rattle.opensolver_cli.specs.Words.{Named, Pick, rule_of}
+use Rattle.command_line.specs.Words.{Named, Pick, rule_of}
 use Rattle.opensolver_cli.specs.Worlds.{World, Answers, Answered, lines_of, with_saved, word_of}
 
 -- over which files the records are answered, by which picker, and in which world they begin

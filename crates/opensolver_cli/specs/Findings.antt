@@ -11,7 +11,7 @@ use Rattle.workbook.specs.Files.{SheetFile, state_in}
 use Rattle.workbook.specs.State.{State}
 use Rattle.opensolver_cli.specs.Opening.{first_of, opening_fault, where_so}
 use Rattle.opensolver_cli.specs.Stops.{open_stop}
-use Rattle.opensolver_cli.specs.Words.{Named, stem_of}
+use Rattle.command_line.specs.Words.{Named, stem_of}
 use Rattle.opensolver_cli.specs.declared.stop.Limit.TheVariants as limit
 use Rattle.opensolver_cli.specs.declared.stop.Cause.TheVariants as cause
 use Rattle.opensolver_cli.specs.declared.stop.Input.{Input}

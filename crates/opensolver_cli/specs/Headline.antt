@@ -8,9 +8,10 @@ use Rattle.workbook.specs.State.{State}
 use Rattle.session.specs.States.{opened}
 use Rattle.opensolver_cli.specs.Courses.{AllAnswered, CutShort, EndsBefore, EndsInFolder, EndsInSink, Setting}
 use Rattle.opensolver_cli.specs.Findings.{book_in, found}
+use Rattle.opensolver_cli.specs.MadeUp.{MadeUpEnds}
 use Rattle.opensolver_cli.specs.Outside.{FolderFailed, IsFolderLeft, IsScriptLeft, NoneFailed, NothingIsSeen, Outside, Prints, PrintsSome, SinkFailed, written}
 use Rattle.opensolver_cli.specs.Stops.{status_of, stop_line}
-use Rattle.opensolver_cli.specs.Words.{Asked, Job, MadeUp, Named, Script}
+use Rattle.command_line.specs.Words.{Asked, Job, MadeUp, Named, Script}
 use Rattle.opensolver_cli.specs.declared.stop.Stop.{Stop}
 use Rattle.opensolver_cli.specs.declared.status.Status.{Status}
 use Rattle.opensolver_cli.specs.declared.status.Status.TheVariants as status
@@ -92,11 +93,11 @@ SaysUsage before after status.Memory = PrintsSome usage_line before after
 SaysUsage before after _ = ⊥
 
 -- ---- all runs
--- what a run does by what its words ask for; no words ask for a workbook that is made up yet
+-- what a run does by what its words ask for; where these ask for a workbook that is made up, neither the folder nor the script is touched
 abbrev pub RunsAs : Option Asked → Outside → Outside → Status → Type 0
 RunsAs None before after ends = SaysUsage before after ends × IsFolderLeft before after × IsScriptLeft before after
 RunsAs (Some (Script job)) before after ends = EndsOver job before.files before.left before after ends × LeavesTooMany job.named before after
-RunsAs (Some (MadeUp size)) before after ends = ⊥
+RunsAs (Some (MadeUp size)) before after ends = MadeUpEnds size before after ends × IsFolderLeft before after × IsScriptLeft before after
 
 -- ---- counts, whatever is told
 -- the folder failed, and the script wasn't touched; or the script did, and the folder didn't

@@ -8,7 +8,7 @@ use Rattle.sheet_csv.specs.Sheet.{Record, sheet_records}
 use Rattle.workbook.specs.Files.{SheetFile}
 use Rattle.workbook.specs.State.{State}
 use Rattle.opensolver_cli.specs.Findings.{book_in, file_held, found, records_in, sheet_files, sheets_held}
-use Rattle.opensolver_cli.specs.Words.{Named, stem_of}
+use Rattle.command_line.specs.Words.{Named, stem_of}
 use Rattle.cell_refs.specs.declared.limits.TheConstants.{FILE_BYTES}
 use Rattle.opensolver_cli.specs.declared.stop.End.{End}
 use Rattle.opensolver_cli.specs.declared.stop.End.TheVariants as end

@@ -1,8 +1,8 @@
-pub mod Words
 pub mod Stops
 pub mod Opening
 pub mod Findings
 pub mod Outside
+pub mod MadeUp
 pub mod Worlds
 pub mod Courses
 pub mod Headline

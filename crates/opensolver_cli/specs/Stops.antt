@@ -6,7 +6,7 @@ use Rattle.sheet_csv.specs.declared.fault.SheetFault.{SheetFault}
 use Rattle.sheet_csv.specs.declared.fault.SheetFault.TheVariants as sheet
 use Rattle.workbook.specs.declared.fault.OpenFault.{OpenFault}
 use Rattle.workbook.specs.declared.fault.OpenFault.TheVariants as fault
-use Rattle.opensolver_cli.specs.Words.{Named}
+use Rattle.command_line.specs.Words.{Named}
 use Rattle.opensolver_cli.specs.declared.status.Status.{Status}
 use Rattle.opensolver_cli.specs.declared.status.Status.TheVariants as status
 use Rattle.opensolver_cli.specs.declared.stop.Limit.{Limit}

@@ -11,7 +11,7 @@ use Rattle.commands.specs.Saved.{SavedFile}
 use Rattle.node_pick.specs.Rules.{Rule}
 use Rattle.session.specs.States.{SessionState}
 use Rattle.session.specs.Steps.{Step}
-use Rattle.opensolver_cli.specs.Words.{Named}
+use Rattle.command_line.specs.Words.{Named}
 
 pub record World : Type 0 where
   pub session : SessionState

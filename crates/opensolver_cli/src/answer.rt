@@ -4,7 +4,8 @@ ghost use Rattle.commands.specs.declared.units.TheConstants.{MOST_UNITS};
 ghost use Rattle.opensolver_cli.specs.Answering.{AnswersRecord, AnswersRecords, EndsAnswering, IsPutFault, IsSaid, IsSinkFault, Says};
 ghost use Rattle.opensolver_cli.specs.Headline.{setting_of};
 ghost use Rattle.opensolver_cli.specs.Outside.{put_in};
-ghost use Rattle.opensolver_cli.specs.Words.{job_read, named_of, pick_read, rule_of};
+ghost use Rattle.command_line.specs.Words.{rule_of};
+ghost use Rattle.command_line.specs.Read.{job_read, named_of, pick_read};
 
 use crate::Status;
 use crate::saving::save;

@@ -2,10 +2,11 @@
 ghost use Rattle.std.specs.Prelude.{◌≡◌, ◌≤◌, ◌<◌, All, IfOk, IfSome, length, string_bytes, true};
 ghost use Rattle.std.specs.FinMap.{get};
 ghost use Rattle.opensolver_cli.specs.Inputs.{CanBeOpened, EndCause, OpensFiles, ReadsFile, ReadsSheet, ReadsSheets};
-ghost use Rattle.opensolver_cli.specs.Words.{is_sheet, named_of, texts_of};
+ghost use Rattle.command_line.specs.Words.{is_sheet, texts_of};
+ghost use Rattle.command_line.specs.Read.{named_of};
 
 use crate::stop::{Cause, End, Input, Limit, Stop};
-use crate::words::{Named, stem_of};
+use command_line::{Named, stem_of};
 use cell_refs::{FILE_BYTES, SHEETS};
 use solver_io::{Folder, ReadEnd};
 use std::alloc::Global;
@@ -17,9 +18,9 @@ pub(crate) fn open_files<F: Folder>(
     named: &Named,
     folder: &mut F,
 ) -> Result<Workbook, End>
-    requires some { 0 < length named.now.sheets.now }
-    requires sheets { All (λ w. is_sheet (string_bytes w) ≡ true) named.now.sheets.now }
-    ensures many { SHEETS < length named.now.sheets.now → result ≡ Err (End.Stopped (Stop.TooMuch Limit.Sheets)) }
+    requires some { 0 < length named.now.sheets.items }
+    requires sheets { All (λ w. is_sheet (string_bytes w) ≡ true) named.now.sheets.items }
+    ensures many { SHEETS < length named.now.sheets.items → result ≡ Err (End.Stopped (Stop.TooMuch Limit.Sheets)) }
     ensures opens { IfSome (F.content folder.old) (λ files. OpensFiles (named_of named.now) files result) }
     ensures same { F.content folder.new ≡ F.content folder.old }
     ensures cause { EndCause (F.read_faults folder.old) (F.read_faults folder.new) result }
@@ -28,8 +29,8 @@ pub(crate) fn open_files<F: Folder>(
     if named.sheets.len() > SHEETS {
         return Err(End::Stopped(Stop::TooMuch(Limit::Sheets)));
     }
-    let names = read_file(alloc, folder, Input::Names, named.names)?;
-    let sheets = read_sheets(alloc, folder, named.sheets)?;
+    let names = read_file(alloc, folder, Input::Names, named.names.as_str())?;
+    let sheets = read_sheets(alloc, folder, &named.sheets)?;
     match Workbook::open(alloc, &sheets, &names) {
         Ok(book) => Ok(book),
         Err(fault) => match Stop::of_files(fault) {

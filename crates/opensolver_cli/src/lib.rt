@@ -3,12 +3,12 @@
 
 mod answer;
 mod files;
+mod made_up;
 mod saving;
 mod script;
 mod status;
 mod stop;
 mod top;
-mod words;
 
 pub use status::Status;
 pub use top::run;

@@ -3,11 +3,11 @@ ghost use Rattle.std.specs.Prelude.{◌≡◌, OnOk, option_map};
 ghost use Rattle.solver_io.specs.Bytes.{PutCause};
 ghost use Rattle.session.specs.Steps.{once_written};
 ghost use Rattle.opensolver_cli.specs.Answering.{SavesAnswer, SavesFiles};
-ghost use Rattle.opensolver_cli.specs.Words.{named_of};
+ghost use Rattle.command_line.specs.Read.{named_of};
 ghost use Rattle.opensolver_cli.specs.Worlds.{word_of};
 
-use crate::words::Named;
 use cell_refs::SheetId;
+use command_line::Named;
 use session::{Answer, SaveFile, Session};
 use solver_io::{Folder, PutEnd};
 
@@ -48,11 +48,11 @@ fn save_files<F: Folder>(
 }
 
 // The word of the file of a sheet, or of the names.
-fn word_of<'a>(named: &Named<'a>, sheet: Option<SheetId>) -> &'a str
+fn word_of(named: &Named, sheet: Option<SheetId>) -> &str
     ensures { result.now ≡ word_of (named_of named.now) (option_map (λ s. s.0) sheet) }
 {
     let Some(sheet) = sheet else {
-        return named.names;
+        return named.names.as_str();
     };
     match named.sheets.get(usize::from(sheet.0)) {
         Some(word) => word.as_str(),

@@ -2,11 +2,11 @@
 ghost use Rattle.std.specs.Prelude.{◌≡◌, ◌++◌, IfOk, OnOk, string_bytes};
 ghost use Rattle.std.specs.Fmt.{decimal};
 ghost use Rattle.opensolver_cli.specs.Stops.{cause_text, file_stop, input_text, kind_text, most_of, open_stop, status_of, stop_line, stop_text};
-ghost use Rattle.opensolver_cli.specs.Words.{named_of};
+ghost use Rattle.command_line.specs.Read.{named_of};
 
 use crate::Status;
-use crate::words::Named;
 use cell_refs::{COLUMNS, FILE_BYTES, FORMULAS, NAMES, ROWS, SHEETS, TEXT_BYTES, TEXTS};
+use command_line::Named;
 use itoa::Buffer;
 use sheet_csv::SheetFault;
 use std::alloc::{AllocError, Global};
@@ -163,11 +163,11 @@ impl Limit {
 
 impl Input {
     // The word of its file, or `script`.
-    fn text<'a>(self, named: &Named<'a>) -> &'a str
+    fn text(self, named: &Named) -> &str
         ensures { result.now ≡ input_text (named_of named.now) self }
     {
         match self {
-            Input::Names => named.names,
+            Input::Names => named.names.as_str(),
             Input::Sheet(place) => match named.sheets.get(usize::from(place)) {
                 Some(word) => word.as_str(),
                 None => "",

@@ -10,16 +10,18 @@ ghost use Rattle.opensolver_cli.specs.Headline.{IsCounted, RunsAs};
 ghost use Rattle.opensolver_cli.specs.Inputs.{FindsAll, IsFaultOf, IsSourceLeft};
 ghost use Rattle.opensolver_cli.specs.Outside.{seen};
 ghost use Rattle.opensolver_cli.specs.Stops.{status_of, stop_line};
-ghost use Rattle.opensolver_cli.specs.Words.{Script, asked_of, is_sheet, job_read, named_of, pick_read, rule_of, texts_of};
+ghost use Rattle.command_line.specs.Words.{Script, asked_of, is_sheet, rule_of, texts_of};
+ghost use Rattle.command_line.specs.Read.{job_read, named_of, pick_read};
 ghost use Rattle.opensolver_cli.specs.declared.stop.Limit.TheVariants as limit;
 ghost use Rattle.opensolver_cli.specs.declared.stop.Stop.{Stop};
 
 use crate::Status;
 use crate::answer::{answer_records, say};
 use crate::files::open_files;
+use crate::made_up::solve_made_up;
 use crate::script::read_commands;
 use crate::stop::{End, Stop};
-use crate::words::{Job, Named, Pick, job_of};
+use command_line::{Asked, Job, Named, Pick, asked};
 use node_pick::Picker;
 use sheet_csv::Rows;
 use solver_io::{Folder, Sink, Source};
@@ -50,11 +52,21 @@ pub fn run<F: Folder, S: Source, K: Sink>(
         (seen (F.content folder.new) (F.read_faults folder.new) (F.write_faults folder.new) (S.left script.new) (S.faults script.new) (K.pieces out.new) (K.faults out.new))
         result }
 {
-    let Some(job) = job_of(words) else {
-        return say(out, USAGE, Status::Usage);
+    let asked = match asked(alloc, words) {
+        Ok(Some(asked)) => asked,
+        Ok(None) => return say(out, USAGE, Status::Usage),
+        Err(_) => return Status::Memory,
     };
-    let mut pick = picked(pickers, job.pick);
-    run_job(alloc, &job, folder, script, out, &mut pick)
+    match asked {
+        Asked::Script(job) => {
+            let mut pick = picked(pickers, job.pick);
+            run_job(alloc, &job, folder, script, out, &mut pick)
+        }
+        Asked::MadeUp(size) => {
+            let mut pick = picked(pickers, Pick::Depth);
+            solve_made_up(alloc, size, out, &mut pick)
+        }
+    }
 }
 
 // The picker that is asked for; the others are let go.
@@ -79,8 +91,8 @@ fn run_job<F: Folder, S: Source, K: Sink>(
     out: &mut K,
     pick: &mut Box<dyn Picker>,
 ) -> Status
-    requires some { 0 < length job.now.named.sheets.now }
-    requires sheets { All (λ w. is_sheet (string_bytes w) ≡ true) job.now.named.sheets.now }
+    requires some { 0 < length job.now.named.sheets.items }
+    requires sheets { All (λ w. is_sheet (string_bytes w) ≡ true) job.now.named.sheets.items }
     requires few { job.now.budget ≤ MOST_UNITS }
     requires pick { rule pick.old ≡ rule_of (pick_read job.now.pick) }
     ensures headline { RunsAs (Some (Script (job_read job.now)))
@@ -108,11 +120,11 @@ fn find<F: Folder, S: Source>(
     folder: &mut F,
     script: &mut S,
 ) -> Result<(Workbook, Rows), End>
-    requires some { 0 < length named.now.sheets.now }
-    requires sheets { All (λ w. is_sheet (string_bytes w) ≡ true) named.now.sheets.now }
+    requires some { 0 < length named.now.sheets.items }
+    requires sheets { All (λ w. is_sheet (string_bytes w) ≡ true) named.now.sheets.items }
     ensures finds { IfSome (F.content folder.old) (λ files. IfSome (S.left script.old) (λ bytes. FindsAll (named_of named.now) files bytes (S.left script.new) result)) }
     ensures order { IfSome (F.content folder.old) (λ files. (stop : Stop) → book_in (named_of named.now) files ≡ Err stop → IsSourceLeft (S.left script.old) (S.left script.new) (S.faults script.old) (S.faults script.new)) }
-    ensures many { SHEETS < length named.now.sheets.now → (result ≡ Err (End.Stopped (Stop.TooMuch limit.Sheets)))
+    ensures many { SHEETS < length named.now.sheets.items → (result ≡ Err (End.Stopped (Stop.TooMuch limit.Sheets)))
         × (F.read_faults folder.new ≡ F.read_faults folder.old) × IsSourceLeft (S.left script.old) (S.left script.new) (S.faults script.old) (S.faults script.new) }
     ensures folder { F.content folder.new ≡ F.content folder.old }
     ensures writes { F.write_faults folder.new ≡ F.write_faults folder.old }

@@ -5,7 +5,7 @@ ghost use Rattle.std.specs.Prelude.{◌≡◌, IfOk, OnErr};
 ghost use Rattle.opensolver_cli.specs.Completeness.{EndsExactly};
 ghost use Rattle.opensolver_cli.specs.Headline.{IsCounted, RunsAs};
 ghost use Rattle.opensolver_cli.specs.Outside.{seen};
-ghost use Rattle.opensolver_cli.specs.Words.{asked_of, texts_of};
+ghost use Rattle.command_line.specs.Words.{asked_of, texts_of};
 
 use node_pick::{Best, Depth, Oldest, Picker};
 use opensolver_cli::{Status, run};

@@ -3,7 +3,8 @@ use Rattle.std.proofs.lemmas.Result.{err_from_is_err_and}
 use Rattle.commands.specs.Commands.{spoken}
 use Rattle.commands.specs.Lines.{answer_text}
 use Rattle.opensolver_cli.specs.Outside.{Written, put_in}
-use Rattle.opensolver_cli.specs.Words.{named_of, pick_read, rule_of}
+use Rattle.command_line.specs.Words.{rule_of}
+use Rattle.command_line.specs.Read.{named_of, pick_read}
 use Rattle.opensolver_cli.proofs.RecordLaws.{by_rule, cut_off, not_printed, not_saved, said_whole, written_off}
 use Rattle.opensolver_cli.proofs.answer.answer_record.Goals as goal
 

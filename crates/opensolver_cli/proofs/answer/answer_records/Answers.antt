@@ -1,7 +1,8 @@
 use Rattle.std.proofs.Common.{◌≡◌, ◌<◌, arith, length, refl, ◌∙◌}
 use Rattle.std.specs.Prelude.{◌||◌}
 use Rattle.opensolver_cli.specs.Outside.{Written, put_in}
-use Rattle.opensolver_cli.specs.Words.{job_read, named_of, pick_read, rule_of}
+use Rattle.command_line.specs.Words.{rule_of}
+use Rattle.command_line.specs.Read.{job_read, named_of, pick_read}
 use Rattle.opensolver_cli.proofs.StepLaws.{all_were_answered, first_records, memory_failed, none_failed, refused_before, refused_here, went_on, write_failed}
 use Rattle.opensolver_cli.proofs.answer.answer_records.Goals as goal
 use Rattle.opensolver_cli.proofs.answer.answer_records.Goals.{then-refused, else-refused}

@@ -1,6 +1,7 @@
 use Rattle.std.proofs.Common.{◌≡◌, take}
 use Rattle.opensolver_cli.specs.Outside.{NoneFailed, put_in}
-use Rattle.opensolver_cli.specs.Words.{job_read, pick_read, rule_of}
+use Rattle.command_line.specs.Words.{rule_of}
+use Rattle.command_line.specs.Read.{job_read, pick_read}
 use Rattle.opensolver_cli.proofs.StepLaws.{AreAnsweredTold}
 use Rattle.opensolver_cli.proofs.answer.answer_records.Given as goal
 

@@ -3,7 +3,7 @@ use Rattle.std.specs.Prelude.{slice_get}
 use Rattle.std.proofs.lemmas.Grind.{common_steps}
 use Rattle.std.proofs.lemmas.Result.{err_from_is_err_and}
 use Rattle.workbook.specs.Files.{SheetFile}
-use Rattle.opensolver_cli.specs.Words.{texts_of}
+use Rattle.command_line.specs.Words.{texts_of}
 use Rattle.opensolver_cli.proofs.FileLaws.{AreRead, sheets_more, sheets_read, sheets_stop, word_at}
 use Rattle.opensolver_cli.proofs.files.read_sheets.Goals as goal
 

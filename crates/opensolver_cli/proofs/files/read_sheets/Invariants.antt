@@ -1,7 +1,7 @@
 use Rattle.std.proofs.Common.{◌≡◌, IfSome, length}
 use Rattle.std.specs.Prelude.{All}
 use Rattle.opensolver_cli.specs.Inputs.{CanBeOpened}
-use Rattle.opensolver_cli.specs.Words.{texts_of}
+use Rattle.command_line.specs.Words.{texts_of}
 use Rattle.opensolver_cli.proofs.FileLaws.{AreRead}
 use Rattle.opensolver_cli.proofs.files.read_sheets.Given as goal
 

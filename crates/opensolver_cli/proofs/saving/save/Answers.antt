@@ -1,5 +1,5 @@
 use Rattle.std.proofs.lemmas.Result.{err_from_is_err_and}
-use Rattle.opensolver_cli.specs.Words.{named_of}
+use Rattle.command_line.specs.Read.{named_of}
 use Rattle.opensolver_cli.proofs.SaveLaws.{refused_answer}
 use Rattle.opensolver_cli.proofs.saving.save.Goals as goal
 

@@ -1,6 +1,6 @@
 use Rattle.std.proofs.Common.{◌<◌, ap, arith, length, ◌∙◌}
 use Rattle.std.proofs.lemmas.Result.{err_from_is_err_and}
-use Rattle.opensolver_cli.specs.Words.{named_of}
+use Rattle.command_line.specs.Read.{named_of}
 use Rattle.opensolver_cli.specs.Worlds.{word_of}
 use Rattle.opensolver_cli.proofs.SaveLaws.{next_saved, refused_at}
 use Rattle.opensolver_cli.proofs.saving.save_files.Goals as goal

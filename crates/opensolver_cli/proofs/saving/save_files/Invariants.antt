@@ -1,5 +1,5 @@
 use Rattle.std.proofs.Common.{◌≡◌}
-use Rattle.opensolver_cli.specs.Words.{named_of}
+use Rattle.command_line.specs.Read.{named_of}
 use Rattle.opensolver_cli.proofs.SaveLaws.{first_saved}
 use Rattle.opensolver_cli.proofs.saving.save_files.Given as goal
 

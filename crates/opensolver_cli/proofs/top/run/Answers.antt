@@ -1,5 +1,5 @@
 use Rattle.opensolver_cli.specs.Outside.{Outside, seen}
-use Rattle.opensolver_cli.specs.Words.{job_read}
+use Rattle.command_line.specs.Read.{job_read}
 use Rattle.opensolver_cli.proofs.RunLaws.{job_runs}
 use Rattle.opensolver_cli.proofs.top.run.Goals as goal
 

@@ -3,7 +3,7 @@ use Rattle.std.specs.Prelude.{Err}
 use Rattle.cell_refs.specs.declared.limits.TheConstants.{SHEETS}
 use Rattle.opensolver_cli.specs.Outside.{Outside, seen}
 use Rattle.opensolver_cli.specs.Stops.{stop_line}
-use Rattle.opensolver_cli.specs.Words.{job_read, named_of, pick_read}
+use Rattle.command_line.specs.Read.{job_read, named_of, pick_read}
 use Rattle.opensolver_cli.proofs.FileLaws.{length_texts}
 use Rattle.opensolver_cli.proofs.RunLaws.{IsFound, answered_counted, answered_exactly, memory_counted, memory_exactly, read_fault_counted, read_fault_exactly, run_answered, run_stopped, run_unseen, said_counted, stopped_exactly}
 use Rattle.opensolver_cli.proofs.top.run_job.Goals as goal
@@ -16,7 +16,7 @@ returns-in-Ok-clause-headline g c =
     let after : Outside = seen (g.F.Folder.content c.find.new.folder) (g.F.Folder.read_faults c.find.new.folder) (g.F.Folder.write_faults c.find.new.folder) (g.S.Source.left c.find.new.script) (g.S.Source.faults c.find.new.script) (g.K.Sink.pieces c.answer_records.new.out) (g.K.Sink.faults c.answer_records.new.out) in
     let is : IsFound named before after = record {
       order = c.in-Ok.ensures.order;
-      many = λ big. c.in-Ok.ensures.many (subst (λ (k : ℕ). SHEETS < k) (length_texts c.args.job.now.named.sheets.now) big);
+      many = λ big. c.in-Ok.ensures.many (subst (λ (k : ℕ). SHEETS < k) (length_texts c.args.job.now.named.sheets.items) big);
       same = c.in-Ok.ensures.folder;
       writes = c.in-Ok.ensures.writes;
     } in
@@ -43,7 +43,7 @@ returns-in-Err-Stopped-clause-headline g c =
     let after : Outside = seen (g.F.Folder.content c.find.new.folder) (g.F.Folder.read_faults c.find.new.folder) (g.F.Folder.write_faults c.find.new.folder) (g.S.Source.left c.find.new.script) (g.S.Source.faults c.find.new.script) (g.K.Sink.pieces c.say_stop.new.out) (g.K.Sink.faults c.say_stop.new.out) in
     let is : IsFound named before after = record {
       order = c.in-Err-Stopped.ensures.order;
-      many = λ big. c.in-Err-Stopped.ensures.many (subst (λ (k : ℕ). SHEETS < k) (length_texts c.args.job.now.named.sheets.now) big);
+      many = λ big. c.in-Err-Stopped.ensures.many (subst (λ (k : ℕ). SHEETS < k) (length_texts c.args.job.now.named.sheets.items) big);
       same = c.in-Err-Stopped.ensures.folder;
       writes = c.in-Err-Stopped.ensures.writes;
     } in
@@ -70,7 +70,7 @@ returns-in-Err-Failed-clause-headline g c =
     let after : Outside = seen (g.F.Folder.content c.find.new.folder) (g.F.Folder.read_faults c.find.new.folder) (g.F.Folder.write_faults c.find.new.folder) (g.S.Source.left c.find.new.script) (g.S.Source.faults c.find.new.script) (g.K.Sink.pieces c.args.out.now) (g.K.Sink.faults c.args.out.now) in
     let is : IsFound named before after = record {
       order = c.in-Err-Failed.ensures.order;
-      many = λ big. c.in-Err-Failed.ensures.many (subst (λ (k : ℕ). SHEETS < k) (length_texts c.args.job.now.named.sheets.now) big);
+      many = λ big. c.in-Err-Failed.ensures.many (subst (λ (k : ℕ). SHEETS < k) (length_texts c.args.job.now.named.sheets.items) big);
       same = c.in-Err-Failed.ensures.folder;
       writes = c.in-Err-Failed.ensures.writes;
     } in
@@ -96,7 +96,7 @@ returns-in-Err-Memory-clause-headline g c =
     let after : Outside = seen (g.F.Folder.content c.find.new.folder) (g.F.Folder.read_faults c.find.new.folder) (g.F.Folder.write_faults c.find.new.folder) (g.S.Source.left c.find.new.script) (g.S.Source.faults c.find.new.script) (g.K.Sink.pieces c.args.out.now) (g.K.Sink.faults c.args.out.now) in
     let is : IsFound named before after = record {
       order = c.in-Err-Memory.ensures.order;
-      many = λ big. c.in-Err-Memory.ensures.many (subst (λ (k : ℕ). SHEETS < k) (length_texts c.args.job.now.named.sheets.now) big);
+      many = λ big. c.in-Err-Memory.ensures.many (subst (λ (k : ℕ). SHEETS < k) (length_texts c.args.job.now.named.sheets.items) big);
       same = c.in-Err-Memory.ensures.folder;
       writes = c.in-Err-Memory.ensures.writes;
     } in

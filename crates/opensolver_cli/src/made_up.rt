@@ -1,0 +1,64 @@
+// The solve of a workbook that is made up.
+ghost use Rattle.std.specs.Prelude.{◌≡◌, ◌≤◌};
+ghost use Rattle.command_line.specs.Words.{depth, most_made_up, rule_of};
+ghost use Rattle.opensolver_cli.specs.Answering.{IsSinkFault, SolvesSize};
+
+use crate::Status;
+use crate::answer::say;
+use command_line::DEFAULT_BUDGET;
+use itoa::Buffer;
+use made_up_books::made_up;
+use node_pick::Picker;
+use session::{Answer, Command, Memory, Session, line};
+use solver_io::Sink;
+use std::alloc::Global;
+
+/// Solves the sheet of the workbook of this size, and prints one line.
+pub(crate) fn solve_made_up<K: Sink>(
+    alloc: Global,
+    size: u8,
+    out: &mut K,
+    pick: &mut Box<dyn Picker>,
+) -> Status
+    requires some { 1 ≤ size }
+    requires few { size ≤ most_made_up }
+    requires pick { rule pick.old ≡ rule_of depth }
+    ensures solves { SolvesSize size (K.pieces out.old) (K.pieces out.new) result }
+    ensures cause { IsSinkFault (K.faults out.old) (K.faults out.new) result }
+{
+    let Ok((text, refused)) = answer_to(alloc, size, pick) else {
+        return Status::Memory;
+    };
+    let status = if refused { Status::Refused } else { Status::Done };
+    say(out, text.as_str(), status)
+}
+
+// The line of the answer, and whether this is a refusal.
+fn answer_to(
+    alloc: Global,
+    size: u8,
+    pick: &mut Box<dyn Picker>,
+) -> Result<(String, bool), Memory> {
+    let book = made_up(alloc, size)?;
+    let mut session = Session::open(alloc, book, DEFAULT_BUDGET)?;
+    let command = Command::Solve(String::from_str(alloc, "gen")?);
+    let answer = session.apply(&command, pick)?;
+    let text = line_of(alloc, size, &answer, &session)?;
+    Ok((text, answer.is_refusal()))
+}
+
+// The line of an answer: the size comes before it.
+fn line_of(
+    alloc: Global,
+    size: u8,
+    answer: &Answer,
+    session: &Session,
+) -> Result<String, Memory> {
+    let mut text = String::from_str(alloc, "gen ")?;
+    let mut digits = Buffer::new();
+    text.push_str(digits.format(size))?;
+    text.push_str(" ")?;
+    let said = line(alloc, answer, session.sheets())?;
+    text.push_str(said.as_str())?;
+    Ok(text)
+}
