@@ -9,7 +9,7 @@ ghost use Rattle.command_line.specs.Read.{job_read, named_of, pick_read};
 
 use crate::Status;
 use crate::saving::save;
-use crate::words::Job;
+use command_line::Job;
 use node_pick::Picker;
 use session::{Command, Session, line};
 use sheet_csv::{Record, Rows};
