@@ -10,7 +10,7 @@ use Rattle.opensolver_cli.specs.Completeness.{EndsExactly, EndsFor, EndsForTold,
 use Rattle.opensolver_cli.specs.Findings.{book_in, found}
 use Rattle.opensolver_cli.specs.Headline.{EndsAs, EndsOver, IsCounted, IsReadFault, LeavesTooMany, RunsAs, SaysUsage, setting_of, usage_line}
 use Rattle.opensolver_cli.specs.Inputs.{FindsAll, IsFaultOf, IsSourceLeft}
-use Rattle.opensolver_cli.specs.Outside.{FolderFailed, IsFolderLeft, IsScriptLeft, NoneFailed, Outside, SinkFailed, Written, written}
+use Rattle.opensolver_cli.specs.Outside.{FolderFailed, IsFolderLeft, IsScriptLeft, NoneFailed, Outside, SinkFailed, Written, put_in, written}
 use Rattle.opensolver_cli.specs.Stops.{status_of, stop_line}
 use Rattle.opensolver_cli.specs.Words.{Asked, Job, Named, Script}
 use Rattle.opensolver_cli.specs.declared.status.Status.{Status}
@@ -67,6 +67,19 @@ all_answered : (job : Job) (content : Option Files) (left : Option (List ℕ)) (
 all_answered job None left before after book records r is h = tt
 all_answered job (Some files) None before after book records r is h = tt
 all_answered job (Some files) (Some script) before after book records r is h = answered job files script before after book records r is h
+
+-- the records are answered over the folder as finding has left it, which is as it was
+pub answered_over : (job : Job) (book : State) (records : List Record) (found_files files_before : Option Files) (found_writes writes : ℕ) (pieces : Option (List (List ℕ))) (faults : ℕ) (after : Written) (r : Status) → found_files ≡ files_before
+    → found_writes ≡ writes → IfSome found_files (λ files. AnswersRecords (setting_of job book files) records (put_in found_files found_writes pieces faults) after r)
+    → IfSome files_before (λ files. AnswersRecords (setting_of job book files) records (put_in files_before writes pieces faults) after r)
+answered_over job book records found_files files_before found_writes writes pieces faults after r same same_writes h =
+    subst (λ (n : ℕ). IfSome files_before (λ files. AnswersRecords (setting_of job book files) records (put_in files_before n pieces faults) after r)) same_writes
+    (subst (λ (z : Option Files). IfSome z (λ files. AnswersRecords (setting_of job book files) records (put_in z found_writes pieces faults) after r)) same h)
+
+pub fault_over : (found_files files_before : Option Files) (found_writes writes : ℕ) (pieces : Option (List (List ℕ))) (faults : ℕ) (after : Written) (r : Status) → found_files ≡ files_before → found_writes ≡ writes
+    → IsPutFault (put_in found_files found_writes pieces faults) after r → IsPutFault (put_in files_before writes pieces faults) after r
+fault_over found_files files_before found_writes writes pieces faults after r same same_writes h =
+    subst (λ (n : ℕ). IsPutFault (put_in files_before n pieces faults) after r) same_writes (subst (λ (z : Option Files). IsPutFault (put_in z found_writes pieces faults) after r) same h)
 
 pub run_answered : (job : Job) (before after : Outside) (book : State) (records : List Record) (r : Status) → IsFound job.named before after
     → IfSome before.files (λ files. IfSome before.left (λ script. FindsAll job.named files script after.left (Ok (book, records))))
