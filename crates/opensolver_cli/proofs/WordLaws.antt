@@ -1,6 +1,6 @@
 -- What stands before an ending, and behind the last slash.
-use Rattle.std.proofs.Common.{◌≡◌, ◌≢◌, ◌<◌, ◌≤◌, ◌-◌, ◌++◌, ◌∷◌, [], ℕ, suc, List, Bool, true, false, Option, Some, None, Bor, length, take, drop, get_or, refl, ap, sym, arith, inl, inr, codes, string_bytes, ◌∙◌}
-use Rattle.std.specs.Prelude.{◌==◌, ◌&&◌, All, Ok, Err, String, nat_le, nat_lt, option_map, if◌then◌else◌}
+use Rattle.std.proofs.Common.{◌≡◌, ◌≢◌, ◌<◌, ◌-◌, ◌++◌, ◌∷◌, [], ℕ, suc, List, Bool, true, false, Option, Some, None, Bor, length, take, drop, get_or, refl, ap, sym, arith, inl, inr, codes, string_bytes, ◌∙◌}
+use Rattle.std.specs.Prelude.{◌==◌, ◌&&◌, All, String, nat_le, option_map, if◌then◌else◌}
 use Rattle.std.specs.Option.{MatchOption}
 use Rattle.std.specs.List.{list_all, slice_split}
 use Rattle.std.specs.Global.{Global}
