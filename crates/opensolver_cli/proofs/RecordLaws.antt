@@ -28,10 +28,6 @@ stepped rule old applied new fields s a is does written = (applied, subst (λ (z
 pub by_rule : (here rule : Rule) (old applied : SessionState) (s : Spoken) (a : Answer) → here ≡ rule → Applies here old s a applied → Applies rule old s a applied
 by_rule here rule old applied s a same does = subst (λ (z : Rule). Applies z old s a applied) same does
 
--- nothing was done
-pub nothing_done : (rule : Rule) (named : Named) (old new : SessionState) (fields : Record) (w : Written) → AnswersRecord rule named old fields w w new (Err put.Memory)
-nothing_done rule named old new fields w = (inr (inr (record { files = refl; pieces = refl })), record { folder = refl; sink = refl })
-
 -- ---- the folder refused a file
 -- then the answer names files
 refused_files : (named : Named) (a : Answer) (before after : Option Files) (e : PutEnd) → SavesAnswer named a before after (Err e)

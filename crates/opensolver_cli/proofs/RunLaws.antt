@@ -8,9 +8,9 @@ use Rattle.workbook.specs.State.{State}
 use Rattle.opensolver_cli.specs.Answering.{AnswersRecords, EndsAnswering, IsPutFault, IsSinkFault, Says}
 use Rattle.opensolver_cli.specs.Completeness.{EndsExactly, EndsFor, EndsForTold, IsEarly, IsWhole}
 use Rattle.opensolver_cli.specs.Findings.{book_in, found}
-use Rattle.opensolver_cli.specs.Headline.{EndsAs, EndsOver, IsCounted, IsReadFault, LeavesTooMany, RunsAs, SaysUsage, setting_of, usage_line}
+use Rattle.opensolver_cli.specs.Headline.{EndsAs, EndsOver, IsCounted, IsReadFault, LeavesTooMany, RunsAs, setting_of}
 use Rattle.opensolver_cli.specs.Inputs.{FindsAll, IsFaultOf, IsSourceLeft}
-use Rattle.opensolver_cli.specs.Outside.{FolderFailed, IsFolderLeft, IsScriptLeft, NoneFailed, Outside, SinkFailed, Written, written}
+use Rattle.opensolver_cli.specs.Outside.{FolderFailed, IsFolderLeft, IsScriptLeft, NoneFailed, Outside, SinkFailed, Written, put_in, written}
 use Rattle.opensolver_cli.specs.Stops.{status_of, stop_line}
 use Rattle.command_line.specs.Words.{Asked, Job, Named, Script}
 use Rattle.opensolver_cli.specs.declared.status.Status.{Status}
@@ -67,6 +67,19 @@ all_answered : (job : Job) (content : Option Files) (left : Option (List ℕ)) (
 all_answered job None left before after book records r is h = tt
 all_answered job (Some files) None before after book records r is h = tt
 all_answered job (Some files) (Some script) before after book records r is h = answered job files script before after book records r is h
+
+-- the records are answered over the folder as finding has left it, which is as it was
+pub answered_over : (job : Job) (book : State) (records : List Record) (found_files files_before : Option Files) (found_writes writes : ℕ) (pieces : Option (List (List ℕ))) (faults : ℕ) (after : Written) (r : Status) → found_files ≡ files_before
+    → found_writes ≡ writes → IfSome found_files (λ files. AnswersRecords (setting_of job book files) records (put_in found_files found_writes pieces faults) after r)
+    → IfSome files_before (λ files. AnswersRecords (setting_of job book files) records (put_in files_before writes pieces faults) after r)
+answered_over job book records found_files files_before found_writes writes pieces faults after r same same_writes h =
+    subst (λ (n : ℕ). IfSome files_before (λ files. AnswersRecords (setting_of job book files) records (put_in files_before n pieces faults) after r)) same_writes
+    (subst (λ (z : Option Files). IfSome z (λ files. AnswersRecords (setting_of job book files) records (put_in z found_writes pieces faults) after r)) same h)
+
+pub fault_over : (found_files files_before : Option Files) (found_writes writes : ℕ) (pieces : Option (List (List ℕ))) (faults : ℕ) (after : Written) (r : Status) → found_files ≡ files_before → found_writes ≡ writes
+    → IsPutFault (put_in found_files found_writes pieces faults) after r → IsPutFault (put_in files_before writes pieces faults) after r
+fault_over found_files files_before found_writes writes pieces faults after r same same_writes h =
+    subst (λ (n : ℕ). IsPutFault (put_in files_before n pieces faults) after r) same_writes (subst (λ (z : Option Files). IsPutFault (put_in z found_writes pieces faults) after r) same h)
 
 pub run_answered : (job : Job) (before after : Outside) (book : State) (records : List Record) (r : Status) → IsFound job.named before after
     → IfSome before.files (λ files. IfSome before.left (λ script. FindsAll job.named files script after.left (Ok (book, records))))
@@ -226,45 +239,6 @@ read_fault_counted before after h writes sink pieces = record {
   write_fault = λ e. cc e;
   no_write_fault = λ _. record { folder = writes; sink = sink };
 }
-
--- ---- words of another form
--- the folder and the script are as they were
-pub record IsLeft (before after : Outside) : Type 0 where
-  pub files : after.files ≡ before.files
-  pub reads : after.folder_reads ≡ before.folder_reads
-  pub writes : after.folder_writes ≡ before.folder_writes
-  pub left : after.left ≡ before.left
-  pub script : after.script_reads ≡ before.script_reads
-
-usage_said : (before after : Outside) (r : Status) → after.files ≡ before.files → Says usage_line status.Usage before.pieces after.pieces r → SaysUsage before after r
-usage_said before after status.Usage same h = record { printed = h.1; files = same }
-usage_said before after status.WriteFault same h = record { printed = h; files = same }
-usage_said before after status.Memory same h = record { printed = h; files = same }
-usage_said before after status.Limit same h = absurd (cc h.0)
-usage_said before after status.BadInput same h = absurd (cc h.0)
-usage_said before after status.Done same h = absurd h
-usage_said before after status.Refused same h = absurd h
-usage_said before after status.ReadFault same h = absurd h
-
-usage_early : (u v : Option (List (List ℕ))) (r : Status) → Says usage_line status.Usage u v r → ((r ≡ status.Usage) ⊎ IsEarly r) × (r ≢ status.ReadFault)
-usage_early u v status.Usage h = (inl refl, λ e. cc e)
-usage_early u v status.WriteFault h = (inr tt, λ e. cc e)
-usage_early u v status.Memory h = (inr tt, λ e. cc e)
-usage_early u v status.Limit h = absurd (cc h.0)
-usage_early u v status.BadInput h = absurd (cc h.0)
-usage_early u v status.Done h = absurd h
-usage_early u v status.Refused h = absurd h
-usage_early u v status.ReadFault h = absurd h
-
-pub usage_runs : (asked : Option Asked) (before after : Outside) (r : Status) → None ≡ asked → IsLeft before after → Says usage_line status.Usage before.pieces after.pieces r → RunsAs asked before after r
-usage_runs asked before after r none is h =
-    rw (← none) (usage_said before after r is.files h, record { files = is.files; reads = is.reads; writes = is.writes }, record { left = is.left; reads = is.script })
-
-pub usage_exactly : (asked : Option Asked) (content : Option Files) (left : Option (List ℕ)) (u v : Option (List (List ℕ))) (r : Status) → None ≡ asked → Says usage_line status.Usage u v r → EndsExactly asked content left r
-usage_exactly asked content left u v r none h = rw (← none) (usage_early u v r h).0
-
-pub usage_counted : (before after : Outside) (r : Status) → IsLeft before after → Says usage_line status.Usage before.pieces after.pieces r → IsSinkFault before.sink_writes after.sink_writes r → IsCounted before after r
-usage_counted before after r is h sink = counted before after r (usage_early before.pieces after.pieces r h).1 (is.reads, is.script) (put_by_line before after r is.writes sink)
 
 -- ---- words that ask for a script
 pub job_runs : (job : Job) (asked : Option Asked) (before after : Outside) (r : Status) → Some (Script job) ≡ asked → RunsAs (Some (Script job)) before after r → RunsAs asked before after r

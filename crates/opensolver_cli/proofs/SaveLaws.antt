@@ -1,9 +1,9 @@
 -- Writing files one after the other.
-use Rattle.std.proofs.Common.{◌≡◌, ◌<◌, ◌≤◌, ◌+◌, ◌++◌, ◌∷◌, [], ℕ, zero, suc, List, Option, Some, None, length, take, get_or, refl, ap, sym, subst, arith, ◌∙◌}
+use Rattle.std.proofs.Common.{◌≡◌, ◌<◌, ◌+◌, ◌++◌, ◌∷◌, [], ℕ, zero, suc, List, Option, Some, None, length, take, get_or, refl, ap, sym, subst, arith, ◌∙◌}
 use Rattle.std.specs.Prelude.{Err, Ok, Vec, option_map, slice_get}
 use Rattle.std.specs.FinMap.{insert}
 use Rattle.std.specs.Global.{Global}
-use Rattle.std.proofs.lemmas.List.{take_more, take_all}
+use Rattle.std.proofs.lemmas.List.{take_more}
 use Rattle.solver_io.specs.Files.{Files, Puts, SameButTold}
 use Rattle.solver_io.specs.declared.ends.PutEnd.{PutEnd}
 use Rattle.commands.specs.Saved.{SavedFile}
@@ -27,11 +27,6 @@ with_more : (named : Named) (files : Files) (saved : List SavedFile) (f : SavedF
 with_more named files [] f = refl
 with_more named files (s ∷ saved) f = with_more named (insert files (word_of named s.sheet) s.bytes) saved f
 
--- none of them
-pub none_saved : (named : Named) (saved : List SavedFile) (content : Option Files) → content ≡ first_saved named saved 0 content
-none_saved named saved None = refl
-none_saved named saved (Some files) = refl
-
 -- one more of them
 one_more : (named : Named) (saved : List SavedFile) (i : ℕ) (f : SavedFile) (content : Option Files) → i < length saved → f ≡ get_or saved i f
     → option_map (λ (files : Files). insert files (word_of named f.sheet) f.bytes) (first_saved named saved i content) ≡ first_saved named saved (i + 1) content
@@ -46,10 +41,6 @@ next_saved named saved i f name bytes first before after within is name_is bytes
     puts ∙ ap (λ (z : List ℕ). option_map (λ (files : Files). insert files z bytes) before) name_is
     ∙ ap (λ (z : List ℕ). option_map (λ (files : Files). insert files (word_of named f.sheet) z) before) bytes_are
     ∙ ap (option_map (λ (files : Files). insert files (word_of named f.sheet) f.bytes)) so_far ∙ one_more named saved i f first within is
-
--- all of them
-pub all_saved : (named : Named) (saved : List SavedFile) (i : ℕ) (first after : Option Files) → length saved ≤ i → after ≡ first_saved named saved i first → SavesFiles named saved first after (Ok tt)
-all_saved named saved i first after long so_far = so_far ∙ ap (λ (z : List SavedFile). option_map (λ (files : Files). with_saved named files z) first) (take_all i saved long)
 
 -- one is refused
 pub refused_at : (named : Named) (saved : List SavedFile) (i : ℕ) (f : SavedFile) (name bytes : List ℕ) (first before after : Option Files) (e : PutEnd) → i < length saved → f ≡ get_or saved i f → name ≡ word_of named f.sheet

@@ -1,5 +1,5 @@
 -- Answering record by record.
-use Rattle.std.proofs.Common.{◌≡◌, ◌<◌, ◌≤◌, ◌+◌, ◌++◌, ◌∷◌, [], ℕ, zero, suc, List, Option, Some, None, IfSome, arith, length, take, get_or, refl, ap, sym, subst, append_assoc, inl, inr, ◌∙◌}
+use Rattle.std.proofs.Common.{◌≡◌, ◌<◌, ◌≤◌, ◌+◌, ◌++◌, ◌∷◌, [], ℕ, zero, suc, List, Option, Some, None, IfSome, length, take, get_or, refl, ap, sym, subst, append_assoc, inl, inr, ◌∙◌}
 use Rattle.std.specs.Prelude.{Bool, true, false, ◌||◌, Result, Ok, Err, option_map, slice_get, ◌⊎◌}
 use Rattle.std.specs.List.{list_any}
 use Rattle.std.proofs.lemmas.List.{append-nil, take_more, take_all, map-append}
@@ -16,7 +16,7 @@ use Rattle.commands.specs.declared.answer.Answer.{Answer}
 use Rattle.node_pick.specs.Rules.{Rule}
 use Rattle.session.specs.States.{Session, SessionState, opened}
 use Rattle.session.specs.Steps.{Step}
-use Rattle.opensolver_cli.specs.Answering.{AnswersRecord, AnswersRecords, IsAnswered, IsCutInFolder, IsCutOff, IsPutFault, IsSaved, NothingIsWritten}
+use Rattle.opensolver_cli.specs.Answering.{AnswersRecord, AnswersRecords, IsAnswered, IsCutInFolder, IsCutOff, IsSaved, NothingIsWritten}
 use Rattle.opensolver_cli.specs.Courses.{AllAnswered, CutShort, EndsBefore, EndsInFolder, EndsInSink, Setting, sheets_of}
 use Rattle.opensolver_cli.specs.Headline.{setting_of}
 use Rattle.opensolver_cli.specs.Outside.{FolderFailed, NoneFailed, SinkFailed, Written}
@@ -173,7 +173,7 @@ in_folder setting m rs r u v w before are off =
     let at = off.refused in
     let name = word_of setting.named at.file.sheet in
     let others : SameButTold (Some (with_saved setting.named are.reached (take at.done off.saved.items))) w.files name =
-        subst (λ (z : Option Files). SameButTold (option_map (λ (files : Files). with_saved setting.named files (take at.done off.saved.items)) z) w.files name) are.files_are at.others
+    subst (λ (z : Option Files). SameButTold (option_map (λ (files : Files). with_saved setting.named files (take at.done off.saved.items)) z) w.files name) are.files_are at.others
     in
     let is = told (with_saved setting.named are.reached (take at.done off.saved.items)) w.files name others in
     record {
@@ -206,11 +206,17 @@ same_end rule named old rows i v w new x y is h = subst (λ (z : PutEnd). Answer
 cut_by_write : (setting : Setting) (m e : SessionState) (rows : List Record) (i : ℕ) (u v w : Written) (before : Bool) → NoneFailed u v → AreAnswered setting (take i rows) u v m before
     → AnsweredAt (rule_of setting.pick) setting.named m rows i v w e (Err put.Failed) → AnswersRecords setting rows u w status.WriteFault
 cut_by_write setting m e rows i u v w before kept are (r, there, inl sink) =
-    inl (cut (λ x fields part. EndsInSink setting x fields part w.files) setting m rows i r u v w before (part_of sink.0.printed.0 (answer_text m.book.sheets sink.0.answer)) there are
-    (in_sink setting m (take i rows) r u v w before are sink.0) sink.0.printed.2, none_then_sink u v w kept sink.1)
+    inl (
+      cut (λ x fields part. EndsInSink setting x fields part w.files) setting m rows i r u v w before (part_of sink.0.printed.0 (answer_text m.book.sheets sink.0.answer)) there are
+          (in_sink setting m (take i rows) r u v w before are sink.0) sink.0.printed.2,
+      none_then_sink u v w kept sink.1,
+    )
 cut_by_write setting m e rows i u v w before kept are (r, there, inr folder) =
-    inr (cut (λ x fields part. EndsInFolder setting x fields part w.files) setting m rows i r u v w before [] there are
-    (in_folder setting m (take i rows) r u v w before are folder.0) (takes_same v.pieces w.pieces folder.0.printed), none_then_folder u v w kept folder.1)
+    inr (
+      cut (λ x fields part. EndsInFolder setting x fields part w.files) setting m rows i r u v w before [] there are
+          (in_folder setting m (take i rows) r u v w before are folder.0) (takes_same v.pieces w.pieces folder.0.printed),
+      none_then_folder u v w kept folder.1,
+    )
 
 -- memory ran out
 cut_by_memory : (setting : Setting) (m e : SessionState) (rows : List Record) (i : ℕ) (u v w : Written) (before : Bool) → AreAnswered setting (take i rows) u v m before
@@ -265,16 +271,6 @@ write_failed job book (Some files) m e rows i u v w before x failed kept are h =
     cut_by_write (setting_of job book files) m e rows i u v w before kept are
     (same_end (rule_of job.pick) job.named m rows i v w e x put.Failed failed h)
 
-write_cause : (u v w : Written) (rule : Rule) (named : Named) (m e : SessionState) (r : Record) → NoneFailed u v → AnswersRecord rule named m r v w e (Err put.Failed) → IsPutFault u w status.WriteFault
-write_cause u v w rule named m e r kept (inl sink) = inl (none_then_sink u v w kept sink.1)
-write_cause u v w rule named m e r kept (inr folder) = inr (none_then_folder u v w kept folder.1)
-
-pub write_failed_cause : (here : Rule) (named : Named) (m e : SessionState) (rows : List Record) (i : ℕ) (u v w : Written) (x : PutEnd) → x ≡ put.Failed → NoneFailed u v → AnsweredAt here named m rows i v w e (Err x)
-    → IsPutFault u w status.WriteFault
-write_failed_cause here named m e rows i u v w x failed kept h =
-    let at = same_end here named m rows i v w e x put.Failed failed h in
-    write_cause u v w here named m e at.0 kept at.2
-
 -- memory ran out at it
 pub memory_failed : (job : Job) (book : State) (content : Option Files) (m e : SessionState) (rows : List Record) (i : ℕ) (u v w : Written) (before : Bool) (x : PutEnd) → x ≡ put.Memory
     → AreAnsweredTold job book content (take i rows) u v m before → AnsweredAt (rule_of job.pick) job.named m rows i v w e (Err x) → IfSome content (λ files. AnswersRecords (setting_of job book files) rows u w status.Memory)
@@ -283,17 +279,9 @@ memory_failed job book (Some files) m e rows i u v w before x failed are h =
     cut_by_memory (setting_of job book files) m e rows i u v w before are
     (same_end (rule_of job.pick) job.named m rows i v w e x put.Memory failed h)
 
-pub memory_failed_cause : (here : Rule) (named : Named) (m e : SessionState) (rows : List Record) (i : ℕ) (u v w : Written) (x : PutEnd) → x ≡ put.Memory → NoneFailed u v → AnsweredAt here named m rows i v w e (Err x) → NoneFailed u w
-memory_failed_cause here named m e rows i u v w x failed kept h = none_then_none u v w kept (same_end here named m rows i v w e x put.Memory failed h).2.1
-
 -- none is left
 pub all_were_answered : (job : Job) (book : State) (content : Option Files) (m : SessionState) (rows : List Record) (i : ℕ) (u v : Written) (refused all : Bool) → refused ≡ all → length rows ≤ i
     → AreAnsweredTold job book content (take i rows) u v m refused → IfSome content (λ files. AllAnswered (setting_of job book files) rows u v all)
 all_were_answered job book None m rows i u v refused all is long are = tt
 all_were_answered job book (Some files) m rows i u v refused all is long are =
     subst (λ (b : Bool). AllAnswered (setting_of job book files) rows u v b) is (all_answered (setting_of job book files) m rows i u v refused long are)
-
--- memory ran out before the first of them
-pub nothing_answered : (job : Job) (book : State) (content : Option Files) (rows : List Record) (w : Written) → IfSome content (λ files. AnswersRecords (setting_of job book files) rows w w status.Memory)
-nothing_answered job book None rows w = tt
-nothing_answered job book (Some files) rows w = inl (record { files = refl; pieces = refl })
