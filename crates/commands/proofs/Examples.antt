@@ -1,6 +1,7 @@
--- Small examples of records, addresses, cells and lines.
-use Rattle.std.proofs.Common.{◌≡◌, ℕ, List, [], ◌∷◌, codes, refl}
-use Rattle.std.specs.Prelude.{Some, None, Result, Ok, Err, false, true, pos, neg_ℤ}
+-- Small examples of records, addresses, cells, numbers of units and lines.
+use Rattle.std.proofs.Common.{◌≡◌, ℕ, List, [], ◌∷◌, Option, codes, refl}
+use Rattle.std.specs.Prelude.{Some, None, Result, Ok, Err, Vec, false, true, pos, neg_ℤ}
+use Rattle.std.specs.Global.{Global}
 use Rattle.std.specs.Fmt.{digits}
 use Rattle.cell_refs.specs.declared.cell.Cell.{Cell}
 use Rattle.sheet_model.specs.declared.value.Value.TheVariants as value
@@ -10,10 +11,11 @@ use Rattle.form_needs.specs.declared.refusal.FormRefusal.TheVariants as form
 use Rattle.commands.specs.declared.answer.Answer.TheVariants as answer
 use Rattle.commands.specs.declared.answer.Answer.{Answer}
 use Rattle.commands.specs.Addresses.{Address, address_in}
-use Rattle.commands.specs.Commands.{Model, Set, Show, Unknown, command_of}
+use Rattle.commands.specs.Commands.{Budget, Model, Name, Save, Set, Show, Unknown, Unname, command_of}
 use Rattle.commands.specs.Lines.{answer_text}
 use Rattle.commands.specs.Refusals.{pivot_text}
-use Rattle.commands.specs.Locating.{cell_named}
+use Rattle.commands.specs.Locating.{cell_named, sheet_or_book, units_named}
+use Rattle.commands.specs.Saved.{SavedFile}
 
 -- ---- records
 a_set : command_of (codes "set" ∷ codes "plan!A2" ∷ codes "7" ∷ []) ≡ Set (codes "plan!A2") (codes "7")
@@ -30,6 +32,24 @@ in_capitals = refl
 
 a_field_too_few : command_of (codes "set" ∷ codes "plan!A2" ∷ []) ≡ Unknown
 a_field_too_few = refl
+
+a_name : command_of (codes "name" ∷ codes "plan" ∷ codes "solver_opt" ∷ codes "=$C$1" ∷ []) ≡ Name (codes "plan") (codes "solver_opt") (codes "=$C$1")
+a_name = refl
+
+a_removed_name : command_of (codes "unname" ∷ [] ∷ codes "rate" ∷ []) ≡ Unname [] (codes "rate")
+a_removed_name = refl
+
+a_budget : command_of (codes "budget" ∷ codes "1000" ∷ []) ≡ Budget (codes "1000")
+a_budget = refl
+
+a_save : command_of (codes "save" ∷ []) ≡ Save
+a_save = refl
+
+a_save_of_a_sheet : command_of (codes "save" ∷ codes "plan" ∷ []) ≡ Unknown
+a_save_of_a_sheet = refl
+
+no_field : command_of [] ≡ Unknown
+no_field = refl
 
 -- ---- addresses
 at : List ℕ → ℕ → ℕ → Address
@@ -71,6 +91,41 @@ the_sheet_first : named (codes "nosuch!A0") ≡ Err answer.UnknownSheet
 unfolding named sheets
 the_sheet_first = refl
 
+-- ---- sheets
+home : List ℕ → Result (Option ℕ) Answer
+home text = sheet_or_book sheets text
+
+the_second_sheet : home (codes "MY PLAN") ≡ Ok (Some 1)
+unfolding home sheets
+the_second_sheet = refl
+
+the_whole_workbook : home [] ≡ Ok None
+unfolding home sheets
+the_whole_workbook = refl
+
+no_such_sheet : home (codes "nosuch") ≡ Err answer.UnknownSheet
+unfolding home sheets
+no_such_sheet = refl
+
+-- ---- numbers of units
+no_units : units_named (codes "0") ≡ Err answer.BadNumber
+no_units = refl
+
+the_most_units : units_named (codes "1000000") ≡ Ok 1000000
+the_most_units = refl
+
+one_too_many : units_named (codes "1000001") ≡ Err answer.BadNumber
+one_too_many = refl
+
+zeros_in_front : units_named (codes "007") ≡ Ok 7
+zeros_in_front = refl
+
+a_sign : units_named (codes "+5") ≡ Err answer.BadNumber
+a_sign = refl
+
+no_digits : units_named [] ≡ Err answer.BadNumber
+no_digits = refl
+
 -- ---- lines
 no_objective : answer_text [] (answer.Optimal None) ≡ codes "optimal\n"
 no_objective = refl
@@ -81,6 +136,16 @@ a_text = refl
 a_wide_cell : answer_text (codes "My Plan" ∷ []) (answer.WideCell (record { sheet = record { 0 = 0 }; row = 1; col = 27 })) ≡ codes "refused wide 'My Plan'!AB2\n"
 unfolding digits
 a_wide_cell = refl
+
+no_number : answer_text [] answer.BadNumber ≡ codes "refused bad-number\n"
+no_number = refl
+
+a_file : SavedFile
+a_file = record { sheet = None; bytes = codes "x\n" }
+
+two_files : (files : Vec SavedFile Global) → files.items ≡ a_file ∷ a_file ∷ [] → answer_text [] (answer.ToSave files) ≡ codes "saved 2\n"
+unfolding digits
+two_files files two = rw two refl
 
 -- ---- refusals with parts
 cell : ℕ → ℕ → Cell

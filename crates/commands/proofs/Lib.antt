@@ -4,4 +4,5 @@ pub mod Marks
 pub mod Saying
 pub mod Spelled
 pub mod Unspelled
+pub mod Numbers
 mod Examples

@@ -42,12 +42,16 @@ abbrev pub sheet_or_book : List (List ℕ) → List ℕ → Result (Option ℕ) 
 sheet_or_book sheets name = or_unknown (sheet_in sheets name)
 
 -- ---- numbers of units
-abbrev pub units_within : ℕ → Option ℕ
-units_within n = if nat_le 1 n && nat_le n MOST_UNITS then Some n else None
+abbrev pub within : ℕ → ℕ → Option ℕ
+within most n = if nat_le 1 n && nat_le n most then Some n else None
 
 -- a whole number in digits, from 1 on and no more than the most
+abbrev pub number_up_to : ℕ → List ℕ → Option ℕ
+number_up_to most text = if is_number text then within most (digits_value 10 text) else None
+
+-- how many units a search may spend
 abbrev pub units_in : List ℕ → Option ℕ
-units_in text = if is_number text then units_within (digits_value 10 text) else None
+units_in text = number_up_to MOST_UNITS text
 
 abbrev pub or_bad : Option ℕ → Result ℕ Answer
 or_bad (Some n) = Ok n

@@ -40,7 +40,9 @@ impl Command {
             4 => Command::with_three(
                 alloc,
                 fields.text(0),
-                (fields.text(1), fields.text(2), fields.text(3)),
+                fields.text(1),
+                fields.text(2),
+                fields.text(3),
             ),
             _ => Ok(Command::Unknown),
         }
@@ -99,14 +101,20 @@ impl Command {
     }
 
     // The command of a word and three texts behind it.
-    fn with_three(alloc: Global, word: &str, texts: (&str, &str, &str)) -> Result<Command, Memory>
-        ensures command { IfOk result (λ c. spoken c ≡ in_table word.now (λ x y z. Unknown) with_three texts.0.now texts.1.now texts.2.now) }
-        ensures memory { OnErr result (HasText (in_table word.now (λ x y z. Unknown) with_three texts.0.now texts.1.now texts.2.now)) }
+    fn with_three(
+        alloc: Global,
+        word: &str,
+        first: &str,
+        second: &str,
+        third: &str,
+    ) -> Result<Command, Memory>
+        ensures command { IfOk result (λ c. spoken c ≡ in_table word.now (λ x y z. Unknown) with_three first.now second.now third.now) }
+        ensures memory { OnErr result (HasText (in_table word.now (λ x y z. Unknown) with_three first.now second.now third.now)) }
     {
         if word == "name" {
-            let first = String::from_str(alloc, texts.0)?;
-            let second = String::from_str(alloc, texts.1)?;
-            let third = String::from_str(alloc, texts.2)?;
+            let first = String::from_str(alloc, first)?;
+            let second = String::from_str(alloc, second)?;
+            let third = String::from_str(alloc, third)?;
             return Ok(Command::Name(first, second, third));
         }
         Ok(Command::Unknown)

@@ -18,4 +18,4 @@ pub use lines::line;
 pub use locating::locate;
 pub use save_file::SaveFile;
 pub use sheet_model::Memory;
-pub use units::{MOST_UNITS, units_in};
+pub use units::{MOST_UNITS, number_up_to, units_in};

@@ -3,6 +3,7 @@ use Rattle.std.specs.Prelude.{◌≡◌, ℕ, List}
 use Rattle.std.specs.FinMap.{from_entries, get}
 use Rattle.csv.specs.Reading.{strip_bom}
 use Rattle.cell_refs.specs.declared.cell.Cell.{Cell}
+use Rattle.cell_refs.specs.Cells.{cell_cmp}
 use Rattle.recalculation.specs.Entries.{Contents}
 use Rattle.sheet_csv.specs.Saved.{first_text}
 use Rattle.sheet_csv.specs.Sheet.{sheet_records}
@@ -13,7 +14,7 @@ use Rattle.saved_sheets.specs.Saving.{saved_rows, sheet_bytes}
 -- the contents of a sheet are those of a list of records
 abbrev pub AreContentsOf : Contents → ℕ → List (List (List ℕ)) → Type 0
 AreContentsOf contents sheet records =
-    (cell : Cell) → cell.sheet.0 ≡ sheet → get (from_entries (texts_in_records sheet 0 records)) cell ≡ get contents cell
+    (cell : Cell) → cell.sheet.0 ≡ sheet → get (from_entries {R = cell_cmp} (texts_in_records sheet 0 records)) cell ≡ get contents cell
 
 -- the text in the first cell of the sheet begins with no byte order mark, which a reader would drop
 abbrev pub IsUnmarked : State → ℕ → Type 0

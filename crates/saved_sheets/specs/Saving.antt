@@ -1,6 +1,6 @@
 -- The records under which a sheet is saved: one for each row down to the last row with a text, each to its last text; a row without
 -- texts is one empty field.
-use Rattle.std.specs.Prelude.{ℕ, zero, suc, ◌==◌, ◌&&◌, Bool, max, List, [], ◌∷◌, map, filter}
+use Rattle.std.specs.Prelude.{ℕ, zero, suc, ◌==◌, ◌&&◌, max, List, [], ◌∷◌, map, filter}
 use Rattle.std.specs.FinMap.{entries}
 use Rattle.std.specs.List.{range_with_len}
 use Rattle.cell_refs.specs.declared.cell.Cell.{Cell}

@@ -5,6 +5,11 @@ ghost use Rattle.std.specs.Prelude.{◌≡◌, ◌<◌, IfOk, OnOk, length};
 ghost use Rattle.saved_sheets.specs.Laws.{ReadsBack};
 ghost use Rattle.saved_sheets.specs.Saving.{name_bytes, saved_rows, sheet_bytes};
 
+mod fields;
+mod widths;
+
+use crate::fields::add_row;
+use crate::widths::used_widths;
 use cell_refs::SheetId;
 use memory::Memory;
 use sheet_csv::{Rows, write_sheet};
@@ -17,6 +22,7 @@ pub fn sheet_file(alloc: Global, book: &Workbook, sheet: SheetId) -> Result<Vec<
     ensures bytes { IfOk result (λ bytes. bytes.items ≡ sheet_bytes book.now sheet.0) }
     ensures reads_back { OnOk result (ReadsBack book.now sheet.0) }
 {
+    book.texts_are_some();
     let rows = sheet_rows(alloc, book, sheet)?;
     let mut bytes = Vec::new(alloc);
     write_sheet(alloc, &rows, &mut bytes)?;
@@ -38,5 +44,11 @@ pub fn sheet_rows(alloc: Global, book: &Workbook, sheet: SheetId) -> Result<Rows
     requires listed { sheet.0 < length book.now.sheets }
     ensures { IfOk result (λ rows. rows ≡ saved_rows book.now.contents sheet.0) }
 {
-    Err(Memory)
+    let widths = used_widths(alloc, book, sheet)?;
+    let mut rows = Rows::new(alloc);
+    for row in 0..widths.len() as u16 {
+        let columns = widths[usize::from(row)];
+        add_row(alloc, book, sheet, row, columns, &mut rows)?;
+    }
+    Ok(rows)
 }

@@ -1,3 +1,4 @@
 pub mod Wide
 pub mod Said
 pub mod Ends
+pub mod Naming

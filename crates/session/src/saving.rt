@@ -36,8 +36,9 @@ impl Session {
         ensures { IfOk result (λ files. files.items ≡ changed_from self.now.state.book 0 self.now.state.changed.sheets) }
     {
         let mut files = Vec::new(self.alloc);
-        for (place, changed) in self.changed_sheets.iter().enumerate() {
-            if *changed {
+        for place in 0..self.book.sheets().len() {
+            let changed = self.changed_sheets[place];
+            if changed {
                 let sheet = SheetId(place as u8);
                 let bytes = sheet_file(self.alloc, &self.book, sheet)?;
                 files.push(SaveFile::new(Some(sheet), bytes))?;

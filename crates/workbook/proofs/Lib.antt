@@ -4,6 +4,7 @@ pub mod Counting
 pub mod NameLaws
 pub mod Gathering
 pub mod Keeping
+pub mod Filled
 pub mod Filling
 pub mod Listing
 pub mod OpenLaws
@@ -14,3 +15,4 @@ pub mod OneWay
 pub mod Exchanges
 pub mod Restored
 pub mod Severally
+pub mod NameEdits

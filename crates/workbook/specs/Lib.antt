@@ -12,6 +12,7 @@ pub mod Room
 pub mod Gathered
 pub mod Opened
 pub mod Listed
+pub mod Filled
 pub mod Replacing
 pub mod Determined
 pub mod Exchanging

@@ -1,5 +1,6 @@
 // Edits of names.
-ghost use Rattle.std.specs.Prelude.{◌≡◌, ◌<◌, IfOk, IfSome, length, option_map};
+ghost use Rattle.std.specs.Prelude.{◌≡◌, ◌<◌, ◌+◌, if◌then◌else◌, IfOk, IfSome, length, nat_lt, option_map};
+ghost use Rattle.cell_refs.specs.declared.limits.TheConstants.{NAMES};
 ghost use Rattle.workbook.specs.Naming.{Names, Unnames, name_fault, unname_fault};
 ghost use Rattle.workbook.specs.Saving.{saved_names};
 
@@ -56,10 +57,21 @@ impl Workbook {
             return Some(EditFault::FieldTooLong);
         }
         let is_there = self.names().find(sheet, name).is_some();
-        if !is_there && self.names().len() >= NAMES {
+        if is_full(self.names().len(), is_there) {
             return Some(EditFault::TooManyNames);
         }
         None
+    }
+}
+
+// Whether there would be too many names with one that is there or comes to them.
+fn is_full(count: usize, is_there: bool) -> bool
+    ensures { result ≡ nat_lt NAMES (if is_there then count else count + 1) }
+{
+    if is_there {
+        count > NAMES
+    } else {
+        count >= NAMES
     }
 }
 

@@ -30,6 +30,8 @@ use std::marker::Model;
 use std::mem::drop;
 use std::ops::Bound;
 
+mod laws;
+
 /// The sheets of a workbook, the texts of their cells, and the names.
 #[derive(Drop)]
 pub struct Workbook {

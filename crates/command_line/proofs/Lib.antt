@@ -1,0 +1,2 @@
+pub mod SheetLaws
+mod Examples

@@ -1,0 +1,4 @@
+pub mod Line
+pub mod Words
+pub mod Read
+pub mod Given
