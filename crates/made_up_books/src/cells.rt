@@ -185,7 +185,7 @@ fn put_number(
     put(book, row, col, &number(alloc, value)?)
 }
 
-// Puts a text into a cell of the first sheet. The workbook has room for all of them, so that memory alone can be wanting.
+// Puts a text into a cell of the first sheet. Each fault is told as want of memory: none else comes of so few texts, which are short.
 fn put(book: &mut Workbook, row: u16, col: u16, text: &str) -> Result<(), Memory>
     requires listed { 0 < length book.old.sheets }
     requires some { text.now ≢ [] }

@@ -11,10 +11,9 @@ ghost use Rattle.std.specs.Prelude.{◌≡◌, ◌≤◌, ◌∷◌, [], IfOk};
 ghost use Rattle.std.specs.FinMap.{empty};
 ghost use Rattle.made_up_books.specs.MadeUp.{made_up, sheet_name};
 
-pub use examples::first_numbers;
-
 use cells::put_cells;
 use draws::Drawn;
+pub use examples::first_numbers;
 use memory::Memory;
 use names::{name_demands, name_objective, name_supplies};
 use std::alloc::Global;

@@ -54,7 +54,7 @@ pub(crate) fn name_demands(alloc: Global, book: &mut Workbook, size: u16) -> Res
     Ok(())
 }
 
-// Gives a name of the first sheet a text. The workbook has room for all of them, so that memory alone can be wanting.
+// Gives a name of the first sheet a text. Each fault is told as want of memory: none else comes of so few names, which are short.
 fn name(book: &mut Workbook, name: &str, text: &str) -> Result<(), Memory>
     requires listed { 0 < length book.old.sheets }
     ensures { OnOk result (book.new ≡ with_named book.old ((name.now, text.now) ∷ [])) }
