@@ -1,18 +1,16 @@
 -- How a run ends over the files that the words name.
 use Rattle.std.proofs.Common.{◌≡◌, ◌≢◌, ◌<◌, [], ℕ, List, Option, Some, None, IfSome, length, refl, sym, subst, inl, inr}
 use Rattle.std.specs.Prelude.{Result, Ok, Err, ◌⊎◌}
-use Rattle.std.specs.FinMap.{empty}
 use Rattle.cell_refs.specs.declared.limits.TheConstants.{SHEETS}
-use Rattle.solver_io.specs.Causes.{Rose}
 use Rattle.solver_io.specs.Files.{Files}
 use Rattle.sheet_csv.specs.Sheet.{Record}
 use Rattle.workbook.specs.State.{State}
-use Rattle.opensolver_cli.specs.Answering.{AnswersRecords, IsSinkFault, Says}
+use Rattle.opensolver_cli.specs.Answering.{AnswersRecords, EndsAnswering, IsPutFault, IsSinkFault, Says}
 use Rattle.opensolver_cli.specs.Completeness.{EndsExactly, EndsFor, EndsForTold, IsEarly, IsWhole}
 use Rattle.opensolver_cli.specs.Findings.{book_in, found}
-use Rattle.opensolver_cli.specs.Headline.{EndsAs, EndsOver, IsCounted, IsReadFault, LeavesTooMany, RunsAs, SaysUsage, setting_of, usage_line}
+use Rattle.opensolver_cli.specs.Headline.{EndsAs, EndsOver, IsCounted, IsReadFault, LeavesTooMany, RunsAs, setting_of}
 use Rattle.opensolver_cli.specs.Inputs.{FindsAll, IsFaultOf, IsSourceLeft}
-use Rattle.opensolver_cli.specs.Outside.{IsScriptLeft, Outside}
+use Rattle.opensolver_cli.specs.Outside.{FolderFailed, IsFolderLeft, IsScriptLeft, NoneFailed, Outside, SinkFailed, Written, put_in, written}
 use Rattle.opensolver_cli.specs.Stops.{status_of, stop_line}
 use Rattle.opensolver_cli.specs.Words.{Asked, Job, Named, Script}
 use Rattle.opensolver_cli.specs.declared.status.Status.{Status}
@@ -28,17 +26,13 @@ Order named before after content = IfSome content (λ files. (stop : Stop) → b
 -- what finding leaves of the outside, whatever it finds
 pub record IsFound (named : Named) (before after : Outside) : Type 0 where
   pub order : Order named before after before.files
-  pub many : SHEETS < length named.sheets → (after.folder_reads ≡ before.folder_reads) × IsSourceLeft before.left after.left before.script_reads after.script_reads
-  pub same : after.files ≡ before.files
-  pub writes : after.folder_writes ≡ before.folder_writes
+  pub many : SHEETS < length named.sheets → IsFolderLeft before after × IsSourceLeft before.left after.left before.script_reads after.script_reads
 
 script_left : (before after : Outside) → IsSourceLeft before.left after.left before.script_reads after.script_reads → IsScriptLeft before after
 script_left before after s = record { left = s.0; reads = s.1 }
 
 leaves : (named : Named) (before after : Outside) → IsFound named before after → LeavesTooMany named before after
-leaves named before after f big =
-    let m = f.many big in
-    (record { files = f.same; reads = m.0; writes = f.writes }, script_left before after m.1)
+leaves named before after f big = let m = f.many big in (m.0, script_left before after m.1)
 
 -- the bytes are told, or they aren't
 over : (job : Job) (content : Option Files) (left : Option (List ℕ)) (before after : Outside) (r : Status) → content ≡ before.files → left ≡ before.left → IsFound job.named before after
@@ -54,32 +48,44 @@ over job (Some files) (Some script) before after r f l is h =
     (subst (λ (z : Option Files). EndsOver job z before.left before after r) f told, leaves job.named before after is)
 
 -- ---- all was found
-answered : (job : Job) (files : Files) (script : List ℕ) (before after : Outside) (book : State) (records : List Record) (r : Status) → after.files ≡ Some files → after.files ≡ before.files
-    → (found job.named files script ≡ Ok (book, records)) × (after.left ≡ Some []) → AnswersRecords (setting_of job book files) records before.pieces after.pieces (Some files) r
-    → EndsAs job files script before after r
-answered job files script before after book records status.Done kept same is h = (book, records, record { finds = is.0; to_its_end = is.1 }, rw kept h)
-answered job files script before after book records status.Refused kept same is h = (book, records, record { finds = is.0; to_its_end = is.1 }, rw kept h)
-answered job files script before after book records status.Usage kept same is h = absurd h
-answered job files script before after book records status.ReadFault kept same is h = absurd h
-answered job files script before after book records status.WriteFault kept same is h = inr (book, records, record { finds = is.0; to_its_end = is.1 }, rw kept h)
-answered job files script before after book records status.Memory kept same is (inl none) = inl (record { printed = none; files = same })
-answered job files script before after book records status.Memory kept same is (inr cut) = inr (inr (book, records, record { finds = is.0; to_its_end = is.1 }, rw kept cut))
-answered job files script before after book records status.Limit kept same is h = absurd h
-answered job files script before after book records status.BadInput kept same is h = absurd h
+answered : (job : Job) (files : Files) (script : List ℕ) (before after : Outside) (book : State) (records : List Record) (r : Status) → (found job.named files script ≡ Ok (book, records)) × (after.left ≡ Some [])
+    → AnswersRecords (setting_of job book files) records (written before) (written after) r → EndsAs job files script before after r
+answered job files script before after book records status.Done is h = (book, records, record { finds = is.0; to_its_end = is.1 }, h)
+answered job files script before after book records status.Refused is h = (book, records, record { finds = is.0; to_its_end = is.1 }, h)
+answered job files script before after book records status.Usage is h = absurd h
+answered job files script before after book records status.ReadFault is h = absurd h
+answered job files script before after book records status.WriteFault is h = inr (book, records, record { finds = is.0; to_its_end = is.1 }, h)
+answered job files script before after book records status.Memory is (inl nothing) = inl (record { printed = nothing.pieces; files = nothing.files })
+answered job files script before after book records status.Memory is (inr cut) = inr (inr (book, records, record { finds = is.0; to_its_end = is.1 }, cut))
+answered job files script before after book records status.Limit is h = absurd h
+answered job files script before after book records status.BadInput is h = absurd h
 
-all_answered : (job : Job) (content : Option Files) (left : Option (List ℕ)) (before after : Outside) (book : State) (records : List Record) (r : Status) → after.files ≡ content → after.files ≡ before.files
+all_answered : (job : Job) (content : Option Files) (left : Option (List ℕ)) (before after : Outside) (book : State) (records : List Record) (r : Status)
     → IfSome content (λ files. IfSome left (λ script. FindsAll job.named files script after.left (Ok (book, records))))
-    → ((files : Files) → AnswersRecords (setting_of job book files) records before.pieces after.pieces (Some files) r)
+    → IfSome content (λ files. AnswersRecords (setting_of job book files) records (written before) (written after) r)
     → IfSome content (λ files. IfSome left (λ script. EndsAs job files script before after r))
-all_answered job None left before after book records r kept same is h = tt
-all_answered job (Some files) None before after book records r kept same is h = tt
-all_answered job (Some files) (Some script) before after book records r kept same is h = answered job files script before after book records r kept same is (h files)
+all_answered job None left before after book records r is h = tt
+all_answered job (Some files) None before after book records r is h = tt
+all_answered job (Some files) (Some script) before after book records r is h = answered job files script before after book records r is h
+
+-- the records are answered over the folder as finding has left it, which is as it was
+pub answered_over : (job : Job) (book : State) (records : List Record) (found_files files_before : Option Files) (found_writes writes : ℕ) (pieces : Option (List (List ℕ))) (faults : ℕ) (after : Written) (r : Status) → found_files ≡ files_before
+    → found_writes ≡ writes → IfSome found_files (λ files. AnswersRecords (setting_of job book files) records (put_in found_files found_writes pieces faults) after r)
+    → IfSome files_before (λ files. AnswersRecords (setting_of job book files) records (put_in files_before writes pieces faults) after r)
+answered_over job book records found_files files_before found_writes writes pieces faults after r same same_writes h =
+    subst (λ (n : ℕ). IfSome files_before (λ files. AnswersRecords (setting_of job book files) records (put_in files_before n pieces faults) after r)) same_writes
+    (subst (λ (z : Option Files). IfSome z (λ files. AnswersRecords (setting_of job book files) records (put_in z found_writes pieces faults) after r)) same h)
+
+pub fault_over : (found_files files_before : Option Files) (found_writes writes : ℕ) (pieces : Option (List (List ℕ))) (faults : ℕ) (after : Written) (r : Status) → found_files ≡ files_before → found_writes ≡ writes
+    → IsPutFault (put_in found_files found_writes pieces faults) after r → IsPutFault (put_in files_before writes pieces faults) after r
+fault_over found_files files_before found_writes writes pieces faults after r same same_writes h =
+    subst (λ (n : ℕ). IsPutFault (put_in files_before n pieces faults) after r) same_writes (subst (λ (z : Option Files). IsPutFault (put_in z found_writes pieces faults) after r) same h)
 
 pub run_answered : (job : Job) (before after : Outside) (book : State) (records : List Record) (r : Status) → IsFound job.named before after
     → IfSome before.files (λ files. IfSome before.left (λ script. FindsAll job.named files script after.left (Ok (book, records))))
-    → ((files : Files) → AnswersRecords (setting_of job book files) records before.pieces after.pieces (Some files) r) → RunsAs (Some (Script job)) before after r
+    → IfSome before.files (λ files. AnswersRecords (setting_of job book files) records (written before) (written after) r) → RunsAs (Some (Script job)) before after r
 run_answered job before after book records r f is h =
-    over job before.files before.left before after r refl refl f (all_answered job before.files before.left before after book records r f.same f.same is h)
+    over job before.files before.left before after r refl refl f (all_answered job before.files before.left before after book records r is h)
 
 -- ---- the run stops before the first record
 stopped : (job : Job) (files : Files) (script : List ℕ) (before after : Outside) (stop : Stop) (r : Status) → found job.named files script ≡ Err stop
@@ -101,11 +107,11 @@ all_stopped job None left before after stop r same is h = tt
 all_stopped job (Some files) None before after stop r same is h = tt
 all_stopped job (Some files) (Some script) before after stop r same is h = stopped job files script before after stop r is h same
 
-pub run_stopped : (job : Job) (before after : Outside) (stop : Stop) (r : Status) → IsFound job.named before after
+pub run_stopped : (job : Job) (before after : Outside) (stop : Stop) (r : Status) → IsFound job.named before after → after.files ≡ before.files
     → IfSome before.files (λ files. IfSome before.left (λ script. FindsAll job.named files script after.left (Err (end.Stopped stop)))) → Says (stop_line job.named stop) (status_of stop) before.pieces after.pieces r
     → RunsAs (Some (Script job)) before after r
-run_stopped job before after stop r f is h =
-    over job before.files before.left before after r refl refl f (all_stopped job before.files before.left before after stop r f.same is h)
+run_stopped job before after stop r f same is h =
+    over job before.files before.left before after r refl refl f (all_stopped job before.files before.left before after stop r same is h)
 
 -- ---- nothing is seen
 unseen : (job : Job) (content : Option Files) (left : Option (List ℕ)) (before after : Outside) (r : Status) → (r ≡ status.ReadFault) ⊎ (r ≡ status.Memory) → after.pieces ≡ before.pieces → after.files ≡ before.files
@@ -115,8 +121,9 @@ unseen job (Some files) None before after r is none same = tt
 unseen job (Some files) (Some script) before after r (inl is) none same = rw is (record { printed = none; files = same })
 unseen job (Some files) (Some script) before after r (inr is) none same = rw is (inl (record { printed = none; files = same }))
 
-pub run_unseen : (job : Job) (before after : Outside) (r : Status) → IsFound job.named before after → (r ≡ status.ReadFault) ⊎ (r ≡ status.Memory) → after.pieces ≡ before.pieces → RunsAs (Some (Script job)) before after r
-run_unseen job before after r f is none = over job before.files before.left before after r refl refl f (unseen job before.files before.left before after r is none f.same)
+pub run_unseen : (job : Job) (before after : Outside) (r : Status) → IsFound job.named before after → after.files ≡ before.files → (r ≡ status.ReadFault) ⊎ (r ≡ status.Memory) → after.pieces ≡ before.pieces
+    → RunsAs (Some (Script job)) before after r
+run_unseen job before after r f same is none = over job before.files before.left before after r refl refl f (unseen job before.files before.left before after r is none same)
 
 -- ---- each status exactly
 early : (x : Result (State × List Record) Stop) (r : Status) → IsEarly r → EndsFor x r
@@ -138,22 +145,21 @@ memory_exactly job content left = early_exactly job content left status.Memory t
 abbrev Answered : Status → Type 0
 Answered r = (IsWhole r ⊎ IsEarly r) × (r ≢ status.Usage) × (r ≢ status.ReadFault)
 
-whole_or_early : (job : Job) (book : State) (files : Files) (records : List Record) (u v : Option (List (List ℕ))) (r : Status) → AnswersRecords (setting_of job book files) records u v (Some files) r → Answered r
-whole_or_early job book files records u v status.Done h = (inl tt, (λ e. cc e), λ e. cc e)
-whole_or_early job book files records u v status.Refused h = (inl tt, (λ e. cc e), λ e. cc e)
-whole_or_early job book files records u v status.WriteFault h = (inr tt, (λ e. cc e), λ e. cc e)
-whole_or_early job book files records u v status.Memory h = (inr tt, (λ e. cc e), λ e. cc e)
-whole_or_early job book files records u v status.Usage h = absurd h
-whole_or_early job book files records u v status.ReadFault h = absurd h
-whole_or_early job book files records u v status.Limit h = absurd h
-whole_or_early job book files records u v status.BadInput h = absurd h
+whole_or_early : (r : Status) → EndsAnswering r → Answered r
+whole_or_early status.Done h = (inl tt, (λ e. cc e), λ e. cc e)
+whole_or_early status.Refused h = (inl tt, (λ e. cc e), λ e. cc e)
+whole_or_early status.WriteFault h = (inr tt, (λ e. cc e), λ e. cc e)
+whole_or_early status.Memory h = (inr tt, (λ e. cc e), λ e. cc e)
+whole_or_early status.Usage h = absurd h
+whole_or_early status.ReadFault h = absurd h
+whole_or_early status.Limit h = absurd h
+whole_or_early status.BadInput h = absurd h
 
-pub answered_exactly : (job : Job) (content : Option Files) (left after : Option (List ℕ)) (book : State) (records : List Record) (u v : Option (List (List ℕ))) (r : Status)
-    → IfSome content (λ files. IfSome left (λ script. FindsAll job.named files script after (Ok (book, records)))) → ((files : Files) → AnswersRecords (setting_of job book files) records u v (Some files) r)
-    → EndsExactly (Some (Script job)) content left r
-answered_exactly job None left after book records u v r is h = (whole_or_early job book empty records u v r (h empty)).1
-answered_exactly job (Some files) None after book records u v r is h = (whole_or_early job book files records u v r (h files)).1
-answered_exactly job (Some files) (Some script) after book records u v r is h = rw is.0 (whole_or_early job book files records u v r (h files)).0
+pub answered_exactly : (job : Job) (content : Option Files) (left after : Option (List ℕ)) (book : State) (records : List Record) (r : Status)
+    → IfSome content (λ files. IfSome left (λ script. FindsAll job.named files script after (Ok (book, records)))) → EndsAnswering r → EndsExactly (Some (Script job)) content left r
+answered_exactly job None left after book records r is h = (whole_or_early r h).1
+answered_exactly job (Some files) None after book records r is h = (whole_or_early r h).1
+answered_exactly job (Some files) (Some script) after book records r is h = rw is.0 (whole_or_early r h).0
 
 -- a line that was said
 said : (stop : Stop) (line : List ℕ) (u v : Option (List (List ℕ))) (r : Status) → Says line (status_of stop) u v r → ((r ≡ status_of stop) ⊎ IsEarly r) × (r ≢ status.Usage) × (r ≢ status.ReadFault)
@@ -174,44 +180,51 @@ stopped_exactly job (Some files) None after stop line u v r is h = (said stop li
 stopped_exactly job (Some files) (Some script) after stop line u v r is h = rw is (said stop line u v r h).0
 
 -- ---- counts
-rose : (a b : ℕ) (r : Status) → IsSinkFault a b r → r ≡ status.WriteFault → Rose a b
-rose a b r h e = rw e at h
+-- a line changes no file
+put_by_line : (before after : Outside) (r : Status) → after.folder_writes ≡ before.folder_writes → IsSinkFault before.sink_writes after.sink_writes r → IsPutFault (written before) (written after) r
+put_by_line before after status.WriteFault writes sink = inl (record { rose = sink; folder = writes })
+put_by_line before after status.Done writes sink = record { folder = writes; sink = sink }
+put_by_line before after status.Refused writes sink = record { folder = writes; sink = sink }
+put_by_line before after status.Usage writes sink = record { folder = writes; sink = sink }
+put_by_line before after status.ReadFault writes sink = record { folder = writes; sink = sink }
+put_by_line before after status.Memory writes sink = record { folder = writes; sink = sink }
+put_by_line before after status.Limit writes sink = record { folder = writes; sink = sink }
+put_by_line before after status.BadInput writes sink = record { folder = writes; sink = sink }
 
-kept : (a b : ℕ) (r : Status) → IsSinkFault a b r → r ≢ status.WriteFault → b ≡ a
-kept a b status.WriteFault h other = absurd (other refl)
-kept a b status.Done h other = h
-kept a b status.Refused h other = h
-kept a b status.Usage h other = h
-kept a b status.ReadFault h other = h
-kept a b status.Memory h other = h
-kept a b status.Limit h other = h
-kept a b status.BadInput h other = h
+rose : (u w : Written) (r : Status) → IsPutFault u w r → r ≡ status.WriteFault → SinkFailed u w ⊎ FolderFailed u w
+rose u w r h e = rw e at h
 
-counted : (before after : Outside) (r : Status) → r ≢ status.ReadFault → (after.folder_reads ≡ before.folder_reads) × (after.script_reads ≡ before.script_reads) → after.folder_writes ≡ before.folder_writes
-    → IsSinkFault before.sink_writes after.sink_writes r → IsCounted before after r
-counted before after r other reads writes sink = record {
+kept : (u w : Written) (r : Status) → IsPutFault u w r → r ≢ status.WriteFault → NoneFailed u w
+kept u w status.WriteFault h other = absurd (other refl)
+kept u w status.Done h other = h
+kept u w status.Refused h other = h
+kept u w status.Usage h other = h
+kept u w status.ReadFault h other = h
+kept u w status.Memory h other = h
+kept u w status.Limit h other = h
+kept u w status.BadInput h other = h
+
+counted : (before after : Outside) (r : Status) → r ≢ status.ReadFault → (after.folder_reads ≡ before.folder_reads) × (after.script_reads ≡ before.script_reads) → IsPutFault (written before) (written after) r → IsCounted before after r
+counted before after r other reads put = record {
   read_fault = λ e. absurd (other e);
   quiet = λ e. absurd (other e);
   no_read_fault = λ _. reads;
-  write_fault = rose before.sink_writes after.sink_writes r sink;
-  no_write_fault = kept before.sink_writes after.sink_writes r sink;
-  saves = writes;
+  write_fault = rose (written before) (written after) r put;
+  no_write_fault = kept (written before) (written after) r put;
 }
 
-pub answered_counted : (job : Job) (before after : Outside) (book : State) (records : List Record) (r : Status) → ((files : Files) → AnswersRecords (setting_of job book files) records before.pieces after.pieces (Some files) r)
-    → (after.folder_reads ≡ before.folder_reads) × (after.script_reads ≡ before.script_reads) → after.folder_writes ≡ before.folder_writes
-    → IsSinkFault before.sink_writes after.sink_writes r → IsCounted before after r
-answered_counted job before after book records r h reads writes sink =
-    counted before after r (whole_or_early job book empty records before.pieces after.pieces r (h empty)).2 reads writes sink
+pub answered_counted : (before after : Outside) (r : Status) → EndsAnswering r → (after.folder_reads ≡ before.folder_reads) × (after.script_reads ≡ before.script_reads) → IsPutFault (written before) (written after) r
+    → IsCounted before after r
+answered_counted before after r h reads put = counted before after r (whole_or_early r h).2 reads put
 
 pub said_counted : (stop : Stop) (line : List ℕ) (before after : Outside) (r : Status) → Says line (status_of stop) before.pieces after.pieces r
     → (after.folder_reads ≡ before.folder_reads) × (after.script_reads ≡ before.script_reads) → after.folder_writes ≡ before.folder_writes
     → IsSinkFault before.sink_writes after.sink_writes r → IsCounted before after r
-said_counted stop line before after r h reads writes sink = counted before after r (said stop line before.pieces after.pieces r h).2 reads writes sink
+said_counted stop line before after r h reads writes sink = counted before after r (said stop line before.pieces after.pieces r h).2 reads (put_by_line before after r writes sink)
 
 pub memory_counted : (before after : Outside) → (after.folder_reads ≡ before.folder_reads) × (after.script_reads ≡ before.script_reads) → after.folder_writes ≡ before.folder_writes
     → after.sink_writes ≡ before.sink_writes → IsCounted before after status.Memory
-memory_counted before after reads writes sink = counted before after status.Memory (λ e. cc e) reads writes sink
+memory_counted before after reads writes sink = counted before after status.Memory (λ e. cc e) reads (record { folder = writes; sink = sink })
 
 fault_of : (before after : Outside) → IsFaultOf before.folder_reads after.folder_reads before.left after.left before.script_reads after.script_reads → IsReadFault before after
 fault_of before after (inl h) = inl (h.0, script_left before after h.1)
@@ -224,48 +237,8 @@ read_fault_counted before after h writes sink pieces = record {
   quiet = λ _. pieces;
   no_read_fault = λ other. absurd (other refl);
   write_fault = λ e. cc e;
-  no_write_fault = λ _. sink;
-  saves = writes;
+  no_write_fault = λ _. record { folder = writes; sink = sink };
 }
-
--- ---- words of another form
--- the folder and the script are as they were
-pub record IsLeft (before after : Outside) : Type 0 where
-  pub files : after.files ≡ before.files
-  pub reads : after.folder_reads ≡ before.folder_reads
-  pub writes : after.folder_writes ≡ before.folder_writes
-  pub left : after.left ≡ before.left
-  pub script : after.script_reads ≡ before.script_reads
-
-usage_said : (before after : Outside) (r : Status) → after.files ≡ before.files → Says usage_line status.Usage before.pieces after.pieces r → SaysUsage before after r
-usage_said before after status.Usage same h = record { printed = h.1; files = same }
-usage_said before after status.WriteFault same h = record { printed = h; files = same }
-usage_said before after status.Memory same h = record { printed = h; files = same }
-usage_said before after status.Limit same h = absurd (cc h.0)
-usage_said before after status.BadInput same h = absurd (cc h.0)
-usage_said before after status.Done same h = absurd h
-usage_said before after status.Refused same h = absurd h
-usage_said before after status.ReadFault same h = absurd h
-
-usage_early : (u v : Option (List (List ℕ))) (r : Status) → Says usage_line status.Usage u v r → ((r ≡ status.Usage) ⊎ IsEarly r) × (r ≢ status.ReadFault)
-usage_early u v status.Usage h = (inl refl, λ e. cc e)
-usage_early u v status.WriteFault h = (inr tt, λ e. cc e)
-usage_early u v status.Memory h = (inr tt, λ e. cc e)
-usage_early u v status.Limit h = absurd (cc h.0)
-usage_early u v status.BadInput h = absurd (cc h.0)
-usage_early u v status.Done h = absurd h
-usage_early u v status.Refused h = absurd h
-usage_early u v status.ReadFault h = absurd h
-
-pub usage_runs : (asked : Option Asked) (before after : Outside) (r : Status) → None ≡ asked → IsLeft before after → Says usage_line status.Usage before.pieces after.pieces r → RunsAs asked before after r
-usage_runs asked before after r none is h =
-    rw (← none) (usage_said before after r is.files h, record { files = is.files; reads = is.reads; writes = is.writes }, record { left = is.left; reads = is.script })
-
-pub usage_exactly : (asked : Option Asked) (content : Option Files) (left : Option (List ℕ)) (u v : Option (List (List ℕ))) (r : Status) → None ≡ asked → Says usage_line status.Usage u v r → EndsExactly asked content left r
-usage_exactly asked content left u v r none h = rw (← none) (usage_early u v r h).0
-
-pub usage_counted : (before after : Outside) (r : Status) → IsLeft before after → Says usage_line status.Usage before.pieces after.pieces r → IsSinkFault before.sink_writes after.sink_writes r → IsCounted before after r
-usage_counted before after r is h sink = counted before after r (usage_early before.pieces after.pieces r h).1 (is.reads, is.script) is.writes sink
 
 -- ---- words that ask for a script
 pub job_runs : (job : Job) (asked : Option Asked) (before after : Outside) (r : Status) → Some (Script job) ≡ asked → RunsAs (Some (Script job)) before after r → RunsAs asked before after r

@@ -1,21 +1,17 @@
 -- What stands before an ending, and behind the last slash.
-use Rattle.std.proofs.Common.{◌≡◌, ◌≢◌, ◌<◌, ◌≤◌, ◌-◌, ◌++◌, ◌∷◌, [], ℕ, suc, List, Bool, true, false, Option, Some, None, Bor, length, take, drop, get_or, refl, ap, sym, arith, inl, inr, codes, string_bytes, ◌∙◌}
-use Rattle.std.specs.Prelude.{◌==◌, ◌&&◌, All, Ok, Err, String, nat_le, nat_lt, option_map, if◌then◌else◌}
+use Rattle.std.proofs.Common.{◌≡◌, ◌≢◌, ◌<◌, ◌-◌, ◌++◌, ◌∷◌, [], ℕ, suc, List, Bool, true, false, Option, Some, None, Bor, length, take, drop, get_or, refl, ap, sym, arith, inl, inr, codes, string_bytes, ◌∙◌}
+use Rattle.std.specs.Prelude.{◌==◌, ◌&&◌, All, String, nat_le, option_map, if◌then◌else◌}
 use Rattle.std.specs.Option.{MatchOption}
 use Rattle.std.specs.List.{list_all, slice_split}
 use Rattle.std.specs.Global.{Global}
-use Rattle.std.specs.Str.{all_ascii_digits, bytes_eq}
-use Rattle.std.specs.declared.num.ParseIntError.{ParseIntError}
-use Rattle.std.specs.Str.Parse.{ParsesUnsigned, digits_value}
+use Rattle.std.specs.Str.{bytes_eq}
 use Rattle.std.specs.Str.Pattern.{FindsTextSuffix, RFindsChar, SplitsAroundMatch, StripsSuffix}
-use Rattle.std.proofs.lemmas.Bool.{cases_Bool, le-leb, leb-false, leb-true, lt-leb, lt-ltb, ltb-true, ne_eqb}
+use Rattle.std.proofs.lemmas.Bool.{cases_Bool, le-leb, ne_eqb}
 use Rattle.std.proofs.lemmas.List.{append_cancel_left, take-append-drop}
 use Rattle.std.proofs.lemmas.List.Elements.{All-cons}
 use Rattle.std.proofs.lemmas.Slice.Eq.{bytes_eq-Decides}
-use Rattle.std.proofs.lemmas.Str.Parse.{IsNumeralModel, numerals_by_value, parse_plain, tells_all_ascii_digits}
 use Rattle.std.proofs.lemmas.Str.Pattern.{NoCharPasses-char, drop_at_char}
-use Rattle.session.specs.States.{MOST_UNITS}
-use Rattle.opensolver_cli.specs.Words.{before_csv, budget_in, is_sheet, last_part, option_in, texts_of}
+use Rattle.opensolver_cli.specs.Words.{before_csv, is_sheet, last_part, option_in, texts_of}
 
 none_before : (a b : Bool) (x : Option (List ℕ)) → b ≡ false → None ≡ (if a && b then x else None)
 none_before true true x h = cc
@@ -88,42 +84,3 @@ pub option_short : {A : Type 0} (name : List ℕ) (read : List ℕ → Option A)
 option_short name read other [] h = refl
 option_short name read other (w ∷ []) h = refl
 option_short name read other (w ∷ v ∷ words) h = absurd (omega (arith, h))
-
--- digits, and how many units they tell
-own : IsNumeralModel (λ ds. all_ascii_digits ds ≡ true) (digits_value 10)
-own = numerals_by_value _ tells_all_ascii_digits
-
--- digits of a number that is too great
-out_of_range : (word : List ℕ) (value : ℕ) → digits_value 10 word ≡ value → (nat_le 1 value && nat_le value MOST_UNITS) ≡ false → None ≡ budget_in word
-out_of_range word value is out = go (nat_lt 0 (length word) && all_ascii_digits word) (nat_le 1 (digits_value 10 word) && nat_le (digits_value 10 word) MOST_UNITS) (rw is out)
-  where
-    go : (a b : Bool) → b ≡ false → None ≡ (if a && b then Some (digits_value 10 word) else None)
-    go true b h = rw h refl
-    go false b h = refl
-
-too_great : (n : ℕ) → MOST_UNITS < n → (nat_le 1 n && nat_le n MOST_UNITS) ≡ false
-too_great n h = go (nat_le 1 n) (nat_le n MOST_UNITS) (lt-leb n MOST_UNITS h)
-  where
-    go : (a b : Bool) → b ≡ false → (a && b) ≡ false
-    go true b h = h
-    go false b h = refl
-
--- the number that was read is in range
-pub number_read : (word : List ℕ) (units : ℕ) → ParsesUnsigned {E = ParseIntError} 64 10 word (Ok units) → get_or word 0 0 ≢ 43 → 1 ≤ units → units ≤ MOST_UNITS → Some units ≡ budget_in word
-number_read word units h plain some few =
-    let p = parse_plain own {E = ParseIntError} 64 word (Ok units) h plain in
-    rw (p.0.0, ← p.1, lt-ltb 0 (length word) p.0.1, le-leb 1 units some, le-leb units MOST_UNITS few) refl
-
--- no number, or one that is far too great
-pub no_number : (word : List ℕ) (e : ParseIntError) → ParsesUnsigned {E = ParseIntError} 64 10 word (Err e) → get_or word 0 0 ≢ 43 → None ≡ budget_in word
-no_number word e h plain =
-    let none = parse_plain own {E = ParseIntError} 64 word (Err e) h plain in
-    elim (cases_Bool (nat_lt 0 (length word) && all_ascii_digits word)) [
-      | inl digits ↦
-          let t = both (nat_lt 0 (length word)) (all_ascii_digits word) digits in
-          elim (cases_Bool (nat_le (digits_value 10 word) MOST_UNITS)) [
-            | inl few ↦ absurd (none (t.1, ltb-true 0 (length word) t.0, omega (arith, leb-true (digits_value 10 word) MOST_UNITS few)))
-            | inr many ↦ out_of_range word (digits_value 10 word) refl (too_great (digits_value 10 word) (leb-false (digits_value 10 word) MOST_UNITS many))
-          ]
-      | inr other ↦ rw other refl
-    ]

@@ -1,7 +1,5 @@
 // Answering the records of a script.
-ghost use Rattle.std.specs.Prelude.{◌≡◌, ◌<◌, ◌≤◌, IfSome, Some, length, slice_get};
-ghost use Rattle.solver_io.specs.Bytes.{PutCause};
-ghost use Rattle.sheet_csv.specs.Sheet.{Record};
+ghost use Rattle.std.specs.Prelude.{◌≡◌, ◌≤◌, IfSome};
 ghost use Rattle.commands.specs.declared.units.TheConstants.{MOST_UNITS};
 ghost use Rattle.opensolver_cli.specs.Answering.{AnswersRecord, AnswersRecords, EndsAnswering, IsPutFault, IsSaid, IsSinkFault, Says};
 ghost use Rattle.opensolver_cli.specs.Headline.{setting_of};
@@ -10,10 +8,10 @@ ghost use Rattle.opensolver_cli.specs.Words.{job_read, named_of, pick_read, rule
 
 use crate::Status;
 use crate::saving::save;
-use crate::words::{Job, Named};
+use crate::words::Job;
 use node_pick::Picker;
 use session::{Command, Session, line};
-use sheet_csv::Rows;
+use sheet_csv::{Record, Rows};
 use solver_io::{Folder, PutEnd, Sink};
 use std::alloc::Global;
 use workbook::Workbook;
@@ -47,7 +45,7 @@ pub(crate) fn answer_records<F: Folder, K: Sink>(
     };
     let mut refused = false;
     for place in 0..rows.len() {
-        match answer_record(alloc, &mut session, &job.named, (rows, place), folder, out, pick) {
+        match answer_record(alloc, &mut session, job, rows.at(place), folder, out, pick) {
             Ok(is_refusal) => refused = refused || is_refusal,
             Err(PutEnd::Failed) => return Status::WriteFault,
             Err(PutEnd::Memory) => return Status::Memory,
@@ -60,18 +58,18 @@ pub(crate) fn answer_records<F: Folder, K: Sink>(
     }
 }
 
-// Answers the record at a place, and says whether the answer is a refusal.
+// Answers a record, and says whether the answer is a refusal.
 fn answer_record<F: Folder, K: Sink>(
     alloc: Global,
     session: &mut Session,
-    named: &Named,
-    at: (&Rows, usize),
+    job: &Job,
+    fields: &Record,
     folder: &mut F,
     out: &mut K,
     pick: &mut Box<dyn Picker>,
 ) -> Result<bool, PutEnd>
-    requires within { at.1 < length at.0.now }
-    ensures answers { (fields : Record) × (slice_get at.0.now at.1 ≡ Some fields) × AnswersRecord (rule pick.old) (named_of named.now) session.old.state fields
+    requires pick { rule pick.old ≡ rule_of (pick_read job.now.pick) }
+    ensures answers { AnswersRecord (rule_of (pick_read job.now.pick)) (named_of job.now.named) session.old.state fields.now
         (put_in (F.content folder.old) (F.write_faults folder.old) (K.pieces out.old) (K.faults out.old))
         (put_in (F.content folder.new) (F.write_faults folder.new) (K.pieces out.new) (K.faults out.new))
         session.new.state result }
@@ -79,13 +77,13 @@ fn answer_record<F: Folder, K: Sink>(
     ensures rule { rule pick.new ≡ rule pick.old }
     ensures reads { F.read_faults folder.new ≡ F.read_faults folder.old }
 {
-    let Ok(command) = Command::of(alloc, at.0.at(at.1)) else {
+    let Ok(command) = Command::of(alloc, fields) else {
         return Err(PutEnd::Memory);
     };
     let Ok(answer) = session.apply(&command, pick) else {
         return Err(PutEnd::Memory);
     };
-    save(named, &answer, session, folder)?;
+    save(&job.named, &answer, session, folder)?;
     let Ok(text) = line(alloc, &answer, session.sheets()) else {
         return Err(PutEnd::Memory);
     };

@@ -32,11 +32,7 @@ pub(crate) fn save<F: Folder>(
 }
 
 // Writes files, in their order.
-fn save_files<F: Folder>(
-    named: &Named,
-    files: &[SaveFile],
-    folder: &mut F,
-) -> Result<(), PutEnd>
+fn save_files<F: Folder>(named: &Named, files: &[SaveFile], folder: &mut F) -> Result<(), PutEnd>
     ensures saves { SavesFiles (named_of named.now) files.now (F.content folder.old) (F.content folder.new) result }
     ensures cause { PutCause (F.write_faults folder.old) (F.write_faults folder.new) result }
     ensures reads { F.read_faults folder.new ≡ F.read_faults folder.old }

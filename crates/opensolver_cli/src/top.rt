@@ -11,6 +11,7 @@ ghost use Rattle.opensolver_cli.specs.Inputs.{FindsAll, IsFaultOf, IsSourceLeft}
 ghost use Rattle.opensolver_cli.specs.Outside.{seen};
 ghost use Rattle.opensolver_cli.specs.Stops.{status_of, stop_line};
 ghost use Rattle.opensolver_cli.specs.Words.{Script, asked_of, is_sheet, job_read, named_of, pick_read, rule_of, texts_of};
+ghost use Rattle.opensolver_cli.specs.declared.stop.Limit.TheVariants as limit;
 ghost use Rattle.opensolver_cli.specs.declared.stop.Stop.{Stop};
 
 use crate::Status;
@@ -111,7 +112,8 @@ fn find<F: Folder, S: Source>(
     requires sheets { All (λ w. is_sheet (string_bytes w) ≡ true) named.now.sheets.now }
     ensures finds { IfSome (F.content folder.old) (λ files. IfSome (S.left script.old) (λ bytes. FindsAll (named_of named.now) files bytes (S.left script.new) result)) }
     ensures order { IfSome (F.content folder.old) (λ files. (stop : Stop) → book_in (named_of named.now) files ≡ Err stop → IsSourceLeft (S.left script.old) (S.left script.new) (S.faults script.old) (S.faults script.new)) }
-    ensures many { SHEETS < length named.now.sheets.now → (F.read_faults folder.new ≡ F.read_faults folder.old) × IsSourceLeft (S.left script.old) (S.left script.new) (S.faults script.old) (S.faults script.new) }
+    ensures many { SHEETS < length named.now.sheets.now → (result ≡ Err (End.Stopped (Stop.TooMuch limit.Sheets)))
+        × (F.read_faults folder.new ≡ F.read_faults folder.old) × IsSourceLeft (S.left script.old) (S.left script.new) (S.faults script.old) (S.faults script.new) }
     ensures folder { F.content folder.new ≡ F.content folder.old }
     ensures writes { F.write_faults folder.new ≡ F.write_faults folder.old }
     ensures read_fault { result ≡ Err End.Failed → IsFaultOf (F.read_faults folder.old) (F.read_faults folder.new) (S.left script.old) (S.left script.new) (S.faults script.old) (S.faults script.new) }

@@ -1,5 +1,5 @@
 -- What stands after want of memory, which comes only where memory was taken.
-use Rattle.std.specs.Prelude.{◌≡◌, ℕ, true, List, Option, IsSome, Result, Ok, Err}
+use Rattle.std.specs.Prelude.{◌≡◌, true, IsSome, Result, Ok, Err}
 use Rattle.cell_refs.specs.Names.{place_in}
 use Rattle.workbook.specs.State.{State}
 use Rattle.commands.specs.Addresses.{has_place}

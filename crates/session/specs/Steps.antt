@@ -1,5 +1,5 @@
 -- What a command does to a session, and what it answers. Each part of the session that a case doesn't name stays as it was.
-use Rattle.std.specs.Prelude.{◌≡◌, ℕ, List, [], ◌∷◌, Option, Some, Result, Ok, Err}
+use Rattle.std.specs.Prelude.{◌≡◌, ℕ, List, [], ◌∷◌, Option, Result, Ok, Err}
 use Rattle.cell_refs.specs.declared.cell.Cell.{Cell}
 use Rattle.node_pick.specs.Rules.{Rule}
 use Rattle.recalc.specs.declared.shown.Shown.TheVariants as shown
@@ -7,7 +7,6 @@ use Rattle.recalc.specs.Showing.{IsShown}
 use Rattle.workbook.specs.Edits.{after_set}
 use Rattle.workbook.specs.Kinds.{book_of}
 use Rattle.workbook.specs.Naming.{after_name, after_unname}
-use Rattle.workbook.specs.State.{State}
 use Rattle.commands.specs.declared.answer.Answer.{Answer}
 use Rattle.commands.specs.declared.answer.Answer.TheVariants as answer
 use Rattle.commands.specs.Commands.{Spoken, Set, Clear, Name, Unname, Show, Model, Solve, Budget, Save, Unknown}

@@ -14,12 +14,7 @@ use workbook::{EditFault, sheet_in, unname_fault};
 
 impl Session {
     // Gives a name a text, for the sheet that is named or for the whole workbook.
-    pub(crate) fn name(
-        &mut self,
-        sheet: &str,
-        name: &str,
-        text: &str,
-    ) -> Result<Answer, Memory>
+    pub(crate) fn name(&mut self, sheet: &str, name: &str, text: &str) -> Result<Answer, Memory>
         ensures step { IfOk result (λ answer. Does (λ home. IsDone (with_name self.old.state home name.now text.now)) self.old.state (home_to_name self.old.state.book sheet.now name.now text.now) answer self.new.state) }
         ensures said { IfOk result (CanBeSaid self.old.state.book.sheets) }
         ensures sheets { self.new.state.book.sheets ≡ self.old.state.book.sheets }

@@ -1,53 +1,66 @@
-use Rattle.std.proofs.Common.{◌≡◌, ◌<◌, length, arith, subst, sym, inr, refl, ◌∙◌}
-use Rattle.std.specs.Prelude.{Bool, ◌||◌, [], false, Some}
-use Rattle.session.specs.States.{Session}
-use Rattle.opensolver_cli.specs.Courses.{AllAnswered}
-use Rattle.opensolver_cli.specs.Headline.{setting_of}
-use Rattle.opensolver_cli.proofs.StepLaws.{AreAnswered, all_answered, memory_failed, none_answered, refused_before, refused_here, went_on, write_failed}
-use Rattle.opensolver_cli.proofs.answer.answer_records.Given as given
+use Rattle.std.proofs.Common.{◌≡◌, ◌<◌, arith, length, refl, ◌∙◌}
+use Rattle.std.specs.Prelude.{◌||◌}
+use Rattle.opensolver_cli.specs.Outside.{Written, put_in}
+use Rattle.opensolver_cli.specs.Words.{job_read, named_of, pick_read, rule_of}
+use Rattle.opensolver_cli.proofs.StepLaws.{all_were_answered, first_records, memory_failed, none_failed, refused_before, refused_here, went_on, write_failed}
 use Rattle.opensolver_cli.proofs.answer.answer_records.Goals as goal
 use Rattle.opensolver_cli.proofs.answer.answer_records.Goals.{then-refused, else-refused}
 
 pub loop-place-init : goal.loop-place-init
-loop-place-init g c = record {
-  answered = λ files.
-      subst (λ (s : Session). AreAnswered ((given.Picker-dyn g (c.args.pick.now.vtable, c.args.pick.now.value)).rule c.args.pick.now.value) c.args.budget c.args.book files [] (g.K.Sink.pieces c.args.out.now) (g.K.Sink.pieces c.args.out.now) s.state false) (sym c.in-Ok.ensures)
-      (none_answered ((given.Picker-dyn g (c.args.pick.now.vtable, c.args.pick.now.value)).rule c.args.pick.now.value) c.args.budget c.args.book files (g.K.Sink.pieces c.args.out.now));
-  rule = refl;
-  same = refl;
-}
+loop-place-init g c =
+    let u : Written = put_in (g.F.Folder.content c.args.folder.now) (g.F.Folder.write_faults c.args.folder.now) (g.K.Sink.pieces c.args.out.now) (g.K.Sink.faults c.args.out.now) in
+    record {
+      answered = first_records (job_read c.args.job.now) c.args.book (g.F.Folder.content c.args.folder.now) u c.in-Ok.session refl c.in-Ok.ensures;
+      rule = c.requires.pick;
+      none = record { folder = refl; sink = refl };
+      reads = refl;
+    }
 
 pub returns-in-Err-Failed-clause-answers : goal.returns-in-Err-Failed-clause-answers
-returns-in-Err-Failed-clause-answers g c = λ named chosen files is.
-    write_failed _ _ (record { named = named; budget = c.args.budget; pick = chosen }) c.args.book files c.loop-place.session.state c.answer_record.new.session.state c.args.rows.now c.loop-place.place (g.K.Sink.pieces c.args.out.now)
-    (g.K.Sink.pieces c.loop-place.out) (g.K.Sink.pieces c.answer_record.new.out) c.loop-place.refused c.in-Err-Failed.field-0 c.loop-place.invariant.rule is c.in-Err-Failed.field-0-is (c.loop-place.invariant.answered files) c.in-Err-Failed.ensures.answers
+returns-in-Err-Failed-clause-answers g c =
+    let u : Written = put_in (g.F.Folder.content c.args.folder.now) (g.F.Folder.write_faults c.args.folder.now) (g.K.Sink.pieces c.args.out.now) (g.K.Sink.faults c.args.out.now) in
+    let v : Written = put_in (g.F.Folder.content c.loop-place.folder) (g.F.Folder.write_faults c.loop-place.folder) (g.K.Sink.pieces c.loop-place.out) (g.K.Sink.faults c.loop-place.out) in
+    let w : Written = put_in (g.F.Folder.content c.answer_record.new.folder) (g.F.Folder.write_faults c.answer_record.new.folder) (g.K.Sink.pieces c.answer_record.new.out) (g.K.Sink.faults c.answer_record.new.out) in
+    write_failed (job_read c.args.job.now) c.args.book (g.F.Folder.content c.args.folder.now) c.loop-place.session.state c.answer_record.new.session.state c.args.rows.now c.loop-place.place u v w c.loop-place.refused c.in-Err-Failed.field-0
+    c.in-Err-Failed.field-0-is c.loop-place.invariant.none c.loop-place.invariant.answered (c.at.result.now, c.at.ensures, c.in-Err-Failed.ensures.answers)
 
 pub returns-in-Err-Memory-clause-answers : goal.returns-in-Err-Memory-clause-answers
-returns-in-Err-Memory-clause-answers g c = λ named chosen files is. inr
-    (memory_failed _ _ (record { named = named; budget = c.args.budget; pick = chosen }) c.args.book files c.loop-place.session.state c.answer_record.new.session.state c.args.rows.now c.loop-place.place (g.K.Sink.pieces c.args.out.now)
-    (g.K.Sink.pieces c.loop-place.out) (g.K.Sink.pieces c.answer_record.new.out) c.loop-place.refused c.in-Err-Memory.field-0 c.loop-place.invariant.rule is c.in-Err-Memory.field-0-is (c.loop-place.invariant.answered files) c.in-Err-Memory.ensures.answers)
+returns-in-Err-Memory-clause-answers g c =
+    let u : Written = put_in (g.F.Folder.content c.args.folder.now) (g.F.Folder.write_faults c.args.folder.now) (g.K.Sink.pieces c.args.out.now) (g.K.Sink.faults c.args.out.now) in
+    let v : Written = put_in (g.F.Folder.content c.loop-place.folder) (g.F.Folder.write_faults c.loop-place.folder) (g.K.Sink.pieces c.loop-place.out) (g.K.Sink.faults c.loop-place.out) in
+    let w : Written = put_in (g.F.Folder.content c.answer_record.new.folder) (g.F.Folder.write_faults c.answer_record.new.folder) (g.K.Sink.pieces c.answer_record.new.out) (g.K.Sink.faults c.answer_record.new.out) in
+    memory_failed (job_read c.args.job.now) c.args.book (g.F.Folder.content c.args.folder.now) c.loop-place.session.state c.answer_record.new.session.state c.args.rows.now c.loop-place.place u v w c.loop-place.refused c.in-Err-Memory.field-0
+    c.in-Err-Memory.field-0-is c.loop-place.invariant.answered (c.at.result.now, c.at.ensures, c.in-Err-Memory.ensures.answers)
 
 pub loop-place-preserved : goal.loop-place-preserved
 loop-place-preserved g c =
+    let u : Written = put_in (g.F.Folder.content c.args.folder.now) (g.F.Folder.write_faults c.args.folder.now) (g.K.Sink.pieces c.args.out.now) (g.K.Sink.faults c.args.out.now) in
+    let v : Written = put_in (g.F.Folder.content c.loop-place.folder) (g.F.Folder.write_faults c.loop-place.folder) (g.K.Sink.pieces c.loop-place.out) (g.K.Sink.faults c.loop-place.out) in
+    let w : Written = put_in (g.F.Folder.content c.answer_record.new.folder) (g.F.Folder.write_faults c.answer_record.new.folder) (g.K.Sink.pieces c.answer_record.new.out) (g.K.Sink.faults c.answer_record.new.out) in
     let within : c.loop-place.place < length c.args.rows.now = omega arith in
     let refused : (c.loop-place.refused || c.in-Ok-answer_record.is_refusal) ≡ c.if-refused.refused = elim c.if-refused.branch [
       | then-refused w ↦ refused_before _ _ _ w.if-refused.true w.refused-is
       | else-refused w ↦ refused_here _ _ _ w.if-refused.false w.refused-is
     ] in
     record {
-      answered = λ files. rw (← refused)
-          (went_on _ _ c.args.budget c.args.book files c.loop-place.session.state c.answer_record.new.session.state c.args.rows.now c.loop-place.place (g.K.Sink.pieces c.args.out.now) (g.K.Sink.pieces c.loop-place.out)
-          (g.K.Sink.pieces c.answer_record.new.out) c.loop-place.refused c.in-Ok-answer_record.is_refusal c.loop-place.invariant.rule within (c.loop-place.invariant.answered files) c.in-Ok-answer_record.ensures.answers c.answer_record.ensures.sheets);
+      answered = rw (← refused)
+          (went_on (job_read c.args.job.now) c.args.book (g.F.Folder.content c.args.folder.now) c.loop-place.session.state c.answer_record.new.session.state c.args.rows.now c.loop-place.place u v w c.loop-place.refused c.in-Ok-answer_record.is_refusal within
+          c.loop-place.invariant.answered (c.at.result.now, c.at.ensures, c.in-Ok-answer_record.ensures.answers) c.answer_record.ensures.sheets);
       rule = c.answer_record.ensures.rule ∙ c.loop-place.invariant.rule;
-      same = c.in-Ok-answer_record.ensures.cause ∙ c.loop-place.invariant.same;
+      none =
+          none_failed (rule_of (pick_read c.args.job.now.pick)) (named_of c.args.job.now.named) c.loop-place.session.state c.answer_record.new.session.state c.args.rows.now c.loop-place.place u v w c.in-Ok-answer_record.is_refusal c.loop-place.invariant.none
+          (c.at.result.now, c.at.ensures, c.in-Ok-answer_record.ensures.answers);
+      reads = c.answer_record.ensures.reads ∙ c.loop-place.invariant.reads;
     }
 
 pub returns-then-refused-2-clause-answers : goal.returns-then-refused-2-clause-answers
-returns-then-refused-2-clause-answers g c = λ named chosen files is.
-    subst (λ (b : Bool). AllAnswered (setting_of (record { named = named; budget = c.args.budget; pick = chosen }) c.args.book files) c.args.rows.now (g.K.Sink.pieces c.args.out.now) (g.K.Sink.pieces c.loop-place.out) (Some files) b) c.if-refused-2.true
-    (all_answered (record { named = named; budget = c.args.budget; pick = chosen }) c.args.book files c.loop-place.session.state c.args.rows.now c.loop-place.place (g.K.Sink.pieces c.args.out.now) (g.K.Sink.pieces c.loop-place.out) c.loop-place.refused (omega arith) (rw is at c.loop-place.invariant.answered files))
+returns-then-refused-2-clause-answers g c =
+    let u : Written = put_in (g.F.Folder.content c.args.folder.now) (g.F.Folder.write_faults c.args.folder.now) (g.K.Sink.pieces c.args.out.now) (g.K.Sink.faults c.args.out.now) in
+    let v : Written = put_in (g.F.Folder.content c.loop-place.folder) (g.F.Folder.write_faults c.loop-place.folder) (g.K.Sink.pieces c.loop-place.out) (g.K.Sink.faults c.loop-place.out) in
+    all_were_answered (job_read c.args.job.now) c.args.book (g.F.Folder.content c.args.folder.now) c.loop-place.session.state c.args.rows.now c.loop-place.place u v c.loop-place.refused _ c.if-refused-2.true (omega arith) c.loop-place.invariant.answered
 
 pub returns-clause-answers : goal.returns-clause-answers
-returns-clause-answers g c = λ named chosen files is.
-    subst (λ (b : Bool). AllAnswered (setting_of (record { named = named; budget = c.args.budget; pick = chosen }) c.args.book files) c.args.rows.now (g.K.Sink.pieces c.args.out.now) (g.K.Sink.pieces c.loop-place.out) (Some files) b) c.if-refused-2.false
-    (all_answered (record { named = named; budget = c.args.budget; pick = chosen }) c.args.book files c.loop-place.session.state c.args.rows.now c.loop-place.place (g.K.Sink.pieces c.args.out.now) (g.K.Sink.pieces c.loop-place.out) c.loop-place.refused (omega arith) (rw is at c.loop-place.invariant.answered files))
+returns-clause-answers g c =
+    let u : Written = put_in (g.F.Folder.content c.args.folder.now) (g.F.Folder.write_faults c.args.folder.now) (g.K.Sink.pieces c.args.out.now) (g.K.Sink.faults c.args.out.now) in
+    let v : Written = put_in (g.F.Folder.content c.loop-place.folder) (g.F.Folder.write_faults c.loop-place.folder) (g.K.Sink.pieces c.loop-place.out) (g.K.Sink.faults c.loop-place.out) in
+    all_were_answered (job_read c.args.job.now) c.args.book (g.F.Folder.content c.args.folder.now) c.loop-place.session.state c.args.rows.now c.loop-place.place u v c.loop-place.refused _ c.if-refused-2.false (omega arith) c.loop-place.invariant.answered

@@ -1,11 +1,11 @@
-use Rattle.std.proofs.Common.{ℕ, ◌<◌, inl, inr, refl, ap, subst}
+use Rattle.std.proofs.Common.{ℕ, ◌<◌, inl, inr, refl, ap, subst, ◌∙◌}
 use Rattle.std.specs.Prelude.{Err}
 use Rattle.cell_refs.specs.declared.limits.TheConstants.{SHEETS}
-use Rattle.opensolver_cli.specs.Outside.{Outside, seen}
+use Rattle.opensolver_cli.specs.Outside.{Outside, seen, written}
 use Rattle.opensolver_cli.specs.Stops.{stop_line}
-use Rattle.opensolver_cli.specs.Words.{job_read, named_of, pick_read}
+use Rattle.opensolver_cli.specs.Words.{job_read, named_of}
 use Rattle.opensolver_cli.proofs.FileLaws.{length_texts}
-use Rattle.opensolver_cli.proofs.RunLaws.{IsFound, answered_counted, answered_exactly, memory_counted, memory_exactly, read_fault_counted, read_fault_exactly, run_answered, run_stopped, run_unseen, said_counted, stopped_exactly}
+use Rattle.opensolver_cli.proofs.RunLaws.{IsFound, answered_counted, answered_exactly, answered_over, fault_over, memory_counted, memory_exactly, read_fault_counted, read_fault_exactly, run_answered, run_stopped, run_unseen, said_counted, stopped_exactly}
 use Rattle.opensolver_cli.proofs.top.run_job.Goals as goal
 
 pub returns-in-Ok-clause-headline : goal.returns-in-Ok-clause-headline
@@ -13,27 +13,27 @@ returns-in-Ok-clause-headline g c =
     let named = named_of c.args.job.now.named in
     let job = job_read c.args.job.now in
     let before : Outside = seen (g.F.Folder.content c.args.folder.now) (g.F.Folder.read_faults c.args.folder.now) (g.F.Folder.write_faults c.args.folder.now) (g.S.Source.left c.args.script.now) (g.S.Source.faults c.args.script.now) (g.K.Sink.pieces c.args.out.now) (g.K.Sink.faults c.args.out.now) in
-    let after : Outside = seen (g.F.Folder.content c.find.new.folder) (g.F.Folder.read_faults c.find.new.folder) (g.F.Folder.write_faults c.find.new.folder) (g.S.Source.left c.find.new.script) (g.S.Source.faults c.find.new.script) (g.K.Sink.pieces c.answer_records.new.out) (g.K.Sink.faults c.answer_records.new.out) in
+    let after : Outside = seen (g.F.Folder.content c.answer_records.new.folder) (g.F.Folder.read_faults c.answer_records.new.folder) (g.F.Folder.write_faults c.answer_records.new.folder) (g.S.Source.left c.find.new.script) (g.S.Source.faults c.find.new.script) (g.K.Sink.pieces c.answer_records.new.out) (g.K.Sink.faults c.answer_records.new.out) in
     let is : IsFound named before after = record {
       order = c.in-Ok.ensures.order;
-      many = λ big. c.in-Ok.ensures.many (subst (λ (k : ℕ). SHEETS < k) (length_texts c.args.job.now.named.sheets.now) big);
-      same = c.in-Ok.ensures.folder;
-      writes = c.in-Ok.ensures.writes;
+      many = λ big. absurd (cc (c.in-Ok.ensures.many (subst (λ (k : ℕ). SHEETS < k) (length_texts c.args.job.now.named.sheets.now) big)).0);
     } in
-    run_answered job before after c.in-Ok.book c.in-Ok.rows c.answer_records.result is c.in-Ok.ensures.finds (λ files. c.answer_records.ensures.answers (named_of c.args.job.now.named) (pick_read c.args.job.now.pick) files c.requires.pick)
+    run_answered job before after c.in-Ok.book c.in-Ok.rows c.answer_records.result is c.in-Ok.ensures.finds
+    (answered_over job c.in-Ok.book c.in-Ok.rows (g.F.Folder.content c.find.new.folder) (g.F.Folder.content c.args.folder.now) (g.F.Folder.write_faults c.find.new.folder) (g.F.Folder.write_faults c.args.folder.now) (g.K.Sink.pieces c.args.out.now) (g.K.Sink.faults c.args.out.now) (written after) c.answer_records.result c.in-Ok.ensures.folder c.in-Ok.ensures.writes c.answer_records.ensures.answers)
 
 pub returns-in-Ok-clause-exactly : goal.returns-in-Ok-clause-exactly
 returns-in-Ok-clause-exactly g c =
-    answered_exactly (job_read c.args.job.now) (g.F.Folder.content c.args.folder.now) (g.S.Source.left c.args.script.now) (g.S.Source.left c.find.new.script) c.in-Ok.book c.in-Ok.rows (g.K.Sink.pieces c.args.out.now) (g.K.Sink.pieces c.answer_records.new.out)
-    c.answer_records.result c.in-Ok.ensures.finds (λ files. c.answer_records.ensures.answers (named_of c.args.job.now.named) (pick_read c.args.job.now.pick) files c.requires.pick)
+    answered_exactly (job_read c.args.job.now) (g.F.Folder.content c.args.folder.now) (g.S.Source.left c.args.script.now) (g.S.Source.left c.find.new.script) c.in-Ok.book c.in-Ok.rows c.answer_records.result c.in-Ok.ensures.finds c.answer_records.ensures.ends
 
 pub returns-in-Ok-clause-counts : goal.returns-in-Ok-clause-counts
 returns-in-Ok-clause-counts g c =
     let named = named_of c.args.job.now.named in
     let job = job_read c.args.job.now in
     let before : Outside = seen (g.F.Folder.content c.args.folder.now) (g.F.Folder.read_faults c.args.folder.now) (g.F.Folder.write_faults c.args.folder.now) (g.S.Source.left c.args.script.now) (g.S.Source.faults c.args.script.now) (g.K.Sink.pieces c.args.out.now) (g.K.Sink.faults c.args.out.now) in
-    let after : Outside = seen (g.F.Folder.content c.find.new.folder) (g.F.Folder.read_faults c.find.new.folder) (g.F.Folder.write_faults c.find.new.folder) (g.S.Source.left c.find.new.script) (g.S.Source.faults c.find.new.script) (g.K.Sink.pieces c.answer_records.new.out) (g.K.Sink.faults c.answer_records.new.out) in
-    answered_counted job before after c.in-Ok.book c.in-Ok.rows c.answer_records.result (λ files. c.answer_records.ensures.answers (named_of c.args.job.now.named) (pick_read c.args.job.now.pick) files c.requires.pick) (c.in-Ok.ensures.no_read_fault (λ e. cc e)) c.in-Ok.ensures.writes c.answer_records.ensures.cause
+    let after : Outside = seen (g.F.Folder.content c.answer_records.new.folder) (g.F.Folder.read_faults c.answer_records.new.folder) (g.F.Folder.write_faults c.answer_records.new.folder) (g.S.Source.left c.find.new.script) (g.S.Source.faults c.find.new.script) (g.K.Sink.pieces c.answer_records.new.out) (g.K.Sink.faults c.answer_records.new.out) in
+    let none = c.in-Ok.ensures.no_read_fault (λ e. cc e) in
+    answered_counted before after c.answer_records.result c.answer_records.ensures.ends (c.answer_records.ensures.reads ∙ none.0, none.1)
+    (fault_over (g.F.Folder.content c.find.new.folder) (g.F.Folder.content c.args.folder.now) (g.F.Folder.write_faults c.find.new.folder) (g.F.Folder.write_faults c.args.folder.now) (g.K.Sink.pieces c.args.out.now) (g.K.Sink.faults c.args.out.now) (written after) c.answer_records.result c.in-Ok.ensures.folder c.in-Ok.ensures.writes c.answer_records.ensures.cause)
 
 pub returns-in-Err-Stopped-clause-headline : goal.returns-in-Err-Stopped-clause-headline
 returns-in-Err-Stopped-clause-headline g c =
@@ -43,11 +43,9 @@ returns-in-Err-Stopped-clause-headline g c =
     let after : Outside = seen (g.F.Folder.content c.find.new.folder) (g.F.Folder.read_faults c.find.new.folder) (g.F.Folder.write_faults c.find.new.folder) (g.S.Source.left c.find.new.script) (g.S.Source.faults c.find.new.script) (g.K.Sink.pieces c.say_stop.new.out) (g.K.Sink.faults c.say_stop.new.out) in
     let is : IsFound named before after = record {
       order = c.in-Err-Stopped.ensures.order;
-      many = λ big. c.in-Err-Stopped.ensures.many (subst (λ (k : ℕ). SHEETS < k) (length_texts c.args.job.now.named.sheets.now) big);
-      same = c.in-Err-Stopped.ensures.folder;
-      writes = c.in-Err-Stopped.ensures.writes;
+      many = λ big. let m = c.in-Err-Stopped.ensures.many (subst (λ (k : ℕ). SHEETS < k) (length_texts c.args.job.now.named.sheets.now) big) in (record { files = c.in-Err-Stopped.ensures.folder; reads = m.1; writes = c.in-Err-Stopped.ensures.writes }, m.2);
     } in
-    run_stopped job before after c.in-Err-Stopped.stop c.say_stop.result is (rw c.in-Err-Stopped.field-0-is at c.in-Err-Stopped.ensures.finds) c.say_stop.ensures.says
+    run_stopped job before after c.in-Err-Stopped.stop c.say_stop.result is c.in-Err-Stopped.ensures.folder (rw c.in-Err-Stopped.field-0-is at c.in-Err-Stopped.ensures.finds) c.say_stop.ensures.says
 
 pub returns-in-Err-Stopped-clause-exactly : goal.returns-in-Err-Stopped-clause-exactly
 returns-in-Err-Stopped-clause-exactly g c =
@@ -70,11 +68,9 @@ returns-in-Err-Failed-clause-headline g c =
     let after : Outside = seen (g.F.Folder.content c.find.new.folder) (g.F.Folder.read_faults c.find.new.folder) (g.F.Folder.write_faults c.find.new.folder) (g.S.Source.left c.find.new.script) (g.S.Source.faults c.find.new.script) (g.K.Sink.pieces c.args.out.now) (g.K.Sink.faults c.args.out.now) in
     let is : IsFound named before after = record {
       order = c.in-Err-Failed.ensures.order;
-      many = λ big. c.in-Err-Failed.ensures.many (subst (λ (k : ℕ). SHEETS < k) (length_texts c.args.job.now.named.sheets.now) big);
-      same = c.in-Err-Failed.ensures.folder;
-      writes = c.in-Err-Failed.ensures.writes;
+      many = λ big. let m = c.in-Err-Failed.ensures.many (subst (λ (k : ℕ). SHEETS < k) (length_texts c.args.job.now.named.sheets.now) big) in (record { files = c.in-Err-Failed.ensures.folder; reads = m.1; writes = c.in-Err-Failed.ensures.writes }, m.2);
     } in
-    run_unseen job before after _ is (inl refl) refl
+    run_unseen job before after _ is c.in-Err-Failed.ensures.folder (inl refl) refl
 
 pub returns-in-Err-Failed-clause-exactly : goal.returns-in-Err-Failed-clause-exactly
 returns-in-Err-Failed-clause-exactly g c =
@@ -96,11 +92,9 @@ returns-in-Err-Memory-clause-headline g c =
     let after : Outside = seen (g.F.Folder.content c.find.new.folder) (g.F.Folder.read_faults c.find.new.folder) (g.F.Folder.write_faults c.find.new.folder) (g.S.Source.left c.find.new.script) (g.S.Source.faults c.find.new.script) (g.K.Sink.pieces c.args.out.now) (g.K.Sink.faults c.args.out.now) in
     let is : IsFound named before after = record {
       order = c.in-Err-Memory.ensures.order;
-      many = λ big. c.in-Err-Memory.ensures.many (subst (λ (k : ℕ). SHEETS < k) (length_texts c.args.job.now.named.sheets.now) big);
-      same = c.in-Err-Memory.ensures.folder;
-      writes = c.in-Err-Memory.ensures.writes;
+      many = λ big. let m = c.in-Err-Memory.ensures.many (subst (λ (k : ℕ). SHEETS < k) (length_texts c.args.job.now.named.sheets.now) big) in (record { files = c.in-Err-Memory.ensures.folder; reads = m.1; writes = c.in-Err-Memory.ensures.writes }, m.2);
     } in
-    run_unseen job before after _ is (inr refl) refl
+    run_unseen job before after _ is c.in-Err-Memory.ensures.folder (inr refl) refl
 
 pub returns-in-Err-Memory-clause-exactly : goal.returns-in-Err-Memory-clause-exactly
 returns-in-Err-Memory-clause-exactly g c =

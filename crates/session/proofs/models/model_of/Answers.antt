@@ -1,9 +1,3 @@
-use Rattle.std.proofs.Common.{ℕ}
-use Rattle.sheet_models.specs.Answers.{Prepares, StopIsListed}
-use Rattle.std.specs.Prelude.{Err}
-use Rattle.workbook.specs.State.{State}
-use Rattle.commands.specs.Lines.{CanBeSaid}
-use Rattle.session.specs.Models.{Models}
 use Rattle.session.proofs.Said.{if_ok_map}
 use Rattle.session.proofs.models.model_of.Goals as goal
 
