@@ -1,1 +1,3 @@
 pub mod MadeUp
+pub mod Putting
+pub mod Examples

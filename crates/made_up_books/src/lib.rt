@@ -1,12 +1,23 @@
 //! Workbooks that are made up, of a size that is given.
 #![tactic(auto)]
 
-ghost use Rattle.std.specs.Prelude.{◌≡◌, ◌≤◌, IfOk};
-ghost use Rattle.made_up_books.specs.MadeUp.{made_up};
+mod cells;
+mod draws;
+mod examples;
+mod names;
+mod texts;
 
+ghost use Rattle.std.specs.Prelude.{◌≡◌, ◌≤◌, ◌∷◌, [], IfOk};
+ghost use Rattle.std.specs.FinMap.{empty};
+ghost use Rattle.made_up_books.specs.MadeUp.{made_up, sheet_name};
+
+use cells::put_cells;
+use draws::Drawn;
+pub use examples::first_numbers;
 use memory::Memory;
+use names::{name_demands, name_objective, name_supplies};
 use std::alloc::Global;
-use workbook::Workbook;
+use workbook::{File, Workbook};
 
 /// The workbook of a size from 1 to 12: a sheet `gen` with so many suppliers and as many places, costs and demands that are drawn, and
 /// the names of the Solver for the least cost.
@@ -15,5 +26,24 @@ pub fn made_up(alloc: Global, size: u8) -> Result<Workbook, Memory>
     requires few { size ≤ 12 }
     ensures { IfOk result (λ book. book ≡ made_up size) }
 {
-    Err(Memory)
+    let size = u16::from(size);
+    let drawn = Drawn::new(alloc, size)?;
+    let mut book = blank(alloc)?;
+    put_cells(alloc, &mut book, size, &drawn)?;
+    name_objective(alloc, &mut book, size)?;
+    name_supplies(alloc, &mut book, size)?;
+    name_demands(alloc, &mut book, size)?;
+    Ok(book)
+}
+
+// The workbook of the sheet `gen`, without texts and names.
+fn blank(alloc: Global) -> Result<Workbook, Memory>
+    ensures { IfOk result (λ book. book ≡ record { sheets = sheet_name ∷ []; contents = empty; names = [] }) }
+{
+    let mut files = Vec::new(alloc);
+    files.push(File::new(String::from_str(alloc, "gen")?, Vec::new(alloc)))?;
+    let Ok(book) = Workbook::open(alloc, &files, b"") else {
+        return Err(Memory);
+    };
+    Ok(book)
 }

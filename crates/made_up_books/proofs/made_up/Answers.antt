@@ -1,0 +1,25 @@
+use Rattle.std.proofs.Common.{◌≡◌, ◌<◌, length, ap, arith}
+use Rattle.workbook.specs.State.{State}
+use Rattle.made_up_books.proofs.InTurn.{listed_after, listed_after_names}
+use Rattle.made_up_books.proofs.Whole.{blank, whole_is}
+use Rattle.made_up_books.proofs.made_up.Goals as goal
+
+listed_at_first : (book : State) → book ≡ blank → 0 < length book.sheets
+listed_at_first book e = let one = ap (λ (s : State). length s.sheets) e in omega arith
+
+pub put_cells-requires-clause-listed : goal.put_cells-requires-clause-listed
+put_cells-requires-clause-listed c = listed_at_first _ c.in_ok-book.ensures
+
+pub name_objective-requires-clause-listed : goal.name_objective-requires-clause-listed
+name_objective-requires-clause-listed c = listed_after _ _ _ c.in_ok-put_cells.ensures (listed_at_first _ c.in_ok-book.ensures)
+
+pub name_supplies-requires-clause-listed : goal.name_supplies-requires-clause-listed
+name_supplies-requires-clause-listed c = listed_after_names _ _ _ c.in_ok-name_objective.ensures (listed_after _ _ _ c.in_ok-put_cells.ensures (listed_at_first _ c.in_ok-book.ensures))
+
+pub name_demands-requires-clause-listed : goal.name_demands-requires-clause-listed
+name_demands-requires-clause-listed c = listed_after_names _ _ _ c.in_ok-name_supplies.ensures (listed_after_names _ _ _ c.in_ok-name_objective.ensures (listed_after _ _ _ c.in_ok-put_cells.ensures (listed_at_first _ c.in_ok-book.ensures)))
+
+pub returns : goal.returns
+returns c =
+    whole_is c.from-size.result c.args.size _ _ _ _ _ c.from-size.ensures c.in_ok-book.ensures c.in_ok-put_cells.ensures
+    c.in_ok-name_objective.ensures c.in_ok-name_supplies.ensures c.in_ok-name_demands.ensures

@@ -1,0 +1,7 @@
+// Numbers by example.
+ghost use Rattle.made_up_books.specs.Examples.{FirstNumbers};
+
+/// The numbers that are drawn for the sizes 1 and 2.
+pub fn first_numbers()
+    ensures { FirstNumbers }
+{}

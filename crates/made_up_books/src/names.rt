@@ -1,0 +1,66 @@
+// The names of the Solver: what is changed, what is to be least, and the two constraints.
+ghost use Rattle.std.specs.Prelude.{◌≡◌, ◌<◌, ◌≤◌, ◌∷◌, [], OnOk, length};
+ghost use Rattle.made_up_books.specs.Putting.{demand_names, objective_names, supply_names, with_named};
+
+use crate::texts::{address, area};
+use cell_refs::SheetId;
+use memory::Memory;
+use std::alloc::Global;
+use workbook::Workbook;
+
+/// Names the cells that are changed and the one that is to be least, and how many constraints there are.
+pub(crate) fn name_objective(alloc: Global, book: &mut Workbook, size: u16) -> Result<(), Memory>
+    requires listed { 0 < length book.old.sheets }
+    requires some { 1 ≤ size }
+    requires few { size ≤ 12 }
+    ensures { OnOk result (book.new ≡ with_named book.old (objective_names size)) }
+{
+    let sent = area(alloc, size, 0, 2 * size - 1, size - 1)?;
+    let total = address(alloc, 2 * size + 2, 0)?;
+    name(book, "solver_adj", &sent)?;
+    name(book, "solver_opt", &total)?;
+    name(book, "solver_typ", "2")?;
+    name(book, "solver_num", "2")?;
+    Ok(())
+}
+
+/// Names the first constraint: no supplier sends more than it has.
+pub(crate) fn name_supplies(alloc: Global, book: &mut Workbook, size: u16) -> Result<(), Memory>
+    requires listed { 0 < length book.old.sheets }
+    requires some { 1 ≤ size }
+    requires few { size ≤ 12 }
+    ensures { OnOk result (book.new ≡ with_named book.old (supply_names size)) }
+{
+    let sent = area(alloc, size, size, 2 * size - 1, size)?;
+    let supplies = area(alloc, size, size + 1, 2 * size - 1, size + 1)?;
+    name(book, "solver_lhs1", &sent)?;
+    name(book, "solver_rel1", "1")?;
+    name(book, "solver_rhs1", &supplies)?;
+    Ok(())
+}
+
+/// Names the second constraint: each place gets no less than it wants.
+pub(crate) fn name_demands(alloc: Global, book: &mut Workbook, size: u16) -> Result<(), Memory>
+    requires listed { 0 < length book.old.sheets }
+    requires some { 1 ≤ size }
+    requires few { size ≤ 12 }
+    ensures { OnOk result (book.new ≡ with_named book.old (demand_names size)) }
+{
+    let got = area(alloc, 2 * size, 0, 2 * size, size - 1)?;
+    let demands = area(alloc, 2 * size + 1, 0, 2 * size + 1, size - 1)?;
+    name(book, "solver_lhs2", &got)?;
+    name(book, "solver_rel2", "3")?;
+    name(book, "solver_rhs2", &demands)?;
+    Ok(())
+}
+
+// Gives a name of the first sheet a text. Each fault is told as want of memory: none else comes of so few names, which are short.
+fn name(book: &mut Workbook, name: &str, text: &str) -> Result<(), Memory>
+    requires listed { 0 < length book.old.sheets }
+    ensures { OnOk result (book.new ≡ with_named book.old ((name.now, text.now) ∷ [])) }
+{
+    let Ok(_) = book.name(Some(SheetId(0)), name, text) else {
+        return Err(Memory);
+    };
+    Ok(())
+}

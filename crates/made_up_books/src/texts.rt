@@ -1,0 +1,64 @@
+// Texts: numbers, addresses, areas and sums.
+ghost use Rattle.std.specs.Prelude.{◌≡◌, ◌++◌, IfOk, codes, decimal, string_bytes};
+ghost use Rattle.cell_refs.specs.Address.{address_text};
+ghost use Rattle.made_up_books.specs.MadeUp.{area_text, sum_of};
+
+use cell_refs::print_address;
+use itoa::Buffer;
+use memory::Memory;
+use std::alloc::Global;
+
+/// A whole number in its digits.
+pub(crate) fn number(alloc: Global, number: u16) -> Result<String, Memory>
+    ensures { IfOk result (λ text. string_bytes text ≡ decimal number) }
+{
+    let mut digits = Buffer::new();
+    Ok(String::from_str(alloc, digits.format(number))?)
+}
+
+/// The address of a cell, by its row and its column from 0.
+pub(crate) fn address(alloc: Global, row: u16, col: u16) -> Result<String, Memory>
+    ensures { IfOk result (λ text. string_bytes text ≡ address_text row col) }
+{
+    let mut text = String::new(alloc);
+    print_address(row, col, &mut text)?;
+    Ok(text)
+}
+
+/// An area, by the rows and columns of its first cell and its last.
+pub(crate) fn area(
+    alloc: Global,
+    top: u16,
+    left: u16,
+    bottom: u16,
+    right: u16,
+) -> Result<String, Memory>
+    ensures { IfOk result (λ text. string_bytes text ≡ area_text top left bottom right) }
+{
+    let mut text = address(alloc, top, left)?;
+    text.push_str(":")?;
+    print_address(bottom, right, &mut text)?;
+    Ok(text)
+}
+
+/// The sum of an area.
+pub(crate) fn sum(alloc: Global, area: &str) -> Result<String, Memory>
+    ensures { IfOk result (λ text. string_bytes text ≡ sum_of area.now) }
+{
+    let mut text = String::from_str(alloc, "=SUM(")?;
+    text.push_str(area)?;
+    text.push_str(")")?;
+    Ok(text)
+}
+
+/// The sum of the products of the cells of two areas.
+pub(crate) fn sum_of_products(alloc: Global, first: &str, second: &str) -> Result<String, Memory>
+    ensures { IfOk result (λ text. string_bytes text ≡ codes "=SUMPRODUCT(" ++ (first.now ++ (codes ";" ++ (second.now ++ codes ")")))) }
+{
+    let mut text = String::from_str(alloc, "=SUMPRODUCT(")?;
+    text.push_str(first)?;
+    text.push_str(";")?;
+    text.push_str(second)?;
+    text.push_str(")")?;
+    Ok(text)
+}
