@@ -14,8 +14,7 @@ use Rattle.recalculation.specs.Entries.{Contents}
 use Rattle.workbook.specs.declared.held.Held.{Held}
 use Rattle.workbook.specs.Edits.{is_outside}
 use Rattle.workbook.specs.Exchanging.{IsExchange}
-use Rattle.workbook.specs.Held.{IsHeld, IsKept, IsSoundly, contents_of, entry_of, held_at, put_all, text_entry}
-use Rattle.workbook.specs.Kinds.{says}
+use Rattle.workbook.specs.Held.{IsHeld, IsKept, contents_of, held_at, put_all, text_entry}
 use Rattle.workbook.specs.Listed.{IsListed, TextsAreListed}
 use Rattle.workbook.specs.Replacing.{CanReplace}
 use Rattle.workbook.specs.Room.{HasRoom}
@@ -92,9 +91,5 @@ pub same_length : (es fs : HeldCells) (k : Cell) → IsSome (held_at es k) → l
 same_length es fs k some same = let e : ◌≡◌ {A = ℕ} (cond (is_some (held_at es k)) 0 1) 0 = ap (λ b. cond b 0 1) some in omega (arith, e)
 
 -- ---- what is said of a text, in place of what the cell has
-pub exchanged : (s : State) (k : Cell) (h : Held) → CanReplace s.contents (k, h.text) → IsListed s.sheets k → entry_of h.text h.said ≡ says s.sheets s.names k h.text → IsSoundly h.said → IsExchange s (k, h)
-exchanged s k h can listed agrees sound = record {
-  has = can.has;
-  held = record { listed = listed; some = can.some; agrees = agrees; sound = sound };
-  plain = can.plain;
-}
+pub exchanged : (s : State) (k : Cell) (text : List ℕ) (h : Held) → CanReplace s.contents (k, text) → h.text ≡ text → IsHeld s.sheets s.names k h → IsExchange s (k, h)
+exchanged s k text h can same held = record { has = can.has; held = held; plain = ap is_formula_text same ∙ can.plain }

@@ -16,3 +16,9 @@ pub mod Exchanges
 pub mod Restored
 pub mod Severally
 pub mod NameEdits
+pub mod UsedNames
+pub mod NewMeanings
+pub mod Resaid
+pub mod EditedKeys
+pub mod Spelled
+pub mod Meanings

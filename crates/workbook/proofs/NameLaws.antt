@@ -32,7 +32,7 @@ small_same [] (b ∷ bs) = refl
 small_same (a ∷ xs) [] = refl
 small_same (a ∷ xs) (b ∷ bs) = λ i. turned (to_ascii_lowercase a) (to_ascii_lowercase b) i && small_same xs bs i
 
-test_is : (key : Key) (name : List ℕ) (e : Key × Name) → key.letters.items ≡ map to_ascii_lowercase name → IsKeyed e → is_key key e.0 ≡ is_called key.sheet name e.1
+pub test_is : (key : Key) (name : List ℕ) (e : Key × Name) → key.letters.items ≡ map to_ascii_lowercase name → IsKeyed e → is_key key e.0 ≡ is_called key.sheet name e.1
 test_is key name e small keyed =
     ap (λ s. option_eq nat_eq key.sheet s && bytes_eq key.letters.items e.0.letters.items) keyed.sheet
     ∙ ap (λ l. option_eq nat_eq key.sheet e.1.sheet && bytes_eq l e.0.letters.items) small

@@ -1,18 +1,21 @@
 -- What is held of the cells.
-use Rattle.std.specs.Prelude.{◌≡◌, ◌≢◌, ◌≤◌, ℕ, List, [], ◌∷◌, length, map, All, Option, Some, ⊤}
+use Rattle.std.specs.Prelude.{◌≡◌, ◌≢◌, ◌≤◌, ℕ, List, [], ◌∷◌, length, map, All, Option, Some, None, option_map, ⊤}
+use Rattle.std.specs.Option.{option_map_or}
+use Rattle.std.specs.Global.{Box}
 use Rattle.std.specs.FinMap.{from_entries, insert}
 use Rattle.std.specs.BTreeMap.{is_at}
 use Rattle.std.specs.Map.{lookup}
 use Rattle.cell_refs.specs.declared.cell.Cell.{Cell}
 use Rattle.cell_refs.specs.Cells.{cell_cmp}
 use Rattle.formula_ast.specs.Sound.{IsSound}
+use Rattle.formula_ast.specs.Tree.{Tree}
 use Rattle.sheet_model.specs.declared.value.Value.TheVariants as value
 use Rattle.recalculation.specs.Entries.{Contents, Entry, Constant, Formula, Malformed}
 use Rattle.workbook.specs.declared.held.Held.{Held}
 use Rattle.workbook.specs.declared.held.Said.{Said}
 use Rattle.workbook.specs.declared.held.Said.TheVariants as said
 use Rattle.cell_refs.specs.declared.limits.TheConstants.{FORMULAS, TEXTS}
-use Rattle.workbook.specs.Kinds.{says}
+use Rattle.workbook.specs.Kinds.{meant, says, with_names}
 use Rattle.workbook.specs.Listed.{IsListed}
 use Rattle.workbook.specs.Scoped.{IsShort}
 use Rattle.workbook.specs.State.{Name, formula_count, text_count}
@@ -37,12 +40,29 @@ abbrev pub IsSoundly : Said → Type 0
 IsSoundly (said.Formula t) = IsSound t
 IsSoundly _ = ⊤
 
+-- the tree of a formula's text before names stand for something, where names stand in it; what another text says doesn't depend on
+-- the names
+abbrev pub IsSpelled : List (List ℕ) → Cell → List ℕ → Option Tree → Type 0
+IsSpelled sheets cell text (Some t) =
+    (names : List Name) → says sheets names cell text ≡ option_map_or Formula (with_names (meant sheets names cell.sheet.0) t) Malformed
+IsSpelled sheets cell text None = (names others : List Name) → says sheets names cell text ≡ says sheets others cell text
+
+-- the tree as it is spelled and what is said of a text are what they are to be
+pub record SaysSpelled (sheets : List (List ℕ)) (names : List Name) (cell : Cell) (text : List ℕ) (p : Option (Box Tree) × Said) : Type 0 where
+  pub agrees : entry_of text p.1 ≡ says sheets names cell text
+  pub sound : IsSoundly p.1
+  pub spelled : IsSpelled sheets cell text (option_map (λ b. b.value) p.0)
+
+abbrev pub spelled_tree : Held → Option Tree
+spelled_tree held = option_map (λ b. b.value) held.spelled
+
 -- what is held of a cell on a sheet says what its text says, which is not empty
 pub record IsHeld (sheets : List (List ℕ)) (names : List Name) (cell : Cell) (held : Held) : Type 0 where
   pub listed : IsListed sheets cell
   pub some : held.text ≢ []
   pub agrees : entry_of held.text held.said ≡ says sheets names cell held.text
   pub sound : IsSoundly held.said
+  pub spelled : IsSpelled sheets cell held.text (spelled_tree held)
 
 -- what is held of a cell
 abbrev pub held_at : List (Cell × Held) → Cell → Option Held

@@ -19,3 +19,6 @@ pub mod Exchanging
 pub mod Several
 pub mod Naming
 pub mod Saving
+pub mod Uses
+pub mod Renamed
+pub mod EditedNames

@@ -1,5 +1,5 @@
 -- The records under which names are saved.
-use Rattle.std.specs.Prelude.{ℕ, List, [], ◌∷◌, map}
+use Rattle.std.specs.Prelude.{List, [], ◌∷◌, map}
 use Rattle.sheet_csv.specs.Sheet.{Record}
 use Rattle.workbook.specs.State.{Name}
 

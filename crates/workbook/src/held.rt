@@ -5,6 +5,7 @@ ghost use Rattle.cell_refs.specs.declared.cell.Cell.{Cell};
 ghost use Rattle.cell_refs.specs.Cells.{cell_cmp};
 ghost use Rattle.workbook.specs.Contents.{kind_of, tree_of};
 ghost use Rattle.workbook.specs.Held.{entry_of, held_at};
+ghost use Rattle.workbook.specs.Renamed.{is_malformed, resaid, said_at};
 
 use crate::Kind;
 use cell_refs::Cell;
@@ -25,10 +26,20 @@ pub(crate) enum Said {
     Malformed,
 }
 
-/// The text of a cell, and what it says.
+impl Said {
+    /// Whether the text isn't allowed.
+    pub(crate) fn is_malformed(&self) -> bool
+        ensures { result ≡ is_malformed self.now }
+    {
+        matches!(self, Said::Malformed)
+    }
+}
+
+/// The text of a cell, and what it says; and the tree of a formula as it is spelled, where names stand in it.
 #[derive(Drop)]
 pub(crate) struct Held {
     pub(crate) text: Text,
+    pub(crate) spelled: Option<Box<Expr>>,
     pub(crate) said: Said,
 }
 
@@ -95,5 +106,27 @@ pub(crate) fn put_over(cells: &mut BTreeMap<Cell, Held>, cell: Cell, held: Held)
 {
     if let Some(place) = cells.get_mut(&cell) {
         *place = held;
+    }
+}
+
+/// Says something else of the texts of cells, the last of them first.
+pub(crate) fn say_otherwise(cells: &mut BTreeMap<Cell, Held>, mut said: Vec<(Cell, Said)>)
+    ensures resaid { (q : Cell) → held_at cells.new.entries q
+        ≡ resaid (said_at said.items q) (held_at cells.old.entries q) }
+    ensures len { length cells.new.entries ≡ length cells.old.entries }
+{
+    while let Some((cell, other)) = said.pop() {
+        say_over(cells, cell, other);
+    }
+}
+
+// Says something else of the text of a cell, where it has one.
+fn say_over(cells: &mut BTreeMap<Cell, Held>, cell: Cell, said: Said)
+    ensures resaid { (q : Cell) → held_at cells.new.entries q
+        ≡ (if is_at (cell_cmp cell) q then resaid (Some said) (held_at cells.old.entries q) else held_at cells.old.entries q) }
+    ensures len { length cells.new.entries ≡ length cells.old.entries }
+{
+    if let Some(place) = cells.get_mut(&cell) {
+        place.said = said;
     }
 }

@@ -3,6 +3,7 @@
 
 mod adj;
 mod asked;
+mod edited;
 mod fault;
 mod file;
 mod gather;
@@ -13,9 +14,11 @@ mod names;
 mod naming;
 mod open;
 mod place;
+mod renamed;
 mod renaming;
 mod say;
 mod several;
+mod uses;
 mod words;
 mod workbook;
 

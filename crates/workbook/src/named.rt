@@ -63,8 +63,8 @@ fn text_for<'a>(alloc: Global, scope: &Scope<'a>, name: &str) -> Result<Option<&
     Ok(scope.names.text(&whole))
 }
 
-// What a name stands for in a formula.
-fn stands_for(alloc: Global, scope: &Scope, name: &str) -> Result<Option<Meant>, Memory>
+/// What a name stands for in a formula.
+pub(crate) fn stands_for(alloc: Global, scope: &Scope, name: &str) -> Result<Option<Meant>, Memory>
     requires listed { scope.now.home.0 < length scope.now.sheets.now }
     requires short { All IsShort scope.now.names.now }
     ensures meant { IfOk result (λ m. option_map meant_of m ≡ meant scope.now.sheets.now scope.now.names.now scope.now.home.0 name.now) }

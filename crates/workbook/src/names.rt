@@ -1,16 +1,21 @@
 // The names of a workbook.
-ghost use Rattle.std.specs.Prelude.{◌≡◌, ◌++◌, ◌∷◌, [], ℕ, List, None, OnErr, OnOk, true, false, IfOk, MatchBool, length, map, option_map};
-ghost use Rattle.std.specs.List.{list_any};
+ghost use Rattle.std.specs.Prelude.{◌≡◌, ◌++◌, ◌∷◌, [], ℕ, List, None, OnErr, OnOk, true, false, IfOk, MatchBool, length, map, option_map, string_bytes};
+ghost use Rattle.std.specs.List.{IsDistinct, list_any};
 ghost use Rattle.std.specs.Char.{to_ascii_lowercase};
-ghost use Rattle.std.specs.Map.{lookup};
+ghost use Rattle.std.specs.Map.{keys_of, lookup};
+ghost use Rattle.indexmap.specs.IndexMap.{shift_remove_entry};
+ghost use Rattle.workbook.specs.EditedNames.{retexted, with_named, without};
 ghost use Rattle.workbook.specs.Keyed.{is_key};
+ghost use Rattle.workbook.specs.Saving.{saved_names};
 ghost use Rattle.workbook.specs.State.{is_called, is_same_sheet, text_of};
 
 use cell_refs::SheetId;
 use indexmap::IndexMap;
 use memory::Memory;
-use std::alloc::Global;
+use sheet_csv::Rows;
+use std::alloc::{AllocError, Global};
 use std::marker::Model;
+use std::mem::drop;
 
 /// A name: the sheet for which it stands, or none for the whole workbook, the sheet and the name as they are spelled, and its
 /// text.
@@ -46,6 +51,17 @@ impl Name {
     {
         is_same_sheet(self.sheet, sheet) && self.name.as_str().eq_ignore_ascii_case(name)
     }
+
+    // Adds its record at the end.
+    fn add_to(&self, rows: &mut Rows) -> Result<(), Memory>
+        ensures { OnOk result (rows.new ≡ rows.old ++ (self.now.sheet_text ∷ self.now.name ∷ self.now.text ∷ []) ∷ []) }
+    {
+        rows.add(&[
+            self.sheet_text.as_str(),
+            self.name.as_str(),
+            self.text.as_str(),
+        ])
+    }
 }
 
 // Whether two sheets are the same.
@@ -56,6 +72,19 @@ fn is_same_sheet(named: Option<SheetId>, sheet: Option<SheetId>) -> bool
         (None, None) => true,
         (Some(named), Some(sheet)) => named.0 == sheet.0,
         _ => false,
+    }
+}
+
+impl Clone for Name {
+    ghost is_clone = { λ n m. m ≡ n };
+
+    fn clone(&self) -> Result<Name, AllocError> {
+        Ok(Name {
+            sheet: self.sheet,
+            sheet_text: self.sheet_text.clone()?,
+            name: self.name.clone()?,
+            text: self.text.clone()?,
+        })
     }
 }
 
@@ -77,6 +106,17 @@ impl Key {
             None => None,
         };
         Ok(Key { sheet, letters })
+    }
+}
+
+impl Clone for Key {
+    ghost is_clone = { λ k l. (l.sheet ≡ k.sheet) × (l.letters.items ≡ k.letters.items) };
+
+    fn clone(&self) -> Result<Key, AllocError> {
+        Ok(Key {
+            sheet: self.sheet,
+            letters: self.letters.clone()?,
+        })
     }
 }
 
@@ -167,6 +207,76 @@ impl Names {
         }
         insert_new(&mut self.names, key, name)?;
         Ok(true)
+    }
+}
+
+impl Names {
+    /// The same names.
+    pub(crate) fn copy(&self) -> Result<Names, Memory>
+        ensures { IfOk result (λ copy. copy ≡ self.now) }
+    {
+        let names = self.names.clone()?;
+        Ok(Names { names })
+    }
+
+    /// Gives a name a text: in its place, where it is there, and else last.
+    pub(crate) fn put(&mut self, alloc: Global, name: Name) -> Result<(), Memory>
+        ensures { OnOk result (self.new ≡ with_named self.old name) }
+    {
+        let key = Key::new(alloc, name.sheet, name.name.as_str())?;
+        if self.text(&key).is_some() {
+            put_text(&mut self.names, &key, name.text);
+            return Ok(());
+        }
+        insert_new(&mut self.names, key, name)?;
+        Ok(())
+    }
+
+    /// Takes a name away, where it is there.
+    pub(crate) fn remove(
+        &mut self,
+        alloc: Global,
+        sheet: Option<SheetId>,
+        name: &str,
+    ) -> Result<(), Memory>
+        ensures { OnOk result (self.new ≡ without (option_map (λ s. s.0) sheet) name.now self.old) }
+    {
+        let key = Key::new(alloc, sheet, name)?;
+        remove_key(&mut self.names, &key);
+        Ok(())
+    }
+
+    /// The records of the names, in their order and as they are spelled.
+    pub(crate) fn rows(&self, alloc: Global) -> Result<Rows, Memory>
+        ensures { IfOk result (λ rows. rows ≡ saved_names self.now) }
+    {
+        let mut rows = Rows::new(alloc);
+        for place in 0..self.names.len() {
+            let Some((_, own)) = self.names.get_index(place) else {
+                unreachable!()
+            };
+            own.add_to(&mut rows)?;
+        }
+        Ok(rows)
+    }
+}
+
+// Takes a name away by its key.
+fn remove_key(names: &mut IndexMap<Key, Name>, key: &Key)
+    ensures entries { names.new.entries ≡ shift_remove_entry (is_key key.now) names.old.entries }
+    ensures unique { IsDistinct is_key (keys_of names.old.entries) }
+{
+    let _count = names.len();
+    drop(names.shift_remove(key));
+}
+
+// Puts a text in the place of that of a name.
+fn put_text(names: &mut IndexMap<Key, Name>, key: &Key, text: String)
+    ensures entries { names.new.entries ≡ retexted (is_key key.now) (string_bytes text) names.old.entries }
+    ensures unique { IsDistinct is_key (keys_of names.old.entries) }
+{
+    if let Some(own) = names.get_mut(key) {
+        own.text = text;
     }
 }
 

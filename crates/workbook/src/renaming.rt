@@ -27,7 +27,13 @@ impl Workbook {
         if let Some(fault) = self.name_fault(sheet, name, text) {
             return Err(fault);
         }
-        Err(EditFault::Memory)
+        let Ok(names) = self.with_name(sheet, name, text) else {
+            return Err(EditFault::Memory);
+        };
+        let Ok(cells) = self.rename(names, name) else {
+            return Err(EditFault::Memory);
+        };
+        Ok(cells)
     }
 
     /// Takes away a name of a sheet or of the whole workbook, where it is there, and answers the cells that say something else now. On
@@ -36,14 +42,15 @@ impl Workbook {
         requires listed { IfSome sheet (λ s. s.0 < length self.old.sheets) }
         ensures { Unnames self.old (option_map (λ s. s.0) sheet) name.now result self.new }
     {
-        Err(Memory)
+        let names = self.without_name(sheet, name)?;
+        self.rename(names, name)
     }
 
     /// The records of the names, in their order and as they are spelled.
     pub fn name_rows(&self, alloc: Global) -> Result<Rows, Memory>
         ensures { IfOk result (λ rows. rows ≡ saved_names self.now.names) }
     {
-        Err(Memory)
+        self.names().rows(alloc)
     }
 
     // Why a name doesn't get a text, if it doesn't.

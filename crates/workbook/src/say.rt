@@ -1,53 +1,101 @@
 // What texts say.
-ghost use Rattle.std.specs.Prelude.{◌≡◌, ◌<◌, ◌≤◌, All, IfOk, length};
+ghost use Rattle.std.specs.Prelude.{◌≡◌, ◌≢◌, ◌<◌, ◌≤◌, ℕ, true, List, [], All, IfOk, length};
 ghost use Rattle.std.specs.Option.{option_map_or};
 ghost use Rattle.recalculation.specs.Entries.{Formula, Malformed};
-ghost use Rattle.workbook.specs.Held.{IsSoundly, entry_of};
-ghost use Rattle.workbook.specs.Kinds.{formula_tree, number_or_other, says};
+ghost use Rattle.workbook.specs.Held.{IsHeld, IsSoundly, SaysSpelled, entry_of};
+ghost use Rattle.workbook.specs.Listed.{IsListed};
+ghost use Rattle.workbook.specs.State.{is_formula_text};
+ghost use Rattle.workbook.specs.Kinds.{formula_tree, number_or_other};
 ghost use Rattle.frac128.specs.NumeralReading.{reading};
 ghost use Rattle.workbook.specs.Scoped.{IsShort};
 
-use crate::held::Said;
+use crate::held::{Held, Said};
 use crate::named::Scope;
 use crate::naming::named;
+use crate::uses::uses;
 use crate::words::{is_formula, logical};
 use cell_refs::Cell;
 use formula_ast::Expr;
 use formula_parser::{ParseFault, parse};
 use frac128::{Frac, NumeralFault};
 use memory::Memory;
+use sheet_model::Text;
 use std::alloc::Global;
 
-/// What the text of a cell says.
-pub(crate) fn say(alloc: Global, scope: &Scope, cell: Cell, text: &str) -> Result<Said, Memory>
+/// What is held of a cell that has a text.
+pub(crate) fn hold(alloc: Global, scope: &Scope, cell: Cell, text: Text) -> Result<Held, Memory>
+    requires home { scope.now.home ≡ cell.sheet }
+    requires listed { IsListed scope.now.sheets.now cell }
+    requires short { All IsShort scope.now.names.now }
+    requires some { text ≢ [] }
+    requires length { length text ≤ 8192 }
+    ensures text { IfOk result (λ held. held.text ≡ text) }
+    ensures held { IfOk result (λ held. IsHeld scope.now.sheets.now scope.now.names.now cell held) }
+{
+    let (spelled, said) = say(alloc, scope, cell, text.as_str())?;
+    Ok(Held {
+        text,
+        spelled,
+        said,
+    })
+}
+
+// The tree of a text in which names stand, as it is spelled, and what the text says.
+fn say(
+    alloc: Global,
+    scope: &Scope,
+    cell: Cell,
+    text: &str,
+) -> Result<(Option<Box<Expr>>, Said), Memory>
     requires home { scope.now.home ≡ cell.sheet }
     requires listed { scope.now.home.0 < length scope.now.sheets.now }
     requires short { All IsShort scope.now.names.now }
     requires length { length text.now ≤ 8192 }
-    ensures agrees { IfOk result (λ said. entry_of text.now said ≡ says scope.now.sheets.now scope.now.names.now cell text.now) }
-    ensures sound { IfOk result IsSoundly }
+    ensures { IfOk result (SaysSpelled scope.now.sheets.now scope.now.names.now cell text.now) }
 {
     if is_formula(text) {
-        return formula(alloc, scope, text);
+        return formula(alloc, scope, cell, text);
     }
-    Ok(constant(text))
+    Ok((None, constant(text)))
 }
 
-// What a formula's text says.
-fn formula(alloc: Global, scope: &Scope, text: &str) -> Result<Said, Memory>
+// The same of a formula's text.
+fn formula(
+    alloc: Global,
+    scope: &Scope,
+    cell: Cell,
+    text: &str,
+) -> Result<(Option<Box<Expr>>, Said), Memory>
+    requires home { scope.now.home ≡ cell.sheet }
     requires listed { scope.now.home.0 < length scope.now.sheets.now }
     requires short { All IsShort scope.now.names.now }
     requires length { length text.now ≤ 8192 }
-    ensures agrees { IfOk result (λ said. entry_of text.now said
-        ≡ option_map_or Formula (formula_tree scope.now.sheets.now scope.now.names.now scope.now.home.0 text.now) Malformed) }
-    ensures sound { IfOk result IsSoundly }
+    requires begins { is_formula_text text.now ≡ true }
+    ensures { IfOk result (SaysSpelled scope.now.sheets.now scope.now.names.now cell text.now) }
 {
-    match tree(alloc, scope, text)? {
+    let expr = match parse(alloc, text, scope.home, scope.sheets) {
+        Ok(expr) => expr,
+        Err(ParseFault::Memory) => return Err(Memory),
+        Err(_) => return Ok((None, Said::Malformed)),
+    };
+    let said = said_of(named(alloc, scope, &expr)?);
+    if uses(&expr, None) {
+        return Ok((Some(Box::new(alloc, expr)?), said));
+    }
+    Ok((None, said))
+}
+
+/// What is said of a formula's text that has this tree, or none that is allowed.
+pub(crate) fn said_of(tree: Option<Expr>) -> Said
+    ensures agrees { (text : List ℕ) → entry_of text result ≡ option_map_or Formula tree Malformed }
+    ensures sound { IsSoundly result }
+{
+    match tree {
         Some(tree) => {
             tree.soundness();
-            Ok(Said::Formula(tree))
+            Said::Formula(tree)
         }
-        None => Ok(Said::Malformed),
+        None => Said::Malformed,
     }
 }
 

@@ -12,12 +12,15 @@ ghost use Rattle.workbook.specs.Replacing.{CanReplace};
 ghost use Rattle.workbook.specs.State.{formula_count, is_formula_text, text_count, text_of, with_text};
 ghost use Rattle.workbook.specs.Room.{HasRoom};
 ghost use Rattle.workbook.specs.Several.{is_too_much};
+ghost use Rattle.workbook.specs.Naming.{SayOtherwise};
+ghost use Rattle.workbook.specs.Renamed.{OthersStay};
 ghost use Rattle.workbook.specs.Scoped.{IsShort};
 
-use crate::held::{Held, put_in, put_over, take_away};
+use crate::held::{Held, put_in, put_over, say_otherwise, take_away};
 use crate::named::Scope;
 use crate::names::Names;
-use crate::say::say;
+use crate::renamed::{Edit, cells_of, renamed};
+use crate::say::hold;
 use crate::words::{is_formula, one};
 use crate::{EditFault, Kind};
 use cell_refs::{COLUMNS, Cell, FORMULAS, ROWS, SheetId, SheetNames, TEXT_BYTES, TEXTS};
@@ -174,10 +177,10 @@ impl Workbook {
             sheets: &self.sheets,
             names: &self.names,
         };
-        let said = say(self.alloc, &scope, cell, text.as_str())?;
         let is_one = is_formula(text.as_str());
+        let held = hold(self.alloc, &scope, cell, text)?;
         let was_one = self.has_formula(cell);
-        let was = put_in(&mut self.cells, cell, Held { text, said })?;
+        let was = put_in(&mut self.cells, cell, held)?;
         self.formulas = self.formulas + one(is_one) - one(was_one);
         Ok(was)
     }
@@ -250,8 +253,8 @@ impl Workbook {
         ensures text { IfOk result (λ held. held.text ≡ text) }
         ensures fits { IfOk result (λ held. IsExchange self.now (cell, held)) }
     {
-        let said = say(self.alloc, &self.scope(cell.sheet), cell, text.as_str())?;
-        Ok(Held { text, said })
+        let held = hold(self.alloc, &self.scope(cell.sheet), cell, text)?;
+        Ok(held)
     }
 
     // The names, whose texts are no longer than a field.
@@ -294,6 +297,27 @@ impl Workbook {
         let was_one = self.has_formula(cell);
         put_over(&mut self.cells, cell, held);
         self.formulas -= one(was_one);
+    }
+
+    // Puts names in the place of others that differ at one name, and answers the cells that say something else now.
+    pub(crate) fn rename(&mut self, names: Names, name: &str) -> Result<Vec<Cell>, Memory>
+        requires others { OthersStay name.now self.old.names names }
+        requires short { All IsShort names }
+        ensures names { OnOk result (self.new ≡ record self.old { names = names }) }
+        ensures told { IfOk result (λ cells. SayOtherwise self.old self.new cells.items) }
+        ensures err { OnErr result (self.new ≡ self.old) }
+    {
+        let edit = Edit {
+            sheets: &self.sheets,
+            before: &self.names,
+            after: &names,
+            name,
+        };
+        let said = renamed(self.alloc, &edit, &self.cells)?;
+        let cells = cells_of(self.alloc, &said)?;
+        self.names = names;
+        say_otherwise(&mut self.cells, said);
+        Ok(cells)
     }
 
     /// Takes away the text of a cell.

@@ -1,0 +1,204 @@
+// Cells that say something else once a name stands for something else.
+ghost use Rattle.std.specs.Prelude.{◌≡◌, ◌≢◌, ◌<◌, ◌&&◌, All, IfOk, IfSome, MatchBool, MatchOption, OnOk, ◌++◌, false, length, map, option_map, true};
+ghost use Rattle.std.specs.Map.{keys_of};
+ghost use Rattle.workbook.specs.Held.{AllAreHeld, IsHeld};
+ghost use Rattle.workbook.specs.Kinds.{Amount, Cells, meant};
+ghost use Rattle.workbook.specs.Renamed.{AreResaid, OthersStay, Resaid, is_malformed, of_cell};
+ghost use Rattle.workbook.specs.Scoped.{IsMeantOnSheet, IsShort, meant_of};
+
+use crate::held::{Held, Said};
+use crate::named::{Meant, Scope, stands_for};
+use crate::names::Names;
+use crate::naming::named;
+use crate::say::said_of;
+use crate::uses::uses;
+use cell_refs::{Area, Cell, SheetId, SheetNames};
+use frac128::Frac;
+use memory::Memory;
+use std::alloc::Global;
+use std::cmp::Ordering;
+use std::collections::BTreeMap;
+
+/// The names before and after an edit of one of them, and that name.
+#[derive(Clone, Copy)]
+pub(crate) struct Edit<'a> {
+    pub(crate) sheets: &'a SheetNames,
+    pub(crate) before: &'a Names,
+    pub(crate) after: &'a Names,
+    pub(crate) name: &'a str,
+}
+
+/// What is said after the edit of the cells that say something else; no other formula's tree is made anew.
+pub(crate) fn renamed(
+    alloc: Global,
+    edit: &Edit,
+    cells: &BTreeMap<Cell, Held>,
+) -> Result<Vec<(Cell, Said)>, Memory>
+    requires held { AllAreHeld edit.now.sheets.now edit.now.before.now cells.now.entries }
+    requires others { OthersStay edit.now.name.now edit.now.before.now edit.now.after.now }
+    requires short { All IsShort edit.now.before.now }
+    requires short_after { All IsShort edit.now.after.now }
+    ensures { IfOk result (λ said. AreResaid edit.now.sheets.now edit.now.before.now edit.now.after.now cells.now.entries said.items) }
+{
+    let mut said = Vec::new(alloc);
+    for (cell, held) in cells.iter() {
+        let other = resaid(alloc, edit, *cell, held)?;
+        add_other(&mut said, *cell, other)?;
+    }
+    Ok(said)
+}
+
+// Adds what is said of a cell, where it is something else.
+fn add_other(said: &mut Vec<(Cell, Said)>, cell: Cell, other: Option<Said>) -> Result<(), Memory>
+    ensures { OnOk result (said.new.items ≡ said.old.items ++ of_cell cell other) }
+{
+    let Some(other) = other else {
+        return Ok(());
+    };
+    said.push((cell, other))?;
+    Ok(())
+}
+
+/// The cells of which something else is said.
+pub(crate) fn cells_of(alloc: Global, said: &[(Cell, Said)]) -> Result<Vec<Cell>, Memory>
+    ensures { IfOk result (λ cells. cells.items ≡ keys_of said.now) }
+{
+    let mut cells = Vec::new(alloc);
+    for (cell, _) in said {
+        cells.push(*cell)?;
+    }
+    Ok(cells)
+}
+
+// What is said after the edit of a cell, where it is something else.
+fn resaid(alloc: Global, edit: &Edit, cell: Cell, held: &Held) -> Result<Option<Said>, Memory>
+    requires held { IsHeld edit.now.sheets.now edit.now.before.now cell held.now }
+    requires others { OthersStay edit.now.name.now edit.now.before.now edit.now.after.now }
+    requires short { All IsShort edit.now.before.now }
+    requires short_after { All IsShort edit.now.after.now }
+    ensures { IfOk result (λ said. Resaid edit.now.sheets.now edit.now.before.now edit.now.after.now cell held.now said) }
+{
+    let Some(spelled) = &held.spelled else {
+        return Ok(None);
+    };
+    if !uses(spelled, Some(edit.name)) {
+        return Ok(None);
+    }
+    if is_meant_alike(alloc, edit, cell.sheet)? {
+        return Ok(None);
+    }
+    let scope = Scope {
+        home: cell.sheet,
+        sheets: edit.sheets,
+        names: edit.after,
+    };
+    let said = said_of(named(alloc, &scope, spelled)?);
+    Ok(other_said(said, &held.said))
+}
+
+// What is said now, if the text isn't malformed now as it was before.
+fn other_said(said: Said, was: &Said) -> Option<Said>
+    ensures { MatchOption result ((is_malformed said ≡ true) × (is_malformed was.now ≡ true))
+        (λ other. (other ≡ said) × ((is_malformed said && is_malformed was.now) ≡ false)) }
+{
+    if !said.is_malformed() {
+        return Some(said);
+    }
+    if !was.is_malformed() {
+        return Some(said);
+    }
+    None
+}
+
+// Whether the name stands for one thing before and after the edit, in formulas of a sheet.
+fn is_meant_alike(alloc: Global, edit: &Edit, home: SheetId) -> Result<bool, Memory>
+    requires listed { home.0 < length edit.now.sheets.now }
+    requires short { All IsShort edit.now.before.now }
+    requires short_after { All IsShort edit.now.after.now }
+    ensures { IfOk result (λ alike. MatchBool alike
+        (meant edit.now.sheets.now edit.now.before.now home.0 edit.now.name.now ≡ meant edit.now.sheets.now edit.now.after.now home.0 edit.now.name.now)
+        (meant edit.now.sheets.now edit.now.before.now home.0 edit.now.name.now ≢ meant edit.now.sheets.now edit.now.after.now home.0 edit.now.name.now)) }
+{
+    let sheets = edit.sheets;
+    let scope = Scope {
+        home,
+        sheets,
+        names: edit.before,
+    };
+    let before = stands_for(alloc, &scope, edit.name)?;
+    let scope = Scope {
+        home,
+        sheets,
+        names: edit.after,
+    };
+    let after = stands_for(alloc, &scope, edit.name)?;
+    Ok(are_alike(before, after))
+}
+
+// Whether the same is meant, or nothing both times.
+fn are_alike(one: Option<Meant>, other: Option<Meant>) -> bool
+    ensures { MatchBool result (option_map meant_of one ≡ option_map meant_of other) (option_map meant_of one ≢ option_map meant_of other) }
+{
+    match (one, other) {
+        (None, None) => true,
+        (Some(one), Some(other)) => is_alike(one, other),
+        _ => false,
+    }
+}
+
+// Whether the same is meant.
+fn is_alike(one: Meant, other: Meant) -> bool
+    ensures { MatchBool result (meant_of one ≡ meant_of other) (meant_of one ≢ meant_of other) }
+{
+    match one {
+        Meant::Amount(value) => is_amount(other, value),
+        Meant::Cells(area) => is_cells(other, area),
+    }
+}
+
+// Whether the number is meant.
+fn is_amount(meant: Meant, value: Frac) -> bool
+    ensures { MatchBool result (Amount value ≡ meant_of meant) (Amount value ≢ meant_of meant) }
+{
+    match meant {
+        Meant::Amount(other) => is_one_amount(value, other),
+        Meant::Cells(_) => false,
+    }
+}
+
+// Whether the area is meant.
+fn is_cells(meant: Meant, area: Area) -> bool
+    ensures { MatchBool result (Cells area ≡ meant_of meant) (Cells area ≢ meant_of meant) }
+{
+    match meant {
+        Meant::Amount(_) => false,
+        Meant::Cells(other) => is_one_area(area, other),
+    }
+}
+
+// Whether two numbers are one.
+fn is_one_amount(one: Frac, other: Frac) -> bool
+    ensures { MatchBool result (one ≡ other) (one ≢ other) }
+{
+    match one.compare(other) {
+        Ordering::Less => false,
+        Ordering::Equal => true,
+        Ordering::Greater => false,
+    }
+}
+
+// Whether two areas are one.
+fn is_one_area(one: Area, other: Area) -> bool
+    ensures { MatchBool result (one ≡ other) (one ≢ other) }
+{
+    if one.sheet().0 != other.sheet().0 {
+        return false;
+    }
+    if one.top() != other.top() || one.left() != other.left() {
+        return false;
+    }
+    if one.bottom() != other.bottom() || one.right() != other.right() {
+        return false;
+    }
+    true
+}
