@@ -1,4 +1,4 @@
-// Runs with options before the sheets. The answers follow from the rules by hand.
+// Runs with options. The answers follow from the rules by hand.
 use crate::run_tests::{Case, Files, NAMES, NEVER, ONE, OPTIMAL, PLANNED, SOLVE, USAGE, ran};
 use opensolver_cli::Status;
 use std::test::Fail;
@@ -25,7 +25,7 @@ const WHOLE: Files<'static> = &[
 
 const CELLS: &[u8] = b"solve,plan\nshow,plan!A1\nshow,plan!B1\n";
 
-// Options before the sheets. The plan takes 13 units: 4 for the root, which splits at B1, 4 where B1 is 0, and 5 where it is 1.
+// Options at any place. The plan takes 13 units: 4 for the root, which splits at B1, 4 where B1 is 0, and 5 where it is 1.
 const OPTIONS: &[Case<'static>] = &[
     (
         "--names names.csv --budget 1 plan.csv",
@@ -154,14 +154,70 @@ const OPTIONS: &[Case<'static>] = &[
         "optimal 16\nnumber 0\nnumber 4\n",
     ),
     (
-        "--names --budget plan.csv",
+        "--names names.csv --budget=1 plan.csv",
+        PLANNED,
+        SOLVE,
+        Status::Refused,
+        "refused budget 1\n",
+    ),
+    (
+        "--names names.csv plan.csv --budget 1 other.csv",
         PLANNED,
         SOLVE,
         Status::BadInput,
-        "bad-input --budget missing\n",
+        "bad-input other.csv missing\n",
     ),
     (
-        "--names names.csv --pick.csv",
+        "--budget 1 --names names.csv plan.csv",
+        PLANNED,
+        SOLVE,
+        Status::Refused,
+        "refused budget 1\n",
+    ),
+    (
+        "--names names.csv --pick=best plan.csv",
+        PLANNED,
+        SOLVE,
+        Status::Done,
+        "optimal 8\n",
+    ),
+    (
+        "--names names.csv --pick best --budget 1 plan.csv",
+        PLANNED,
+        SOLVE,
+        Status::Refused,
+        "refused budget 1\n",
+    ),
+    (
+        "--names names.csv plan.csv --pick best",
+        PLANNED,
+        SOLVE,
+        Status::Done,
+        "optimal 8\n",
+    ),
+    (
+        "--pick best --names names.csv plan.csv",
+        PLANNED,
+        SOLVE,
+        Status::Done,
+        "optimal 8\n",
+    ),
+    (
+        "plan.csv --names=names.csv",
+        PLANNED,
+        SOLVE,
+        Status::Done,
+        "optimal 8\n",
+    ),
+    (
+        "--names names.csv -- plan.csv",
+        PLANNED,
+        SOLVE,
+        Status::Done,
+        "optimal 8\n",
+    ),
+    (
+        "--names names.csv -- --pick.csv",
         PLANNED,
         SOLVE,
         Status::BadInput,
@@ -169,7 +225,7 @@ const OPTIONS: &[Case<'static>] = &[
     ),
 ];
 
-// Words with options of another form, or at another place.
+// Words with options of another form.
 const OTHER_OPTIONS: &[&str] = &[
     "--names names.csv --budget 0 plan.csv",
     "--names names.csv --budget 000 plan.csv",
@@ -187,12 +243,9 @@ const OTHER_OPTIONS: &[&str] = &[
     "--names names.csv --budget plan.csv",
     "--names names.csv --budget",
     "--names names.csv --budget 1",
-    "--names names.csv --budget=1 plan.csv",
     "--names names.csv --BUDGET 1 plan.csv",
     "--names names.csv --budget 1 --budget 1 plan.csv",
-    "--names names.csv plan.csv --budget 1 other.csv",
     "--names --budget 1 names.csv plan.csv",
-    "--budget 1 --names names.csv plan.csv",
     "--names names.csv --pick newest plan.csv",
     "--names names.csv --pick dept plan.csv",
     "--names names.csv --pick depths plan.csv",
@@ -203,17 +256,55 @@ const OTHER_OPTIONS: &[&str] = &[
     "--names names.csv --pick plan.csv",
     "--names names.csv --pick",
     "--names names.csv --pick best",
-    "--names names.csv --pick=best plan.csv",
     "--names names.csv --Pick best plan.csv",
     "--names names.csv --pick best --pick best plan.csv",
-    "--names names.csv --pick best --budget 1 plan.csv",
-    "--names names.csv plan.csv --pick best",
-    "--pick best --names names.csv plan.csv",
     "--names names.csv --names names.csv plan.csv",
+    "--names --budget plan.csv",
+    "--names names.csv --pick.csv",
+    "--names names.csv -x plan.csv",
+    "--names names.csv --help plan.csv",
+    "--names names.csv -h plan.csv",
+    "--names names.csv --version plan.csv",
+    "--names names.csv --",
+    "--",
+    "--names= plan.csv other",
+    "--gen",
+    "--gen 0",
+    "--gen 13",
+    "--gen x",
+    "--gen +1",
+    "--gen -1",
+    "--gen 1.0",
+    "--gen ''",
+    "--gen 1 plan.csv",
+    "--gen 1 --names names.csv",
+    "--gen 1 --names names.csv plan.csv",
+    "--gen 1 --budget 5",
+    "--gen 1 --pick best",
+    "--gen 1 --gen 1",
+    "--gen 1 2",
+];
+
+// Workbooks that are made up, and the least cost of each. The costs come from another way of finding them, by flows along shortest
+// paths.
+const MADE_UP: &[(&str, &str)] = &[
+    ("--gen 1", "gen 1 optimal 342\n"),
+    ("--gen 2", "gen 2 optimal 450\n"),
+    ("--gen 3", "gen 3 optimal 632\n"),
+    ("--gen 4", "gen 4 optimal 518\n"),
+    ("--gen 5", "gen 5 optimal 364\n"),
+    ("--gen 6", "gen 6 optimal 416\n"),
+    ("--gen 7", "gen 7 optimal 336\n"),
+    ("--gen 8", "gen 8 optimal 383\n"),
+    ("--gen 9", "gen 9 optimal 357\n"),
+    ("--gen 10", "gen 10 optimal 357\n"),
+    ("--gen 11", "gen 11 optimal 349\n"),
+    ("--gen=12", "gen 12 optimal 414\n"),
+    ("--gen 002", "gen 2 optimal 450\n"),
 ];
 
 #[test]
-fn options_before_the_sheets(rt: HostRuntime) -> Result<(), Fail> {
+fn options_at_any_place(rt: HostRuntime) -> Result<(), Fail> {
     for (line, files, script, end, want) in OPTIONS {
         let (status, printed) = ran(rt.alloc(), line, files, script, NEVER)?;
         assert_eq!(rt; printed.as_slice(), want.as_bytes(), "at {line}");
@@ -228,6 +319,16 @@ fn options_of_another_form(rt: HostRuntime) -> Result<(), Fail> {
         let (status, printed) = ran(rt.alloc(), line, PLANNED, SOLVE, NEVER)?;
         assert_eq!(rt; printed.as_slice(), USAGE.as_bytes(), "at {line}");
         assert!(rt; status == Status::Usage);
+    }
+    Ok(())
+}
+
+#[test]
+fn workbooks_that_are_made_up(rt: HostRuntime) -> Result<(), Fail> {
+    for (line, want) in MADE_UP {
+        let (status, printed) = ran(rt.alloc(), line, PLANNED, b"nothing\n", (0, 0, 1))?;
+        assert_eq!(rt; printed.as_slice(), want.as_bytes(), "at {line}");
+        assert!(rt; status == Status::Done);
     }
     Ok(())
 }

@@ -267,8 +267,8 @@ const OTHER_WORDS: &[Case<'static>] = &[
         "--names names.csv plan.csv --budget 1",
         PLANNED,
         SOLVE,
-        Status::Usage,
-        USAGE,
+        Status::Refused,
+        "refused budget 1\n",
     ),
 ];
 
