@@ -1,299 +1,202 @@
 // Certificates of small models of two decisions, worked out by hand.
 
-use crate::fractions_of::fraction;
-use affine_forms::Form;
-use frac128::Frac;
-use lin_model::{Condition, Conditions, Goal, LinModel, Relation, linear};
+use crate::statements::model;
+use crate::texts::numbers;
+use lin_model::LinModel;
 use opt_certificate::{CheckStop, Claim, Tree, TreeNode, check};
+use std::alloc::Global;
 use std::test::Fail;
 
-// A number for each decision.
-type Pair = (i128, i128);
+// The greatest 5 x + 4 y under 6 x + 4 y <= 24 and x + 2 y <= 6 over whole numbers: 20 at 4, 0.
+const TWO: &str = "max 0 5 4: | 0 6 4 <= 24; | 0 1 2 <= 6: 0 1: : ";
 
-// The coefficients of a sum of the decisions, which is in a relation to a number.
-type Row = (Pair, Relation, i128);
+// The same where y need not be whole: 21 at 3, 3/2.
+const ONE_WHOLE: &str = "max 0 5 4: | 0 6 4 <= 24; | 0 1 2 <= 6: 0: : ";
 
-// A model of two decisions that aren't negative.
-struct Shape {
-    is_greatest: bool,
-    objective: Pair,
-    rows: &'static [Row],
-    whole: &'static [u16],
+// Twice a whole number is 1.
+const HALF: &str = "min 0 1 0: | 0 2 0 = 1: 0: : ";
+
+// x + y grows without end under x <= y.
+const RAY: &str = "max 0 1 1: | 0 1 -1 <= 0: 0: : ";
+
+// The least x.
+const NO_ROWS: &str = "min 0 1 0: : : : ";
+
+// Where y is at most 1, x is at most 3 or at least 4; and where y is at least 2. A split is its decision, the floor, and the places of
+// the lower and the upper part.
+const TREE: &str = "split 1 1 1 4; split 0 3 2 3; best 0 0 5 4; best 1 0 1; best 0 5 6";
+
+// The same with other numbers at a leaf: too small, too wide or negative.
+const SMALL: &str = "split 1 1 1 4; split 0 3 2 3; best 0 0 5 4; best 1 0 1; best 0 4 6";
+
+const WIDE: &str =
+    "split 1 1 1 4; split 0 3 2 3; best 0 0 5 4; best 1 0 1; best 0 170141183460469231731687303715884105727 6";
+
+const NEGATIVE: &str = "split 1 1 1 4; split 0 3 2 3; best -1 0 11 8; best 1 0 1; best 0 5 6";
+
+// The leaves of two boxes exchanged.
+const EXCHANGED: &str = "split 1 1 1 4; split 0 3 2 3; best 0 0 5 4; best 0 5 6; best 1 0 1";
+
+// An upper part at the wrong place, and one past the end.
+const MISPLACED: &str = "split 1 1 1 3; split 0 3 2 3; best 0 0 5 4; best 1 0 1; best 0 5 6";
+
+const CUT_OFF: &str = "split 1 1 1 3; best 0 5 6; best 0 5 6";
+
+const HALF_TREE: &str = "split 0 0 1 2; empty 0 1 2; empty 1 0 2";
+
+// The lower leaf with a multiplier that leaves a coefficient negative.
+const HALF_NEGATIVE: &str = "split 0 0 1 2; empty 0 1 1; empty 1 0 2";
+
+// The same tree split one further up, where the lower part has a point of the rows.
+const HALF_SPLIT_AT_ONE: &str = "split 0 1 1 2; empty 0 1 2; empty 1 0 2";
+
+// A model, the nodes of a tree, the claim, and the answer: yes, no, the node at which a sum is too wide, or that the nodes are no tree.
+const CASES: &[(&str, &str, &str, &str)] = &[
+    (TWO, TREE, "optimal 4 0", "yes"),
+    (TWO, TREE, "optimal 3 1", "no"),
+    (TWO, TREE, "optimal 5 0", "no"),
+    (TWO, TREE, "infeasible", "no"),
+    (ONE_WHOLE, TREE, "optimal 4 0", "no"),
+    (TWO, SMALL, "optimal 4 0", "no"),
+    (TWO, WIDE, "optimal 4 0", "wide 4"),
+    (TWO, NEGATIVE, "optimal 4 0", "no"),
+    (TWO, EXCHANGED, "optimal 4 0", "no"),
+    (TWO, MISPLACED, "optimal 4 0", "no tree"),
+    (TWO, CUT_OFF, "optimal 4 0", "no tree"),
+    (HALF, HALF_TREE, "infeasible", "yes"),
+    (HALF, HALF_TREE, "optimal 0 0", "no"),
+    (HALF, HALF_NEGATIVE, "infeasible", "no"),
+    (HALF, HALF_SPLIT_AT_ONE, "infeasible", "no"),
+    (
+        TWO,
+        TREE,
+        "optimal 170141183460469231731687303715884105727 0",
+        "wide 0",
+    ),
+    (RAY, "", "unbounded 0 0 along 1 1", "yes"),
+    (RAY, "", "unbounded 0 0 along 1 0", "no"),
+    (RAY, "", "unbounded 0 0 along 0 0", "no"),
+    (RAY, "", "unbounded 1 0 along 1 1", "no"),
+    (RAY, "", "infeasible", "no"),
+    (NO_ROWS, "best", "optimal 0 7", "yes"),
+    (NO_ROWS, "best", "optimal 1 0", "no"),
+    (NO_ROWS, "best 1", "optimal 0 0", "no"),
+];
+
+fn split(shown: &str) -> Result<TreeNode, Fail> {
+    let (decision, others) = shown.split_once(' ').ok_or("no floor")?;
+    let (floor, others) = others.split_once(' ').ok_or("no lower part")?;
+    let (lower, upper) = others.split_once(' ').ok_or("no upper part")?;
+    let decision = decision.parse::<u16>()?;
+    let floor = floor.parse::<i128>()?;
+    Ok(TreeNode::Split(
+        decision,
+        floor,
+        lower.parse::<u32>()?,
+        upper.parse::<u32>()?,
+    ))
 }
 
-enum Shown {
-    Split(u16, i128, u32, u32),
-    Best(&'static [i128]),
-    Empty(&'static [i128]),
-}
-
-enum Said {
-    Optimal(Pair),
-    Infeasible,
-    Unbounded(Pair, Pair),
-}
-
-// A model, the nodes of a tree, the claim, and the answer; none where the nodes are no tree.
-type Case = (
-    Shape,
-    &'static [Shown],
-    Said,
-    Option<Result<bool, CheckStop>>,
-);
-
-fn number(n: i128) -> Result<Frac, Fail> {
-    Ok(fraction(n, 1).ok_or("it fits")?)
-}
-
-fn numbers(rt: &HostRuntime, shown: &[i128]) -> Result<Vec<Frac>, Fail> {
-    let mut all = Vec::new(rt.alloc());
-    for n in shown {
-        all.push(number(*n)?)?;
+fn node(alloc: Global, shown: &str) -> Result<TreeNode, Fail> {
+    if let Some(multipliers) = shown.strip_prefix("best") {
+        return Ok(TreeNode::Best(numbers(alloc, multipliers)?));
     }
-    Ok(all)
-}
-
-fn form(rt: &HostRuntime, coefficients: Pair) -> Result<Form, Fail> {
-    let first = Form::decision(rt.alloc(), 0).scale(rt.alloc(), number(coefficients.0)?)?;
-    let second = Form::decision(rt.alloc(), 1).scale(rt.alloc(), number(coefficients.1)?)?;
-    Ok(first.add(rt.alloc(), &second)?)
-}
-
-fn model(rt: &HostRuntime, shape: &Shape) -> Result<LinModel, Fail> {
-    let mut rows = Vec::new(rt.alloc());
-    let mut sides = Vec::new(rt.alloc());
-    for (left, relation, right) in shape.rows {
-        rows.push(Condition::new(None, *relation))?;
-        sides.push((
-            form(rt, *left)?,
-            Form::constant(rt.alloc(), number(*right)?),
-        ))?;
+    if let Some(multipliers) = shown.strip_prefix("empty") {
+        return Ok(TreeNode::Empty(numbers(alloc, multipliers)?));
     }
-    let mut whole = Vec::new(rt.alloc());
-    whole.extend_from_slice(shape.whole)?;
-    let none = Vec::new(rt.alloc());
-    let free = Vec::new(rt.alloc());
-    let goal = if shape.is_greatest {
-        Goal::Greatest
-    } else {
-        Goal::Least
-    };
-    let of = Conditions::new(2, Some(goal), rows, whole, none, free, true);
-    let objective = form(rt, shape.objective)?;
-    if !of.fits(&objective, &sides) {
-        return Err("no statement".into());
-    }
-    Ok(linear(rt.alloc(), &of, &objective, &sides)?)
+    split(shown.strip_prefix("split ").ok_or("no node")?)
 }
 
-fn tree(rt: &HostRuntime, shown: &[Shown]) -> Result<Option<Tree>, Fail> {
-    let mut nodes = Vec::new(rt.alloc());
-    for one in shown {
-        let node = match one {
-            Shown::Split(decision, floor, lower, upper) => {
-                TreeNode::Split(*decision, *floor, *lower, *upper)
-            }
-            Shown::Best(multipliers) => TreeNode::Best(numbers(rt, multipliers)?),
-            Shown::Empty(multipliers) => TreeNode::Empty(numbers(rt, multipliers)?),
-        };
-        nodes.push(node)?;
+fn tree(alloc: Global, shown: &str) -> Result<Option<Tree>, Fail> {
+    let mut nodes = Vec::new(alloc);
+    for one in shown.split(';') {
+        let one = one.trim();
+        if !one.is_empty() {
+            nodes.push(node(alloc, one)?)?;
+        }
     }
     Ok(Tree::from_nodes(nodes))
 }
 
-fn point(rt: &HostRuntime, shown: Pair) -> Result<Vec<Frac>, Fail> {
-    numbers(rt, &[shown.0, shown.1])
+// A point and a direction.
+fn ray(alloc: Global, shown: &str) -> Result<Claim, Fail> {
+    let (point, direction) = shown.split_once("along").ok_or("no direction")?;
+    let point = numbers(alloc, point)?;
+    let direction = numbers(alloc, direction)?;
+    Ok(Claim::Unbounded(point, direction))
 }
 
-fn claim(rt: &HostRuntime, said: &Said) -> Result<Claim, Fail> {
-    match said {
-        Said::Optimal(at) => Ok(Claim::Optimal(point(rt, *at)?)),
-        Said::Infeasible => Ok(Claim::Infeasible),
-        Said::Unbounded(at, along) => Ok(Claim::Unbounded(point(rt, *at)?, point(rt, *along)?)),
+fn claim(alloc: Global, shown: &str) -> Result<Claim, Fail> {
+    if let Some(point) = shown.strip_prefix("optimal") {
+        return Ok(Claim::Optimal(numbers(alloc, point)?));
+    }
+    match shown.strip_prefix("unbounded") {
+        Some(shown) => ray(alloc, shown),
+        None => Ok(Claim::Infeasible),
     }
 }
 
-fn answer(rt: &HostRuntime, case: &Case) -> Result<Option<Result<bool, CheckStop>>, Fail> {
-    let of = model(rt, &case.0)?;
-    let Some(tree) = tree(rt, case.1)? else {
-        return Ok(None);
-    };
-    let claim = claim(rt, &case.2)?;
+// The check's answer; none where the claim is of other decisions.
+fn checked(
+    alloc: Global,
+    of: &LinModel,
+    tree: &Tree,
+    claim: &Claim,
+) -> Option<Result<bool, CheckStop>> {
     if !claim.is_of_size(of.whole().len()) {
-        return Err("a number for each decision".into());
+        return None;
     }
-    Ok(Some(check(rt.alloc(), &of, &tree, &claim)))
+    Some(check(alloc, of, tree, claim))
 }
 
-// The greatest 5 x + 4 y under 6 x + 4 y <= 24 and x + 2 y <= 6 over whole numbers: 20 at 4, 0.
-const TWO: Shape = Shape {
-    is_greatest: true,
-    objective: (5, 4),
-    rows: &[
-        ((6, 4), Relation::AtMost, 24),
-        ((1, 2), Relation::AtMost, 6),
-    ],
-    whole: &[0, 1],
-};
+fn show_answer(answer: Option<Result<bool, CheckStop>>, to: &mut String) -> Result<(), Fail> {
+    match answer {
+        Some(Ok(true)) => to.push_str("yes")?,
+        Some(Ok(false)) => to.push_str("no")?,
+        Some(Err(CheckStop::Wide(node))) => write!(to, "wide {node}")?,
+        Some(Err(CheckStop::Memory)) => to.push_str("memory")?,
+        None => to.push_str("of other decisions")?,
+    }
+    Ok(())
+}
 
-// The same where y need not be whole: 21 at 3, 3/2.
-const ONE_WHOLE: Shape = Shape {
-    is_greatest: true,
-    objective: (5, 4),
-    rows: &[
-        ((6, 4), Relation::AtMost, 24),
-        ((1, 2), Relation::AtMost, 6),
-    ],
-    whole: &[0],
-};
+fn show_checked(
+    alloc: Global,
+    of: &LinModel,
+    tree: &Tree,
+    claimed: &str,
+    to: &mut String,
+) -> Result<(), Fail> {
+    let claim = claim(alloc, claimed)?;
+    show_answer(checked(alloc, of, tree, &claim), to)
+}
 
-// Twice a whole number is 1.
-const HALF: Shape = Shape {
-    is_greatest: false,
-    objective: (1, 0),
-    rows: &[((2, 0), Relation::Equal, 1)],
-    whole: &[0],
-};
-
-// x + y grows without end under x <= y.
-const RAY: Shape = Shape {
-    is_greatest: true,
-    objective: (1, 1),
-    rows: &[((1, -1), Relation::AtMost, 0)],
-    whole: &[0],
-};
-
-// The least x.
-const NO_ROWS: Shape = Shape {
-    is_greatest: false,
-    objective: (1, 0),
-    rows: &[],
-    whole: &[],
-};
-
-const YES: Option<Result<bool, CheckStop>> = Some(Ok(true));
-
-const NO: Option<Result<bool, CheckStop>> = Some(Ok(false));
-
-// Where y is at most 1, x is at most 3 or at least 4; and where y is at least 2.
-const TREE: &[Shown] = &[
-    Shown::Split(1, 1, 1, 4),
-    Shown::Split(0, 3, 2, 3),
-    Shown::Best(&[0, 0, 5, 4]),
-    Shown::Best(&[1, 0, 1]),
-    Shown::Best(&[0, 5, 6]),
-];
-
-// The same with other numbers at a leaf: too small, too wide or negative.
-const SMALL: &[Shown] = &[
-    Shown::Split(1, 1, 1, 4),
-    Shown::Split(0, 3, 2, 3),
-    Shown::Best(&[0, 0, 5, 4]),
-    Shown::Best(&[1, 0, 1]),
-    Shown::Best(&[0, 4, 6]),
-];
-
-const WIDE: &[Shown] = &[
-    Shown::Split(1, 1, 1, 4),
-    Shown::Split(0, 3, 2, 3),
-    Shown::Best(&[0, 0, 5, 4]),
-    Shown::Best(&[1, 0, 1]),
-    Shown::Best(&[0, i128::MAX, 6]),
-];
-
-const NEGATIVE: &[Shown] = &[
-    Shown::Split(1, 1, 1, 4),
-    Shown::Split(0, 3, 2, 3),
-    Shown::Best(&[-1, 0, 11, 8]),
-    Shown::Best(&[1, 0, 1]),
-    Shown::Best(&[0, 5, 6]),
-];
-
-// The leaves of two boxes exchanged.
-const EXCHANGED: &[Shown] = &[
-    Shown::Split(1, 1, 1, 4),
-    Shown::Split(0, 3, 2, 3),
-    Shown::Best(&[0, 0, 5, 4]),
-    Shown::Best(&[0, 5, 6]),
-    Shown::Best(&[1, 0, 1]),
-];
-
-// An upper part at the wrong place, and one past the end.
-const MISPLACED: &[Shown] = &[
-    Shown::Split(1, 1, 1, 3),
-    Shown::Split(0, 3, 2, 3),
-    Shown::Best(&[0, 0, 5, 4]),
-    Shown::Best(&[1, 0, 1]),
-    Shown::Best(&[0, 5, 6]),
-];
-
-const CUT_OFF: &[Shown] = &[
-    Shown::Split(1, 1, 1, 3),
-    Shown::Best(&[0, 5, 6]),
-    Shown::Best(&[0, 5, 6]),
-];
-
-const HALF_TREE: &[Shown] = &[
-    Shown::Split(0, 0, 1, 2),
-    Shown::Empty(&[0, 1, 2]),
-    Shown::Empty(&[1, 0, 2]),
-];
-
-// The lower leaf with a multiplier that leaves a coefficient negative.
-const HALF_NEGATIVE: &[Shown] = &[
-    Shown::Split(0, 0, 1, 2),
-    Shown::Empty(&[0, 1, 1]),
-    Shown::Empty(&[1, 0, 2]),
-];
-
-// The same tree split one further up, where the lower part has a point of the rows.
-const HALF_SPLIT_AT_ONE: &[Shown] = &[
-    Shown::Split(0, 1, 1, 2),
-    Shown::Empty(&[0, 1, 2]),
-    Shown::Empty(&[1, 0, 2]),
-];
-
-const CASES: &[Case] = &[
-    (TWO, TREE, Said::Optimal((4, 0)), YES),
-    (TWO, TREE, Said::Optimal((3, 1)), NO),
-    (TWO, TREE, Said::Optimal((5, 0)), NO),
-    (TWO, TREE, Said::Infeasible, NO),
-    (ONE_WHOLE, TREE, Said::Optimal((4, 0)), NO),
-    (TWO, SMALL, Said::Optimal((4, 0)), NO),
-    (
-        TWO,
-        WIDE,
-        Said::Optimal((4, 0)),
-        Some(Err(CheckStop::Wide(4))),
-    ),
-    (TWO, NEGATIVE, Said::Optimal((4, 0)), NO),
-    (TWO, EXCHANGED, Said::Optimal((4, 0)), NO),
-    (TWO, MISPLACED, Said::Optimal((4, 0)), None),
-    (TWO, CUT_OFF, Said::Optimal((4, 0)), None),
-    (HALF, HALF_TREE, Said::Infeasible, YES),
-    (HALF, HALF_TREE, Said::Optimal((0, 0)), NO),
-    (HALF, HALF_NEGATIVE, Said::Infeasible, NO),
-    (HALF, HALF_SPLIT_AT_ONE, Said::Infeasible, NO),
-    (
-        TWO,
-        TREE,
-        Said::Optimal((i128::MAX, 0)),
-        Some(Err(CheckStop::Wide(0))),
-    ),
-    (RAY, &[], Said::Unbounded((0, 0), (1, 1)), YES),
-    (RAY, &[], Said::Unbounded((0, 0), (1, 0)), NO),
-    (RAY, &[], Said::Unbounded((0, 0), (0, 0)), NO),
-    (RAY, &[], Said::Unbounded((1, 0), (1, 1)), NO),
-    (RAY, &[], Said::Infeasible, NO),
-    (NO_ROWS, &[Shown::Best(&[])], Said::Optimal((0, 7)), YES),
-    (NO_ROWS, &[Shown::Best(&[])], Said::Optimal((1, 0)), NO),
-    (NO_ROWS, &[Shown::Best(&[1])], Said::Optimal((0, 0)), NO),
-];
+fn show_tried(
+    alloc: Global,
+    of: &LinModel,
+    nodes: &str,
+    claimed: &str,
+    to: &mut String,
+) -> Result<(), Fail> {
+    match tree(alloc, nodes)? {
+        Some(tree) => show_checked(alloc, of, &tree, claimed, to),
+        None => Ok(to.push_str("no tree")?),
+    }
+}
 
 #[test]
 fn the_tree_of_two_whole_decisions_and_others_are_checked(rt: HostRuntime) -> Result<(), Fail> {
-    for case in CASES {
-        assert!(rt; answer(&rt, case)? == case.3);
+    let alloc = rt.alloc();
+    for (statement, nodes, claimed, wanted) in CASES {
+        let mut text = String::new(alloc);
+        show_tried(
+            alloc,
+            &model(alloc, 2, statement)?,
+            nodes,
+            claimed,
+            &mut text,
+        )?;
+        assert_eq!(rt; text.as_str(), *wanted, "{claimed}");
     }
     Ok(())
 }

@@ -5,8 +5,6 @@
 #[cfg(test)]
 mod certificates;
 #[cfg(test)]
-mod fractions_of;
-#[cfg(test)]
 mod models;
 #[cfg(test)]
 mod pickers;
@@ -16,3 +14,7 @@ mod pivots;
 mod programs;
 #[cfg(test)]
 mod simplex_runs;
+#[cfg(test)]
+mod statements;
+#[cfg(test)]
+mod texts;

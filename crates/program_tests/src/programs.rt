@@ -1,39 +1,69 @@
-// Each public call once, at small numbers.
+// Programs as texts: the objective's coefficients and its constant, and behind a colon the rows with a semicolon between two, each its
+// coefficients and its bound.
 
+use crate::texts::{numbers, show_number, show_numbers};
 use frac128::Frac;
 use linear_programs::{Inequality, Standard, are_regular};
 use std::alloc::Global;
 use std::test::Fail;
 
-fn numbers(alloc: Global, of: &[i64]) -> Result<Vec<Frac>, Fail> {
-    let mut made = Vec::new(alloc);
-    for number in of {
-        made.push(Frac::from_whole(*number))?;
+fn inequalities(alloc: Global, shown: &str) -> Result<Vec<Inequality>, Fail> {
+    let mut rows = Vec::new(alloc);
+    for row in shown.split(';') {
+        let mut coefficients = numbers(alloc, row)?;
+        if let Some(bound) = coefficients.pop() {
+            rows.push(Inequality::new(coefficients, bound))?;
+        }
     }
-    Ok(made)
+    Ok(rows)
+}
+
+fn put_together(
+    alloc: Global,
+    objective: Vec<Frac>,
+    constant: Frac,
+    rows: Vec<Inequality>,
+) -> Result<Standard, Fail> {
+    if !are_regular(&rows, objective.len()) || objective.len() > 1024 || rows.len() > 1538 {
+        return Err("not regular".into());
+    }
+    Ok(Standard::of_single_columns(alloc, objective, constant, rows)?)
+}
+
+pub(crate) fn program(alloc: Global, shown: &str) -> Result<Standard, Fail> {
+    let (objective, rows) = shown.split_once(':').ok_or("no rows")?;
+    let mut objective = numbers(alloc, objective)?;
+    let constant = objective.pop().ok_or("no constant")?;
+    let rows = inequalities(alloc, rows)?;
+    put_together(alloc, objective, constant, rows)
+}
+
+fn show_rows(rows: &[Inequality], to: &mut String) -> Result<(), Fail> {
+    for row in rows {
+        to.push(';')?;
+        show_numbers(row.coefficients(), to)?;
+        to.push(' ')?;
+        show_number(row.bound(), to)?;
+    }
+    Ok(())
+}
+
+// How many columns there are, and the parts.
+fn shown(alloc: Global, program: &Standard) -> Result<String, Fail> {
+    let width = program.columns().len();
+    let mut text = format!(in alloc; "{width}:")?;
+    show_numbers(program.objective(), &mut text)?;
+    text.push(' ')?;
+    show_number(program.constant(), &mut text)?;
+    show_rows(program.rows(), &mut text)?;
+    Ok(text)
 }
 
 #[test]
 fn parts_are_read_back(rt: HostRuntime) -> Result<(), Fail> {
-    let alloc = rt.alloc();
-    let objective = numbers(alloc, &[3, 5])?;
-    let rows = vec![in alloc;
-        Inequality::new(numbers(alloc, &[1, 0])?, Frac::from_whole(4)),
-        Inequality::new(numbers(alloc, &[0, 2])?, Frac::from_whole(12)),
-        Inequality::new(numbers(alloc, &[3, 2])?, Frac::from_whole(18)),
-    ]?;
-    assert!(rt; !are_regular(&rows, 3));
-    if !are_regular(&rows, objective.len()) || objective.len() > 1024 || rows.len() > 1538 {
-        panic!(rt; "not regular");
-    }
-    let program = Standard::of_single_columns(alloc, objective, Frac::from_whole(7), rows)?;
-    assert_eq!(rt; program.columns().len(), 2);
-    assert_eq!(rt; program.objective().len(), 2);
-    assert_eq!(rt; program.constant(), Frac::from_whole(7));
-    assert_eq!(rt; program.rows().len(), 3);
-    for row in program.rows() {
-        assert_eq!(rt; row.coefficients().len(), 2);
-        assert!(rt; row.bound().is_positive());
-    }
+    let program = program(rt.alloc(), "3 5 7: 1 0 4; 0 2 12; 3 2 18")?;
+    let text = shown(rt.alloc(), &program)?;
+    assert_eq!(rt; text.as_str(), "2: 3 5 7; 1 0 4; 0 2 12; 3 2 18");
+    assert!(rt; !are_regular(program.rows(), 3));
     Ok(())
 }

@@ -4,9 +4,10 @@ ghost use Rattle.std.specs.Prelude.{◌≡◌, [], ◌∷◌, IfOk};
 ghost use Rattle.fractions.specs.Rational.{neg_ℚ};
 ghost use Rattle.dictionaries.specs.Run.{IsReached};
 
-use crate::fractions_of::fraction;
+use crate::programs::program;
+use crate::texts::{show_number, show_numbers, show_places};
 use frac128::Frac;
-use linear_programs::{Inequality, Standard, are_regular};
+use linear_programs::{Inequality, Standard};
 use simplex::{
     LpAnswer, LpStop, Next, Work, cell_value, choose_next, direction, make_pivot, point, resume,
     row_multipliers, solve,
@@ -15,433 +16,275 @@ use std::alloc::Global;
 use std::test::Fail;
 use tableau::{Dict, start};
 
-type Pair = (i128, i128);
+// A program, the bases of its run with each variable behind a blank, and its end: the best point, its value and the multipliers, the multipliers of a contradiction, a
+// point and a direction, or the variables that leave and enter at a pivot that isn't narrow, with the basis there.
+const CASES: &[(&str, &str, &str)] = &[
+    // Three rows.
+    (
+        "3 5 0: 1 0 4; 0 2 12; 3 2 18",
+        " 3 4 5| 1 4 5| 1 4 2| 1 3 2",
+        "best 2 6 | 36 | 0 3/2 1",
+    ),
+    // Beale's example, where the greatest coefficient cycles.
+    (
+        "3/4 -20 1/2 -6 0: 1/4 -8 -1 9 0; 1/2 -12 -1/2 3 0; 0 0 1 0 1",
+        " 5 6 7| 1 6 7| 1 2 7| 3 2 7| 3 4 7| 3 4 1| 3 5 1",
+        "best 1 0 1 0 | 5/4 | 0 3/2 5/4",
+    ),
+    // Kuhn's example, where it cycles too.
+    (
+        "2 3 -1 -12 0: -2 -9 1 9 0; 1/3 1 -1/3 -2 0; 2 3 -1 -12 2",
+        " 5 6 7| 5 1 7| 5 1 3",
+        "best 2 0 2 0 | 2 | 0 0 1",
+    ),
+    // A cycling example of Chvátal's chapter 3.
+    (
+        "10 -57 -9 -24 0: 1/2 -11/2 -5/2 9 0; 1/2 -3/2 -1/2 1 0; 1 0 0 0 1",
+        " 5 6 7| 1 6 7| 1 2 7| 3 2 7| 3 4 7| 5 4 7| 5 1 7| 5 1 3",
+        "best 1 0 1 0 | 1 | 0 18 1",
+    ),
+    // Of the same chapter, with a first dictionary that isn't feasible.
+    (
+        "1 -1 1 0: 2 -1 2 4; 2 -3 1 -5; -1 1 -2 -1",
+        " 4 5 6| 4 0 6| 4 0 2| 1 0 2| 1 3 2| 6 3 2",
+        "best 0 14/5 17/5 | 3/5 | 2/5 1/5 0",
+    ),
+    // Phase 1 begins at a tie, and there is a constant.
+    (
+        "-1 -2 3: -1 -1 -2; -1 1 -2; 1 0 3",
+        " 3 4 5| 0 4 5| 1 4 5",
+        "best 2 0 | 1 | 1 0 0",
+    ),
+    // No point.
+    (
+        "1 1 0: 1 0 1; -1 0 -2",
+        " 3 4| 3 0| 1 0",
+        "infeasible 1/2 1/2",
+    ),
+    // Phase 1 ends at 0, with variable 0 out.
+    (
+        "1 1 0: 1 1 2; -1 -1 -2",
+        " 3 4| 3 0| 3 1| 4 1",
+        "best 2 0 | 2 | 1 0",
+    ),
+    // Unbounded in phase 2.
+    (
+        "1 1 0: -1 1 1; -1 -1 -2",
+        " 3 4| 3 0| 3 1",
+        "unbounded 2 0 | 1 0",
+    ),
+    // Ties among the ratios.
+    (
+        "1 1 1 1/2: 1 1 0 1; 0 1 1 1; 1 0 1 1; 1 1 1 1",
+        " 4 5 6 7| 1 5 6 7| 1 5 3 7| 1 5 3 2",
+        "best 1 0 0 | 3/2 | 0 0 0 1",
+    ),
+    // A ratio that isn't narrow.
+    (
+        "1 0: 1 1; 1/4 85070591730234615865843651857942052864",
+        " 2 3",
+        "wide 3 1 at 2 3",
+    ),
+    // After a pivot one that isn't narrow.
+    (
+        "1 1 0 0: 1 0 0 1; 0 3 1/2503155504993241601315571986085849 1; 0 1/1267650600228229401496703205376 0 1",
+        " 4 5 6| 1 5 6",
+        "wide 5 2 at 1 5 6",
+    ),
+    // No columns and no rows.
+    ("5: ", "", "best | 5 |"),
+    // No rows.
+    ("-1 1 0: ", "", "unbounded 0 0 | 0 1"),
+    // No columns, and rows that none meets.
+    ("0: -1; -1", " 1 2| 0 2", "infeasible 1 0"),
+];
 
-#[derive(Clone, Copy)]
-enum End<'a> {
-    Best(&'a [Pair], Pair, &'a [Pair]),
-    Infeasible(&'a [Pair]),
-    Unbounded(&'a [Pair], &'a [Pair]),
-    Wide(u16, u16),
+fn show_best(at: &[Frac], value: Frac, bound: &[Frac], to: &mut String) -> Result<(), Fail> {
+    show_numbers(at, to)?;
+    to.push_str(" | ")?;
+    show_number(value, to)?;
+    to.push_str(" |")?;
+    show_numbers(bound, to)
 }
 
-// The rows are the coefficients and the bound of each, one row after another, and the bases those of the run.
-#[derive(Clone, Copy)]
-struct Case<'a> {
-    objective: &'a [Pair],
-    constant: Pair,
-    rows: &'a [Pair],
-    pivots: u64,
-    bases: &'a [u16],
-    end: End<'a>,
+fn show_unbounded(at: &[Frac], way: &[Frac], to: &mut String) -> Result<(), Fail> {
+    show_numbers(at, to)?;
+    to.push_str(" |")?;
+    show_numbers(way, to)
 }
 
-fn number(pair: Pair) -> Result<Frac, Fail> {
-    Ok(fraction(pair.0, pair.1).ok_or("it fits")?)
+fn show_wide(basis: &[u16], leaving: u16, entering: u16, to: &mut String) -> Result<(), Fail> {
+    write!(to, " {leaving} {entering} at")?;
+    show_places(basis, to)
 }
 
-fn numbers(alloc: Global, of: &[Pair]) -> Result<Vec<Frac>, Fail> {
-    let mut made = Vec::new(alloc);
-    for pair in of {
-        made.push(number(*pair)?)?;
+fn kind(end: &Result<LpAnswer, LpStop>) -> &'static str {
+    match end {
+        Ok(LpAnswer::Best(..)) => "best",
+        Ok(LpAnswer::Infeasible(_)) => "infeasible",
+        Ok(LpAnswer::Unbounded(..)) => "unbounded",
+        Err(LpStop::WidePivot(..)) => "wide",
+        Err(LpStop::Spent) => "spent",
+        Err(LpStop::Memory) => "memory",
     }
-    Ok(made)
 }
 
-fn inequalities(alloc: Global, of: &[Pair], width: usize) -> Result<Vec<Inequality>, Fail> {
-    let mut made = Vec::new(alloc);
-    let mut coefficients = Vec::new(alloc);
-    for pair in of {
-        if coefficients.len() < width {
-            coefficients.push(number(*pair)?)?;
-        } else {
-            made.push(Inequality::new(coefficients, number(*pair)?))?;
-            coefficients = Vec::new(alloc);
+fn show_end(end: &Result<LpAnswer, LpStop>, to: &mut String) -> Result<(), Fail> {
+    to.push_str(kind(end))?;
+    match end {
+        Ok(LpAnswer::Best(at, value, bound)) => show_best(at, *value, bound, to),
+        Ok(LpAnswer::Infeasible(bound)) => show_numbers(bound, to),
+        Ok(LpAnswer::Unbounded(at, way)) => show_unbounded(at, way, to),
+        Err(LpStop::WidePivot(basis, leaving, entering)) => {
+            show_wide(basis, *leaving, *entering, to)
         }
-    }
-    Ok(made)
-}
-
-fn program(alloc: Global, case: &Case) -> Result<Standard, Fail> {
-    let objective = numbers(alloc, case.objective)?;
-    let rows = inequalities(alloc, case.rows, objective.len())?;
-    let constant = number(case.constant)?;
-    if !are_regular(&rows, objective.len()) || objective.len() > 1024 || rows.len() > 1538 {
-        return Err("not regular".into());
-    }
-    Ok(Standard::of_single_columns(alloc, objective, constant, rows)?)
-}
-
-fn same(found: &[Frac], wanted: &[Pair]) -> bool {
-    if found.len() != wanted.len() {
-        return false;
-    }
-    for i in 0..found.len() {
-        if found[i].num() != wanted[i].0 || found[i].den() != wanted[i].1 {
-            return false;
-        }
-    }
-    true
-}
-
-fn is_end(found: &Result<LpAnswer, LpStop>, wanted: &End) -> bool {
-    match (found, wanted) {
-        (Ok(LpAnswer::Best(at, value, bound)), End::Best(point, number, multipliers)) => {
-            same(at, point)
-                && same(bound, multipliers)
-                && value.num() == number.0
-                && value.den() == number.1
-        }
-        (Ok(LpAnswer::Infeasible(bound)), End::Infeasible(multipliers)) => same(bound, multipliers),
-        (Ok(LpAnswer::Unbounded(at, way)), End::Unbounded(point, direction)) => {
-            same(at, point) && same(way, direction)
-        }
-        (Err(LpStop::WidePivot(_, leaving, entering)), End::Wide(row, column)) => {
-            *leaving == *row && *entering == *column
-        }
-        _ => false,
+        Err(_) => Ok(()),
     }
 }
 
-// Solved at once.
-fn solves(alloc: Global, program: &Standard, case: &Case) -> bool {
-    let mut work = Work { left: 100 };
-    let found = solve(alloc, program, &mut work);
-    is_end(&found, &case.end) && 100u64.checked_sub(case.pivots) == Some(work.left)
-}
-
-// The list begins with the basis that so many others stand before.
-fn has_basis(list: &[u16], before: u64, basis: &[u16]) -> bool {
-    let mut rest = list;
-    for _basis in 0..before {
-        match rest.get(basis.len()..) {
-            Some(others) => rest = others,
-            None => return false,
-        }
-    }
-    rest.starts_with(basis)
-}
-
-// Cut after so many units, and gone on with.
-fn resumes(alloc: Global, program: &Standard, case: &Case, units: u64) -> Result<bool, Fail> {
-    let mut dict = start(alloc, program)?;
+// The end of a run that may have so many units, and how many it had.
+fn solved(alloc: Global, program: &Standard, units: u64) -> Result<(String, u64), Fail> {
     let mut work = Work { left: units };
-    let cut = resume(alloc, program, &mut dict, &mut work);
-    if units < case.pivots && !matches!(cut, Err(LpStop::Spent)) {
-        return Ok(false);
-    }
-    if work.left != 0 || !has_basis(case.bases, units, dict.basis()) {
-        return Ok(false);
-    }
-    let mut more = Work { left: 100 };
-    let found = resume(alloc, program, &mut dict, &mut more);
-    Ok(is_end(&found, &case.end) && has_basis(case.bases, case.pivots, dict.basis()))
-}
-
-// The first pivot by itself.
-fn steps(alloc: Global, program: &Standard, case: &Case) -> Result<bool, Fail> {
-    let mut dict = start(alloc, program)?;
-    match choose_next(program, &dict) {
-        Next::Pivot(row, col) => {
-            if make_pivot(program, &mut dict, row, col).is_ok() {
-                Ok(has_basis(case.bases, 1, dict.basis()))
-            } else {
-                Ok(case.pivots == 0 && has_basis(case.bases, 0, dict.basis()))
-            }
-        }
-        _ => Ok(case.pivots == 0),
-    }
+    let end = solve(alloc, program, &mut work);
+    let mut text = String::new(alloc);
+    show_end(&end, &mut text)?;
+    Ok((text, units.wrapping_sub(work.left)))
 }
 
 #[test]
 fn runs_and_ends(rt: HostRuntime) -> Result<(), Fail> {
     let alloc = rt.alloc();
-    let cases = [
-        // Three rows.
-        Case {
-            objective: &[(3, 1), (5, 1)],
-            constant: (0, 1),
-            rows: &[
-                (1, 1),
-                (0, 1),
-                (4, 1),
-                (0, 1),
-                (2, 1),
-                (12, 1),
-                (3, 1),
-                (2, 1),
-                (18, 1),
-            ],
-            pivots: 3,
-            bases: &[3, 4, 5, 1, 4, 5, 1, 4, 2, 1, 3, 2],
-            end: End::Best(&[(2, 1), (6, 1)], (36, 1), &[(0, 1), (3, 2), (1, 1)]),
-        },
-        // Beale's example, where the greatest coefficient cycles.
-        Case {
-            objective: &[(3, 4), (-20, 1), (1, 2), (-6, 1)],
-            constant: (0, 1),
-            rows: &[
-                (1, 4),
-                (-8, 1),
-                (-1, 1),
-                (9, 1),
-                (0, 1),
-                (1, 2),
-                (-12, 1),
-                (-1, 2),
-                (3, 1),
-                (0, 1),
-                (0, 1),
-                (0, 1),
-                (1, 1),
-                (0, 1),
-                (1, 1),
-            ],
-            pivots: 6,
-            bases: &[
-                5, 6, 7, 1, 6, 7, 1, 2, 7, 3, 2, 7, 3, 4, 7, 3, 4, 1, 3, 5, 1,
-            ],
-            end: End::Best(
-                &[(1, 1), (0, 1), (1, 1), (0, 1)],
-                (5, 4),
-                &[(0, 1), (3, 2), (5, 4)],
-            ),
-        },
-        // Kuhn's example, where it cycles too.
-        Case {
-            objective: &[(2, 1), (3, 1), (-1, 1), (-12, 1)],
-            constant: (0, 1),
-            rows: &[
-                (-2, 1),
-                (-9, 1),
-                (1, 1),
-                (9, 1),
-                (0, 1),
-                (1, 3),
-                (1, 1),
-                (-1, 3),
-                (-2, 1),
-                (0, 1),
-                (2, 1),
-                (3, 1),
-                (-1, 1),
-                (-12, 1),
-                (2, 1),
-            ],
-            pivots: 2,
-            bases: &[5, 6, 7, 5, 1, 7, 5, 1, 3],
-            end: End::Best(
-                &[(2, 1), (0, 1), (2, 1), (0, 1)],
-                (2, 1),
-                &[(0, 1), (0, 1), (1, 1)],
-            ),
-        },
-        // A cycling example of Chvátal's chapter 3.
-        Case {
-            objective: &[(10, 1), (-57, 1), (-9, 1), (-24, 1)],
-            constant: (0, 1),
-            rows: &[
-                (1, 2),
-                (-11, 2),
-                (-5, 2),
-                (9, 1),
-                (0, 1),
-                (1, 2),
-                (-3, 2),
-                (-1, 2),
-                (1, 1),
-                (0, 1),
-                (1, 1),
-                (0, 1),
-                (0, 1),
-                (0, 1),
-                (1, 1),
-            ],
-            pivots: 7,
-            bases: &[
-                5, 6, 7, 1, 6, 7, 1, 2, 7, 3, 2, 7, 3, 4, 7, 5, 4, 7, 5, 1, 7, 5, 1, 3,
-            ],
-            end: End::Best(
-                &[(1, 1), (0, 1), (1, 1), (0, 1)],
-                (1, 1),
-                &[(0, 1), (18, 1), (1, 1)],
-            ),
-        },
-        // Of the same chapter, with a first dictionary that isn't feasible.
-        Case {
-            objective: &[(1, 1), (-1, 1), (1, 1)],
-            constant: (0, 1),
-            rows: &[
-                (2, 1),
-                (-1, 1),
-                (2, 1),
-                (4, 1),
-                (2, 1),
-                (-3, 1),
-                (1, 1),
-                (-5, 1),
-                (-1, 1),
-                (1, 1),
-                (-2, 1),
-                (-1, 1),
-            ],
-            pivots: 5,
-            bases: &[4, 5, 6, 4, 0, 6, 4, 0, 2, 1, 0, 2, 1, 3, 2, 6, 3, 2],
-            end: End::Best(
-                &[(0, 1), (14, 5), (17, 5)],
-                (3, 5),
-                &[(2, 5), (1, 5), (0, 1)],
-            ),
-        },
-        // Phase 1 begins at a tie, and there is a constant.
-        Case {
-            objective: &[(-1, 1), (-2, 1)],
-            constant: (3, 1),
-            rows: &[
-                (-1, 1),
-                (-1, 1),
-                (-2, 1),
-                (-1, 1),
-                (1, 1),
-                (-2, 1),
-                (1, 1),
-                (0, 1),
-                (3, 1),
-            ],
-            pivots: 2,
-            bases: &[3, 4, 5, 0, 4, 5, 1, 4, 5],
-            end: End::Best(&[(2, 1), (0, 1)], (1, 1), &[(1, 1), (0, 1), (0, 1)]),
-        },
-        // No point.
-        Case {
-            objective: &[(1, 1), (1, 1)],
-            constant: (0, 1),
-            rows: &[(1, 1), (0, 1), (1, 1), (-1, 1), (0, 1), (-2, 1)],
-            pivots: 2,
-            bases: &[3, 4, 3, 0, 1, 0],
-            end: End::Infeasible(&[(1, 2), (1, 2)]),
-        },
-        // Phase 1 ends at 0, with variable 0 out.
-        Case {
-            objective: &[(1, 1), (1, 1)],
-            constant: (0, 1),
-            rows: &[(1, 1), (1, 1), (2, 1), (-1, 1), (-1, 1), (-2, 1)],
-            pivots: 3,
-            bases: &[3, 4, 3, 0, 3, 1, 4, 1],
-            end: End::Best(&[(2, 1), (0, 1)], (2, 1), &[(1, 1), (0, 1)]),
-        },
-        // Unbounded in phase 2.
-        Case {
-            objective: &[(1, 1), (1, 1)],
-            constant: (0, 1),
-            rows: &[(-1, 1), (1, 1), (1, 1), (-1, 1), (-1, 1), (-2, 1)],
-            pivots: 2,
-            bases: &[3, 4, 3, 0, 3, 1],
-            end: End::Unbounded(&[(2, 1), (0, 1)], &[(1, 1), (0, 1)]),
-        },
-        // Ties among the ratios.
-        Case {
-            objective: &[(1, 1), (1, 1), (1, 1)],
-            constant: (1, 2),
-            rows: &[
-                (1, 1),
-                (1, 1),
-                (0, 1),
-                (1, 1),
-                (0, 1),
-                (1, 1),
-                (1, 1),
-                (1, 1),
-                (1, 1),
-                (0, 1),
-                (1, 1),
-                (1, 1),
-                (1, 1),
-                (1, 1),
-                (1, 1),
-                (1, 1),
-            ],
-            pivots: 3,
-            bases: &[4, 5, 6, 7, 1, 5, 6, 7, 1, 5, 3, 7, 1, 5, 3, 2],
-            end: End::Best(
-                &[(1, 1), (0, 1), (0, 1)],
-                (3, 2),
-                &[(0, 1), (0, 1), (0, 1), (1, 1)],
-            ),
-        },
-        // A ratio that isn't narrow.
-        Case {
-            objective: &[(1, 1)],
-            constant: (0, 1),
-            rows: &[
-                (1, 1),
-                (1, 1),
-                (1, 4),
-                (85070591730234615865843651857942052864, 1),
-            ],
-            pivots: 0,
-            bases: &[2, 3],
-            end: End::Wide(3, 1),
-        },
-        // After a pivot one that isn't narrow.
-        Case {
-            objective: &[(1, 1), (1, 1), (0, 1)],
-            constant: (0, 1),
-            rows: &[
-                (1, 1),
-                (0, 1),
-                (0, 1),
-                (1, 1),
-                (0, 1),
-                (3, 1),
-                (1, 2503155504993241601315571986085849),
-                (1, 1),
-                (0, 1),
-                (1, 1267650600228229401496703205376),
-                (0, 1),
-                (1, 1),
-            ],
-            pivots: 1,
-            bases: &[4, 5, 6, 1, 5, 6],
-            end: End::Wide(5, 2),
-        },
-        // No columns and no rows.
-        Case {
-            objective: &[],
-            constant: (5, 1),
-            rows: &[],
-            pivots: 0,
-            bases: &[],
-            end: End::Best(&[], (5, 1), &[]),
-        },
-        // No rows.
-        Case {
-            objective: &[(-1, 1), (1, 1)],
-            constant: (0, 1),
-            rows: &[],
-            pivots: 0,
-            bases: &[],
-            end: End::Unbounded(&[(0, 1), (0, 1)], &[(0, 1), (1, 1)]),
-        },
-        // No columns, and rows that none meets.
-        Case {
-            objective: &[],
-            constant: (0, 1),
-            rows: &[(-1, 1), (-1, 1)],
-            pivots: 1,
-            bases: &[1, 2, 0, 2],
-            end: End::Infeasible(&[(1, 1), (0, 1)]),
-        },
-    ];
-    for case in &cases {
-        let program = program(alloc, case)?;
-        assert!(rt; solves(alloc, &program, case));
-        assert!(rt; steps(alloc, &program, case)?);
-        for units in 0..10 {
-            if units <= case.pivots {
-                assert!(rt; resumes(alloc, &program, case, units)?);
-            }
-        }
+    for (shown, bases, end) in CASES {
+        let (text, spent) = solved(alloc, &program(alloc, shown)?, 100)?;
+        assert_eq!(rt; text.as_str(), *end, "{shown}");
+        assert_eq!(rt; spent, bases.split('|').skip(1).count() as u64);
+    }
+    Ok(())
+}
+
+// Makes the first pivot, if there is one that can be made.
+fn step(program: &Standard, dict: &mut Dict)
+    requires { IsReached program.now dict.old }
+{
+    if let Next::Pivot(row, col) = choose_next(program, dict) {
+        let _ = make_pivot(program, dict, row, col);
+    }
+}
+
+// Shows the basis after that.
+fn show_step(alloc: Global, program: &Standard, to: &mut String) -> Result<(), Fail> {
+    let mut dict = start(alloc, program)?;
+    step(program, &mut dict);
+    show_places(dict.basis(), to)
+}
+
+// The second basis, or the only one.
+fn second_of(bases: &str) -> &str {
+    match bases.split('|').nth(1) {
+        Some(second) => second,
+        None => bases,
+    }
+}
+
+#[test]
+fn the_first_pivot_by_itself(rt: HostRuntime) -> Result<(), Fail> {
+    for (shown, bases, _) in CASES {
+        let mut text = String::new(rt.alloc());
+        show_step(rt.alloc(), &program(rt.alloc(), shown)?, &mut text)?;
+        assert_eq!(rt; text.as_str(), second_of(bases), "{shown}");
+    }
+    Ok(())
+}
+
+// Goes on with the run for so many units: the basis that it comes to, how many units it had, and the end.
+fn go_on(
+    alloc: Global,
+    program: &Standard,
+    dict: &mut Dict,
+    units: u64,
+    to: &mut String,
+) -> Result<(), Fail>
+    requires { IsReached program.now dict.old }
+    ensures { IsReached program.now dict.new }
+{
+    let mut work = Work { left: units };
+    let end = resume(alloc, program, dict, &mut work);
+    show_places(dict.basis(), to)?;
+    let spent = units.wrapping_sub(work.left);
+    write!(to, " in {spent}: ")?;
+    show_end(&end, to)
+}
+
+fn go_on_twice(
+    alloc: Global,
+    program: &Standard,
+    dict: &mut Dict,
+    units: u64,
+    to: &mut String,
+) -> Result<(), Fail>
+    requires { IsReached program.now dict.old }
+{
+    go_on(alloc, program, dict, units, to)?;
+    to.push(';')?;
+    go_on(alloc, program, dict, 100, to)
+}
+
+// Shows a run that is cut after so many units, and gone on with.
+fn show_cut_run(
+    alloc: Global,
+    program: &Standard,
+    units: u64,
+    to: &mut String,
+) -> Result<(), Fail> {
+    let mut dict = start(alloc, program)?;
+    go_on_twice(alloc, program, &mut dict, units, to)
+}
+
+// Shows the same as it must be: without a unit no pivot is tried, not even one that isn't narrow.
+fn show_wanted_run(bases: &str, end: &str, units: usize, to: &mut String) -> Result<(), Fail> {
+    let basis = bases.split('|').nth(units).ok_or("no basis")?;
+    let last = bases.split('|').last().ok_or("no basis")?;
+    let rest = bases.split('|').skip(units).count().saturating_sub(1);
+    let cut = if rest == 0 && !end.starts_with("wide") {
+        end
+    } else {
+        "spent"
+    };
+    write!(to, "{basis} in {units}: {cut};{last} in {rest}: {end}")?;
+    Ok(())
+}
+
+// Shows the runs of a program, each cut after another number of units, and the same as they must be.
+fn show_runs(
+    alloc: Global,
+    program: &Standard,
+    bases: &str,
+    end: &str,
+    found: &mut String,
+    wanted: &mut String,
+) -> Result<(), Fail> {
+    for units in 0..bases.split('|').count() {
+        show_cut_run(alloc, program, units as u64, found)?;
+        show_wanted_run(bases, end, units, wanted)?;
+    }
+    Ok(())
+}
+
+#[test]
+fn a_cut_run_goes_on_to_the_same_end(rt: HostRuntime) -> Result<(), Fail> {
+    let alloc = rt.alloc();
+    for (shown, bases, end) in CASES {
+        let mut found = String::new(alloc);
+        let mut wanted = String::new(alloc);
+        show_runs(
+            alloc,
+            &program(alloc, shown)?,
+            bases,
+            end,
+            &mut found,
+            &mut wanted,
+        )?;
+        assert_eq!(rt; found.as_str(), wanted.as_str(), "{shown}");
     }
     Ok(())
 }
@@ -486,11 +329,6 @@ fn no_least_number(alloc: Global) -> Result<Standard, Fail> {
     of_two_columns(alloc, one.neg(), (one, one), none)
 }
 
-fn ends(alloc: Global, program: &Standard, end: &End) -> bool {
-    let mut work = Work { left: 10 };
-    is_end(&solve(alloc, program, &mut work), end)
-}
-
 // The cells' numbers at the dictionary's point, one by one.
 fn cell_values(alloc: Global, program: &Standard, dict: &Dict) -> Result<Vec<Frac>, Fail>
     requires { IsReached program.now dict.now }
@@ -502,86 +340,84 @@ fn cell_values(alloc: Global, program: &Standard, dict: &Dict) -> Result<Vec<Fra
     Ok(values)
 }
 
-// The readers at the last dictionary of a run: the point, and the direction or the multipliers.
-fn reads(alloc: Global, program: &Standard, at: &[Pair], more: &[Pair]) -> Result<bool, Fail> {
-    let mut dict = start(alloc, program)?;
-    let mut work = Work { left: 10 };
-    if resume(alloc, program, &mut dict, &mut work).is_err() {
-        return Ok(false);
-    }
+fn show_point(alloc: Global, program: &Standard, dict: &Dict, to: &mut String) -> Result<(), Fail>
+    requires { IsReached program.now dict.now }
+{
+    show_numbers(&cell_values(alloc, program, dict)?, to)?;
+    to.push_str(" |")?;
+    show_numbers(&point(alloc, program, dict)?, to)?;
+    Ok(to.push_str(" |")?)
+}
+
+// The multipliers, or the direction.
+fn more(alloc: Global, program: &Standard, dict: &Dict) -> Result<Vec<Frac>, Fail>
+    requires { IsReached program.now dict.now }
+{
     let _width = dict.width();
-    let values = cell_values(alloc, program, &dict)?;
-    if !same(&values, at) || !same(&point(alloc, program, &dict)?, at) {
-        return Ok(false);
-    }
-    match choose_next(program, &dict) {
-        Next::Best => {
-            let found = row_multipliers(alloc, program, &dict, dict.objective())?;
-            Ok(same(&found, more))
-        }
-        Next::Unbounded(col) => Ok(same(&direction(alloc, program, &dict, col)?, more)),
-        _ => Ok(false),
+    match choose_next(program, dict) {
+        Next::Best => Ok(row_multipliers(alloc, program, dict, dict.objective())?),
+        Next::Unbounded(col) => Ok(direction(alloc, program, dict, col)?),
+        _ => Err("another end".into()),
     }
 }
 
-// The basis of a pivot that isn't narrow.
-fn blocks(alloc: Global) -> Result<bool, Fail> {
-    let case = Case {
-        objective: &[(1, 1)],
-        constant: (0, 1),
-        rows: &[(1, 1), (1, 1), (1, 4), (1 << 126, 1)],
-        pivots: 0,
-        bases: &[2, 3],
-        end: End::Wide(3, 1),
-    };
-    let program = program(alloc, &case)?;
-    let mut work = Work { left: 10 };
-    match solve(alloc, &program, &mut work) {
-        Err(LpStop::WidePivot(basis, _, _)) => Ok(
-            basis.len() == 2 && has_basis(case.bases, 0, &basis),
-        ),
-        _ => Ok(false),
-    }
+fn show_more(alloc: Global, program: &Standard, dict: &Dict, to: &mut String) -> Result<(), Fail>
+    requires { IsReached program.now dict.now }
+{
+    show_numbers(&more(alloc, program, dict)?, to)
 }
 
-// The run and its end, and what the readers give.
-fn runs_to(
+// Goes on to the end of the run, and shows what the readers give there: the point twice, and the direction or the multipliers.
+fn show_at_end(
     alloc: Global,
     program: &Standard,
-    end: &End,
-    at: &[Pair],
-    more: &[Pair],
-) -> Result<bool, Fail> {
-    Ok(ends(alloc, program, end) && reads(alloc, program, at, more)?)
+    dict: &mut Dict,
+    to: &mut String,
+) -> Result<(), Fail>
+    requires { IsReached program.now dict.old }
+{
+    let mut work = Work { left: 10 };
+    let _ = resume(alloc, program, dict, &mut work);
+    show_point(alloc, program, dict, to)?;
+    show_more(alloc, program, dict, to)
 }
 
-const AT_2: End = End::Best(&[(2, 1)], (-2, 1), &[(1, 1), (0, 1)]);
-
-const BELOW_0: End = End::Best(&[(-3, 1)], (3, 1), &[(1, 1), (0, 1)]);
-
-const ENDLESS: End = End::Unbounded(&[(0, 1)], &[(-1, 1)]);
-
-fn a_number_above_0(alloc: Global) -> Result<bool, Fail> {
-    let program = least_number(alloc, 2, 5)?;
-    runs_to(alloc, &program, &AT_2, &[(2, 1)], &[(1, 1), (0, 1)])
+fn show_readings(alloc: Global, program: &Standard, to: &mut String) -> Result<(), Fail> {
+    let mut dict = start(alloc, program)?;
+    show_at_end(alloc, program, &mut dict, to)
 }
 
-fn a_number_below_0(alloc: Global) -> Result<bool, Fail> {
-    let program = least_number(alloc, -3, 5)?;
-    runs_to(alloc, &program, &BELOW_0, &[(-3, 1)], &[(1, 1), (0, 1)])
+fn show_solved(alloc: Global, program: &Standard, to: &mut String) -> Result<(), Fail> {
+    let mut work = Work { left: 10 };
+    show_end(&solve(alloc, program, &mut work), to)
 }
 
-fn no_least_number_at_all(alloc: Global) -> Result<bool, Fail> {
-    let program = no_least_number(alloc)?;
-    runs_to(alloc, &program, &ENDLESS, &[(0, 1)], &[(-1, 1)])
+// Shows a program's end, and what the readers give.
+fn show_all(alloc: Global, program: &Standard, to: &mut String) -> Result<(), Fail> {
+    show_solved(alloc, program, to)?;
+    to.push(';')?;
+    show_readings(alloc, program, to)
+}
+
+fn of_least_number(alloc: Global, least: i64, greatest: i64, to: &mut String) -> Result<(), Fail> {
+    show_all(alloc, &least_number(alloc, least, greatest)?, to)
+}
+
+fn of_no_least_number(alloc: Global, to: &mut String) -> Result<(), Fail> {
+    show_all(alloc, &no_least_number(alloc)?, to)
 }
 
 #[test]
 fn cells_of_two_columns(rt: HostRuntime) -> Result<(), Fail> {
     let alloc = rt.alloc();
-    assert!(rt; a_number_above_0(alloc)?);
-    assert!(rt; a_number_below_0(alloc)?);
-    assert!(rt; no_least_number_at_all(alloc)?);
-    assert!(rt; blocks(alloc)?);
+    let mut text = String::new(alloc);
+    of_least_number(alloc, 2, 5, &mut text)?;
+    assert_eq!(rt; text.as_str(), "best 2 | -2 | 1 0; 2 | 2 | 1 0");
+    text.clear();
+    of_least_number(alloc, -3, 5, &mut text)?;
+    assert_eq!(rt; text.as_str(), "best -3 | 3 | 1 0; -3 | -3 | 1 0");
+    text.clear();
+    of_no_least_number(alloc, &mut text)?;
+    assert_eq!(rt; text.as_str(), "unbounded 0 | -1; 0 | 0 | -1");
     Ok(())
 }
