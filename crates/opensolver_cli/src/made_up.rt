@@ -1,7 +1,10 @@
 // The solve of a workbook that is made up.
-ghost use Rattle.std.specs.Prelude.{◌≡◌, ◌≤◌};
+ghost use Rattle.std.specs.Prelude.{◌≡◌, ◌≤◌, ◌∷◌, [], IfOk, string_bytes};
+ghost use Rattle.commands.specs.Lines.{CanBeSaid};
 ghost use Rattle.command_line.specs.Words.{depth, most_made_up, rule_of};
-ghost use Rattle.opensolver_cli.specs.Answering.{IsSinkFault, SolvesSize};
+ghost use Rattle.made_up_books.specs.MadeUp.{sheet_name};
+ghost use Rattle.opensolver_cli.specs.Answering.{AnswersSize, IsSinkFault, SolvesSize};
+ghost use Rattle.opensolver_cli.specs.MadeUp.{made_up_line};
 
 use crate::Status;
 use crate::answer::say;
@@ -38,7 +41,12 @@ fn answer_to(
     alloc: Global,
     size: u8,
     pick: &mut Box<dyn Picker>,
-) -> Result<(String, bool), Memory> {
+) -> Result<(String, bool), Memory>
+    requires some { 1 ≤ size }
+    requires few { size ≤ most_made_up }
+    requires pick { rule pick.old ≡ rule_of depth }
+    ensures { IfOk result (λ said. AnswersSize size (string_bytes said.0) said.1) }
+{
     let book = made_up(alloc, size)?;
     let mut session = Session::open(alloc, book, DEFAULT_BUDGET)?;
     let command = Command::Solve(String::from_str(alloc, "gen")?);
@@ -53,7 +61,11 @@ fn line_of(
     size: u8,
     answer: &Answer,
     session: &Session,
-) -> Result<String, Memory> {
+) -> Result<String, Memory>
+    requires sheets { session.now.state.book.sheets ≡ sheet_name ∷ [] }
+    requires said { CanBeSaid session.now.state.book.sheets answer.now }
+    ensures { IfOk result (λ text. string_bytes text ≡ made_up_line size answer.now) }
+{
     let mut text = String::from_str(alloc, "gen ")?;
     let mut digits = Buffer::new();
     text.push_str(digits.format(size))?;
