@@ -1,7 +1,6 @@
 -- How a run over a workbook that is made up ends, and one that has no memory for its words.
 use Rattle.std.proofs.Common.{◌≡◌, ◌≢◌, ◌≤◌, ◌∷◌, [], ℕ, List, Option, Some, None, ap, arith, inl, inr, length, refl, subst, sym, ◌∙◌}
 use Rattle.std.specs.Prelude.{Bool, true, false, option_map, ◌⊎◌}
-use Rattle.solver_io.specs.Bytes.{Takes, TakesSome}
 use Rattle.solver_io.specs.Files.{Files}
 use Rattle.workbook.specs.State.{State}
 use Rattle.commands.specs.Commands.{Solve}
@@ -15,7 +14,7 @@ use Rattle.opensolver_cli.specs.Answering.{AnswersSize, Says, IsSinkFault, Solve
 use Rattle.opensolver_cli.specs.Completeness.{EndsExactly, IsEarly, IsWhole}
 use Rattle.opensolver_cli.specs.Headline.{EndsOver, IsCounted, RunsAs, usage_line}
 use Rattle.opensolver_cli.specs.MadeUp.{MadeUpEnds, SaysLine, made_up_line, status_by}
-use Rattle.opensolver_cli.specs.Outside.{IsFolderLeft, IsScriptLeft, NothingIsSeen, Outside}
+use Rattle.opensolver_cli.specs.Outside.{IsFolderLeft, IsScriptLeft, Outside}
 use Rattle.command_line.specs.Read.{asked_read}
 use Rattle.command_line.specs.declared.words.Asked as words
 use Rattle.command_line.specs.declared.words.Asked.TheVariants as asked_words

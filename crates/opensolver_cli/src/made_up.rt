@@ -32,16 +32,16 @@ pub(crate) fn solve_made_up<K: Sink>(
     let Ok((text, refused)) = answer_to(alloc, size, pick) else {
         return Status::Memory;
     };
-    let status = if refused { Status::Refused } else { Status::Done };
+    let status = if refused {
+        Status::Refused
+    } else {
+        Status::Done
+    };
     say(out, text.as_str(), status)
 }
 
 // The line of the answer, and whether this is a refusal.
-fn answer_to(
-    alloc: Global,
-    size: u8,
-    pick: &mut Box<dyn Picker>,
-) -> Result<(String, bool), Memory>
+fn answer_to(alloc: Global, size: u8, pick: &mut Box<dyn Picker>) -> Result<(String, bool), Memory>
     requires some { 1 ≤ size }
     requires few { size ≤ most_made_up }
     requires pick { rule pick.old ≡ rule_of depth }
@@ -56,12 +56,7 @@ fn answer_to(
 }
 
 // The line of an answer: the size comes before it.
-fn line_of(
-    alloc: Global,
-    size: u8,
-    answer: &Answer,
-    session: &Session,
-) -> Result<String, Memory>
+fn line_of(alloc: Global, size: u8, answer: &Answer, session: &Session) -> Result<String, Memory>
     requires sheets { session.now.state.book.sheets ≡ sheet_name ∷ [] }
     requires said { CanBeSaid session.now.state.book.sheets answer.now }
     ensures { IfOk result (λ text. string_bytes text ≡ made_up_line size answer.now) }
