@@ -5,3 +5,4 @@ pub mod SaveLaws
 pub mod OpenLaws
 pub mod TopLaws
 pub mod RunLaws
+pub mod MadeUpLaws

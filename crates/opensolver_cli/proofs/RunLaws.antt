@@ -96,8 +96,10 @@ stopped job files script before after stop status.Limit is h same = (stop, is, (
 stopped job files script before after stop status.BadInput is h same = (stop, is, (h.0, record { printed = h.1; files = same }))
 stopped job files script before after stop status.WriteFault is h same = inl (stop, is, record { printed = h; files = same })
 stopped job files script before after stop status.Memory is h same = inr (inl (stop, is, record { printed = h; files = same }))
-stopped job files script before after stop status.Done is h same = absurd h
-stopped job files script before after stop status.Refused is h same = absurd h
+stopped job files script before after (TooMuch kind) status.Done is h same = absurd (cc h.0)
+stopped job files script before after (BadInput of why) status.Done is h same = absurd (cc h.0)
+stopped job files script before after (TooMuch kind) status.Refused is h same = absurd (cc h.0)
+stopped job files script before after (BadInput of why) status.Refused is h same = absurd (cc h.0)
 stopped job files script before after stop status.ReadFault is h same = absurd h
 
 all_stopped : (job : Job) (content : Option Files) (left : Option (List ℕ)) (before after : Outside) (stop : Stop) (r : Status) → after.files ≡ before.files
@@ -169,8 +171,10 @@ said stop line u v status.Limit h = (inl (sym h.0), (λ e. cc e), λ e. cc e)
 said stop line u v status.BadInput h = (inl (sym h.0), (λ e. cc e), λ e. cc e)
 said stop line u v status.WriteFault h = (inr tt, (λ e. cc e), λ e. cc e)
 said stop line u v status.Memory h = (inr tt, (λ e. cc e), λ e. cc e)
-said stop line u v status.Done h = absurd h
-said stop line u v status.Refused h = absurd h
+said (TooMuch kind) line u v status.Done h = absurd (cc h.0)
+said (BadInput of why) line u v status.Done h = absurd (cc h.0)
+said (TooMuch kind) line u v status.Refused h = absurd (cc h.0)
+said (BadInput of why) line u v status.Refused h = absurd (cc h.0)
 said stop line u v status.ReadFault h = absurd h
 
 pub stopped_exactly : (job : Job) (content : Option Files) (left after : Option (List ℕ)) (stop : Stop) (line : List ℕ) (u v : Option (List (List ℕ))) (r : Status)
@@ -181,7 +185,7 @@ stopped_exactly job (Some files) (Some script) after stop line u v r is h = rw i
 
 -- ---- counts
 -- a line changes no file
-put_by_line : (before after : Outside) (r : Status) → after.folder_writes ≡ before.folder_writes → IsSinkFault before.sink_writes after.sink_writes r → IsPutFault (written before) (written after) r
+pub put_by_line : (before after : Outside) (r : Status) → after.folder_writes ≡ before.folder_writes → IsSinkFault before.sink_writes after.sink_writes r → IsPutFault (written before) (written after) r
 put_by_line before after status.WriteFault writes sink = inl (record { rose = sink; folder = writes })
 put_by_line before after status.Done writes sink = record { folder = writes; sink = sink }
 put_by_line before after status.Refused writes sink = record { folder = writes; sink = sink }
@@ -204,7 +208,7 @@ kept u w status.Memory h other = h
 kept u w status.Limit h other = h
 kept u w status.BadInput h other = h
 
-counted : (before after : Outside) (r : Status) → r ≢ status.ReadFault → (after.folder_reads ≡ before.folder_reads) × (after.script_reads ≡ before.script_reads) → IsPutFault (written before) (written after) r → IsCounted before after r
+pub counted : (before after : Outside) (r : Status) → r ≢ status.ReadFault → (after.folder_reads ≡ before.folder_reads) × (after.script_reads ≡ before.script_reads) → IsPutFault (written before) (written after) r → IsCounted before after r
 counted before after r other reads put = record {
   read_fault = λ e. absurd (other e);
   quiet = λ e. absurd (other e);

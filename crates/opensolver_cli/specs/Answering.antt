@@ -142,6 +142,14 @@ Says line said before after status.Memory = TakesSome before after line
 Says line said before after _ = ⊥
 
 -- ---- a workbook that is made up
+-- its sheet was solved, this is the line of the answer, and this says whether that is a refusal
+pub record AnswersSize (size : ℕ) (line : List ℕ) (refused : Bool) : Type 0 where
+  pub answer : Answer
+  pub next : SessionState
+  pub step : Step (rule_of depth) (opened (made_up size) default_budget) (Solve sheet_name) answer next
+  pub line_is : line ≡ made_up_line size answer
+  pub refusal : refused ≡ is_refusal (sheet_name ∷ []) answer
+
 -- its sheet was solved, and the line of the answer printed, or a part of it; or memory ran out before
 abbrev pub SolvesSize : ℕ → Option (List (List ℕ)) → Option (List (List ℕ)) → Status → Type 0
 SolvesSize size before after ends =

@@ -6,8 +6,8 @@ ghost use Rattle.command_line.specs.Words.{is_sheet, texts_of};
 ghost use Rattle.command_line.specs.Read.{named_of};
 
 use crate::stop::{Cause, End, Input, Limit, Stop};
-use command_line::{Named, stem_of};
 use cell_refs::{FILE_BYTES, SHEETS};
+use command_line::{Named, stem_of};
 use solver_io::{Folder, ReadEnd};
 use std::alloc::Global;
 use workbook::{File, Workbook};

@@ -1,7 +1,10 @@
 // The solve of a workbook that is made up.
-ghost use Rattle.std.specs.Prelude.{◌≡◌, ◌≤◌};
+ghost use Rattle.std.specs.Prelude.{◌≡◌, ◌≤◌, ◌∷◌, [], IfOk, string_bytes};
+ghost use Rattle.commands.specs.Lines.{CanBeSaid};
 ghost use Rattle.command_line.specs.Words.{depth, most_made_up, rule_of};
-ghost use Rattle.opensolver_cli.specs.Answering.{IsSinkFault, SolvesSize};
+ghost use Rattle.made_up_books.specs.MadeUp.{sheet_name};
+ghost use Rattle.opensolver_cli.specs.Answering.{AnswersSize, IsSinkFault, SolvesSize};
+ghost use Rattle.opensolver_cli.specs.MadeUp.{made_up_line};
 
 use crate::Status;
 use crate::answer::say;
@@ -29,16 +32,21 @@ pub(crate) fn solve_made_up<K: Sink>(
     let Ok((text, refused)) = answer_to(alloc, size, pick) else {
         return Status::Memory;
     };
-    let status = if refused { Status::Refused } else { Status::Done };
+    let status = if refused {
+        Status::Refused
+    } else {
+        Status::Done
+    };
     say(out, text.as_str(), status)
 }
 
 // The line of the answer, and whether this is a refusal.
-fn answer_to(
-    alloc: Global,
-    size: u8,
-    pick: &mut Box<dyn Picker>,
-) -> Result<(String, bool), Memory> {
+fn answer_to(alloc: Global, size: u8, pick: &mut Box<dyn Picker>) -> Result<(String, bool), Memory>
+    requires some { 1 ≤ size }
+    requires few { size ≤ most_made_up }
+    requires pick { rule pick.old ≡ rule_of depth }
+    ensures { IfOk result (λ said. AnswersSize size (string_bytes said.0) said.1) }
+{
     let book = made_up(alloc, size)?;
     let mut session = Session::open(alloc, book, DEFAULT_BUDGET)?;
     let command = Command::Solve(String::from_str(alloc, "gen")?);
@@ -48,12 +56,11 @@ fn answer_to(
 }
 
 // The line of an answer: the size comes before it.
-fn line_of(
-    alloc: Global,
-    size: u8,
-    answer: &Answer,
-    session: &Session,
-) -> Result<String, Memory> {
+fn line_of(alloc: Global, size: u8, answer: &Answer, session: &Session) -> Result<String, Memory>
+    requires sheets { session.now.state.book.sheets ≡ sheet_name ∷ [] }
+    requires said { CanBeSaid session.now.state.book.sheets answer.now }
+    ensures { IfOk result (λ text. string_bytes text ≡ made_up_line size answer.now) }
+{
     let mut text = String::from_str(alloc, "gen ")?;
     let mut digits = Buffer::new();
     text.push_str(digits.format(size))?;
