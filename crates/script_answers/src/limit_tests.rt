@@ -313,20 +313,31 @@ fn as_many_sheets_as_there_may_be(rt: HostRuntime) -> Result<(), Fail> {
     Ok(())
 }
 
-// The file of names: a long text, behind it so many names, how the run ends, and what it prints.
-const NAME_FILES: &[(Long<'static>, usize, Status, &str)] = &[
-    (EMPTY, 32768, Status::Done, ""),
-    (EMPTY, 32769, Status::Limit, "limit names 32768\n"),
-    ((",x,", "y", 8192, "\n", 1), 1, Status::Done, ""),
+// A file of names: a long text, and behind it so many names; the script, how the run ends, and what it prints.
+type NameFile<'a> = (Long<'a>, usize, &'a [u8], Status, &'a str);
+
+const NAME_FILES: &[NameFile<'static>] = &[
+    (EMPTY, 32768, b"", Status::Done, ""),
+    (
+        EMPTY,
+        32768,
+        b"name,,new,1\nname,,X_0,2\nunname,,x_1\nname,,new,1\nname,,newer,1\n",
+        Status::Refused,
+        "refused too-many-names\nok\nok\nok\nrefused too-many-names\n",
+    ),
+    (EMPTY, 32769, b"", Status::Limit, "limit names 32768\n"),
+    ((",x,", "y", 8192, "\n", 1), 1, b"", Status::Done, ""),
     (
         (",x,", "y", 8193, "\n", 1),
         1,
+        b"",
         Status::Limit,
         "limit field 8192\n",
     ),
     (
         (",x_0,1\n", "", 0, "", 1),
         32768,
+        b"",
         Status::BadInput,
         "bad-input names.csv name-row 2\n",
     ),
@@ -343,7 +354,7 @@ fn push_names(alloc: Global, bytes: &mut Vec<u8>, count: usize) -> Result<(), Fa
 
 #[test]
 fn files_of_names_at_their_limits(rt: HostRuntime) -> Result<(), Fail> {
-    for (long, count, end, want) in NAME_FILES {
+    for (long, count, script, end, want) in NAME_FILES {
         let mut names = bytes(rt.alloc(), long)?;
         push_names(rt.alloc(), &mut names, *count)?;
         let files = [
@@ -351,7 +362,7 @@ fn files_of_names_at_their_limits(rt: HostRuntime) -> Result<(), Fail> {
             ("plan.csv", b"".as_slice()),
         ];
         let line = "--names names.csv plan.csv";
-        let (status, printed) = ran(rt.alloc(), line, &files, b"", NEVER)?;
+        let (status, printed) = ran(rt.alloc(), line, &files, script, NEVER)?;
         assert_eq!(rt; printed.as_slice(), want.as_bytes());
         assert!(rt; status == *end);
     }
