@@ -5,9 +5,6 @@ use opensolver_cli::Status;
 use solver_io::MemFolder;
 use std::test::Fail;
 
-// A byte order mark.
-const MARK: &[u8] = b"\xef\xbb\xbf";
-
 const THREE: &str = "--names names.csv plan.csv data/more.csv";
 
 const NAMES: &[u8] = b"plan,goal,$A$1\n,Rate,0.5\nPLAN,own,=B1\n";
@@ -143,7 +140,10 @@ fn sheets_of_odd_texts(rt: HostRuntime) -> Result<(), Fail> {
         assert_eq!(rt; printed.as_slice(), b"ok\nsaved 1\n".as_slice());
         assert!(rt; holds(&kept, "plan.csv", saved), "sheet {place}");
         // what is saved reads back and is saved as it is, but for a mark in front, which a reader drops
-        let again = saved.strip_prefix(MARK).unwrap_or(*saved);
+        let again = match *saved {
+            [0xef, 0xbb, 0xbf, rest @ ..] => rest,
+            all => all,
+        };
         ran_over(rt.alloc(), line, &mut kept, script, NEVER)?;
         assert!(rt; holds(&kept, "plan.csv", again), "sheet {place} again");
     }
