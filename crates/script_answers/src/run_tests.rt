@@ -72,7 +72,11 @@ fn words(alloc: Global, line: &str) -> Result<Vec<String>, Fail> {
 }
 
 // The folder of these files.
-pub(crate) fn folder(alloc: Global, files: &[(&str, &[u8])], fails: u64) -> Result<MemFolder, Fail> {
+pub(crate) fn folder(
+    alloc: Global,
+    files: &[(&str, &[u8])],
+    fails: u64,
+) -> Result<MemFolder, Fail> {
     let mut held = Vec::new(alloc);
     for (name, bytes) in files {
         held.push((String::from_str(alloc, name)?, bytes.to_vec(alloc)?))?;

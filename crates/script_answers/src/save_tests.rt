@@ -32,7 +32,13 @@ const MORE_EDITED: &[u8] = b"1,x\n";
 const NAMED: &[u8] = b"plan,goal,$A$1\n,Rate,0.5\nPLAN,own,=B1\nplan,new,3\n";
 
 const SAVES: &[Saved<'static>] = &[
-    (b"save\n", NEVER, Status::Done, "saved 0\n", [NAMES, KEPT, MORE]),
+    (
+        b"save\n",
+        NEVER,
+        Status::Done,
+        "saved 0\n",
+        [NAMES, KEPT, MORE],
+    ),
     (
         b"show,plan!B1\nmodel,plan\nsave\n",
         NEVER,
@@ -48,9 +54,27 @@ const SAVES: &[Saved<'static>] = &[
         [NAMED, EDITED, MORE_EDITED],
     ),
     // the folder's calls 0 to 2 read the files, and those from 3 on write the plan, the rest and the names
-    (EDITS, (3, 100, 100), Status::WriteFault, "ok\nok\nok\n", [NAMES, KEPT, MORE]),
-    (EDITS, (4, 100, 100), Status::WriteFault, "ok\nok\nok\n", [NAMES, EDITED, MORE]),
-    (EDITS, (5, 100, 100), Status::WriteFault, "ok\nok\nok\n", [NAMES, EDITED, MORE_EDITED]),
+    (
+        EDITS,
+        (3, 100, 100),
+        Status::WriteFault,
+        "ok\nok\nok\n",
+        [NAMES, KEPT, MORE],
+    ),
+    (
+        EDITS,
+        (4, 100, 100),
+        Status::WriteFault,
+        "ok\nok\nok\n",
+        [NAMES, EDITED, MORE],
+    ),
+    (
+        EDITS,
+        (5, 100, 100),
+        Status::WriteFault,
+        "ok\nok\nok\n",
+        [NAMES, EDITED, MORE_EDITED],
+    ),
     (
         EDITS,
         (6, 100, 100),
@@ -66,7 +90,13 @@ const SAVES: &[Saved<'static>] = &[
         "ok\nok\nok\n",
         [NAMED, EDITED, MORE_EDITED],
     ),
-    (EDITS, (100, 100, 2), Status::WriteFault, "ok\nok\n", [NAMES, KEPT, MORE]),
+    (
+        EDITS,
+        (100, 100, 2),
+        Status::WriteFault,
+        "ok\nok\n",
+        [NAMES, KEPT, MORE],
+    ),
     // an edit counts as a change also where nothing differs, and a refused one doesn't
     (
         b"set,plan!A1,0\nclear,more!IV4096\nunname,,nothing\nset,plan!A4097,1\nname,plan,A1,2\nsave\n",
@@ -121,9 +151,15 @@ fn files_that_are_saved(rt: HostRuntime) -> Result<(), Fail> {
         let (status, printed) = ran_over(rt.alloc(), THREE, &mut kept, script, *fails)?;
         assert_eq!(rt; printed.as_slice(), want.as_bytes());
         assert!(rt; status == *end);
-        assert!(rt; holds(&kept, "names.csv", files[0]), "the names after {want}");
+        assert!(rt;
+            holds(&kept, "names.csv", files[0]),
+            "the names after {want}"
+        );
         assert!(rt; holds(&kept, "plan.csv", files[1]), "the plan after {want}");
-        assert!(rt; holds(&kept, "data/more.csv", files[2]), "the rest after {want}");
+        assert!(rt;
+            holds(&kept, "data/more.csv", files[2]),
+            "the rest after {want}"
+        );
         assert!(rt; holds(&kept, "other.csv", b"9\n"));
     }
     Ok(())
@@ -152,12 +188,27 @@ fn sheets_of_odd_texts(rt: HostRuntime) -> Result<(), Fail> {
 
 // The plan takes 13 units. Without its second constraint the cells need not be 0 or 1, and C1 alone gives 12.
 const BUDGETS: &[(&[u8], &str)] = &[
-    (b"budget,12\nsolve,plan\nsave\n", "ok\nrefused budget 12\nsaved 0\n"),
+    (
+        b"budget,12\nsolve,plan\nsave\n",
+        "ok\nrefused budget 12\nsaved 0\n",
+    ),
     (b"budget,13\nsolve,plan\nsave\n", "ok\noptimal 8\nsaved 1\n"),
-    (b"budget,1\nbudget,0\nsolve,plan\n", "ok\nrefused bad-number\nrefused budget 1\n"),
-    (b"solve,plan\nbudget,1\nsolve,plan\nbudget,100000\nsolve,plan\n", "optimal 8\nok\nrefused budget 1\nok\noptimal 8\n"),
-    (b"unname,plan,SOLVER_ADJ\nsolve,plan\n", "ok\nrefused names 1\n"),
-    (b"name,plan,A1,5\nname,plan,solver_num,1\nsolve,plan\n", "refused bad-name\nok\noptimal 12\n"),
+    (
+        b"budget,1\nbudget,0\nsolve,plan\n",
+        "ok\nrefused bad-number\nrefused budget 1\n",
+    ),
+    (
+        b"solve,plan\nbudget,1\nsolve,plan\nbudget,100000\nsolve,plan\n",
+        "optimal 8\nok\nrefused budget 1\nok\noptimal 8\n",
+    ),
+    (
+        b"unname,plan,SOLVER_ADJ\nsolve,plan\n",
+        "ok\nrefused names 1\n",
+    ),
+    (
+        b"name,plan,A1,5\nname,plan,solver_num,1\nsolve,plan\n",
+        "refused bad-name\nok\noptimal 12\n",
+    ),
 ];
 
 #[test]
