@@ -5,7 +5,8 @@ usage: runs.py PROGRAM
 
 Each run is made three times, and the middle of the three times is given, with the least and the greatest. The rows are the workbooks
 that are made up (`--gen 1` to `--gen 12`), beside z3, glpsol and QSopt_ex on the same programs where these are installed; one `show`
-over large sheets; and a sheet of nearly 16 MiB that is read and saved. bench/models.py and bench/knapsack.py have the models.
+over large sheets; a sheet of nearly 16 MiB that is read and saved; and then what models.py and knapsack.py beside this script print, the
+models of large sheets and a search over 30 binary cells.
 """
 import os
 import shutil
@@ -115,6 +116,10 @@ def main():
         for rows in made_up, shows, saves:
             for name, row in rows(program, folder):
                 print(f"{name:24} {row}", flush=True)
+    here = os.path.dirname(os.path.abspath(__file__))
+    for script in "models.py", "knapsack.py":
+        print(flush=True)
+        subprocess.run([sys.executable, os.path.join(here, script), program], check=True)
     missing = [name for name in ("z3", "glpsol", "esolver") if not shutil.which(name)]
     if missing:
         print(f"not installed, so not timed: {', '.join(missing)}")
