@@ -15,8 +15,6 @@ mod option_tests;
 #[cfg(test)]
 mod run_tests;
 #[cfg(test)]
-mod save_table;
-#[cfg(test)]
 mod save_tests;
 #[cfg(test)]
 mod workbook_tests;

@@ -1,6 +1,5 @@
-// Runs that save. The answers and the files follow from the rules by hand; sheets of odd texts were made apart.
+// Runs that save. The answers and the files follow from the rules by hand.
 use crate::run_tests::{Fails, Files, NEVER, PLANNED, folder, ran_over};
-use crate::save_table::SHEETS;
 use opensolver_cli::Status;
 use solver_io::MemFolder;
 use std::test::Fail;
@@ -161,27 +160,6 @@ fn files_that_are_saved(rt: HostRuntime) -> Result<(), Fail> {
             "the rest after {want}"
         );
         assert!(rt; holds(&kept, "other.csv", b"9\n"));
-    }
-    Ok(())
-}
-
-#[test]
-fn sheets_of_odd_texts(rt: HostRuntime) -> Result<(), Fail> {
-    for (place, (read, saved)) in SHEETS.iter().enumerate() {
-        let files = [("names.csv", b"".as_slice()), ("plan.csv", *read)];
-        let mut kept = folder(rt.alloc(), &files, u64::MAX)?;
-        let script = b"clear,plan!IV4096\nsave\n";
-        let line = "--names names.csv plan.csv";
-        let (_, printed) = ran_over(rt.alloc(), line, &mut kept, script, NEVER)?;
-        assert_eq!(rt; printed.as_slice(), b"ok\nsaved 1\n".as_slice());
-        assert!(rt; holds(&kept, "plan.csv", saved), "sheet {place}");
-        // what is saved reads back and is saved as it is, but for a mark in front, which a reader drops
-        let again = match *saved {
-            [0xef, 0xbb, 0xbf, rest @ ..] => rest,
-            all => all,
-        };
-        ran_over(rt.alloc(), line, &mut kept, script, NEVER)?;
-        assert!(rt; holds(&kept, "plan.csv", again), "sheet {place} again");
     }
     Ok(())
 }
