@@ -1,0 +1,112 @@
+#!/usr/bin/env python3
+"""Lists the definitions on which statements rest: those that a reader must believe.
+
+usage: believed.py [CRATE.FILE.NAME..]
+
+A statement is named by its crate, its file of specs/ and its name. Without words it is the contract of the program's call `run`. Each
+line printed has a crate, how many of its definitions are reached and how many lines they have, and the files that hold them.
+"""
+import collections
+import os
+import re
+import sys
+
+CRATES = os.path.join(os.path.dirname(os.path.abspath(__file__)), "..", "crates")
+HEADLINE = ["opensolver_cli.Headline.RunsAs", "opensolver_cli.Completeness.EndsExactly", "opensolver_cli.Headline.IsCounted"]
+
+NAMED = re.compile(r"use Rattle\.(\w+)\.specs\.([\w.]+?)\.\{(.*)\}$")
+FILE = re.compile(r"use Rattle\.(\w+)\.specs\.([\w.]+) as (\w+)$")
+MUTUAL = re.compile(r"(?:abbrev |unfoldable )?mutual")
+TYPE = re.compile(r"(?:  )?(?:(?:abbrev|unfoldable) )?(?:pub )?(record|data) (\S+)")
+TOP = re.compile(r"(?:(?:abbrev|unfoldable) (?:pub )?|pub )(\S+) :")
+INNER = re.compile(r"  (?:(?:abbrev|unfoldable) )?pub (\S+) :")
+CONSTRUCTOR = re.compile(r"\s+(\S+) :")
+
+
+class Specs:
+    """All definitions: their lines, the types of constructors, and what each file imports."""
+
+    def __init__(self):
+        self.lines, self.types, self.imports = {}, {}, {}
+        for crate in sorted(os.listdir(CRATES)):
+            folder = os.path.join(CRATES, crate, "specs")
+            for file in sorted(os.listdir(folder)) if os.path.isdir(folder) else []:
+                if file.endswith(".antt") and file != "Lib.antt":
+                    with open(os.path.join(folder, file), encoding="utf-8") as text:
+                        self.read(crate, file[:-5], text.read().split("\n"))
+
+    def read(self, crate, file, lines):
+        """Takes the definitions of a file."""
+        imports, now, is_data, in_mutual = self.imports.setdefault((crate, file), {}), None, False, False
+        for line in lines:
+            if self.is_import(imports, line) or not line.strip() or line.strip().startswith("--"):
+                continue
+            if MUTUAL.match(line):
+                now, in_mutual = None, True
+                continue
+            type_, top = TYPE.match(line), TOP.match(line)
+            inner = INNER.match(line) if in_mutual and not top else None
+            in_mutual = in_mutual and line.startswith("  ")
+            if type_ or top or inner:
+                now, is_data = (crate, file, type_.group(2) if type_ else (top or inner).group(1)), bool(type_) and type_.group(1) == "data"
+                self.lines[now] = []
+            if now:
+                self.lines[now].append(line)
+                if is_data and CONSTRUCTOR.match(line):
+                    self.types[(crate, file, CONSTRUCTOR.match(line).group(1))] = now
+
+    @staticmethod
+    def is_import(imports, line):
+        """Takes an import, and returns whether the line is one."""
+        named, file = NAMED.match(line), FILE.match(line)
+        for word in named.group(3).split(",") if named else []:
+            name, _, here = word.strip().partition(" as ")
+            imports[here or name] = (named.group(1), named.group(2), name)
+        if file:
+            imports[file.group(3)] = (file.group(1), file.group(2), None)
+        return bool(named or file)
+
+    def found(self, key):
+        """The definition of this key, or the type of this constructor."""
+        return key if key in self.lines else self.types.get(key)
+
+    def meant(self, crate, file, word):
+        """The definitions that a word of a file may mean."""
+        imports = self.imports[(crate, file)]
+        for name in {word, "◌" + word + "◌"}:
+            yield self.found((crate, file, name)) or self.found(imports.get(name))
+        module, point, name = word.partition(".")
+        if point and module in imports and imports[module][2] is None:
+            yield self.found((*imports[module][:2], name))
+
+    def reached(self, starts):
+        """The definitions on which these rest, and they themselves."""
+        seen, left = set(), list(starts)
+        while left:
+            key = left.pop()
+            if key is None or key in seen:
+                continue
+            seen.add(key)
+            for word in set(re.findall(r"[^\s(){};,λ]+", "\n".join(self.lines[key]))):
+                left.extend(self.meant(key[0], key[1], word))
+        return seen
+
+
+def main():
+    specs = Specs()
+    starts = [tuple(word.split(".")) for word in sys.argv[1:] or HEADLINE]
+    lacking = [".".join(key) for key in starts if key not in specs.lines]
+    if lacking:
+        sys.exit(f"there is no statement {lacking[0]}")
+    count, lines, files = collections.Counter(), collections.Counter(), collections.defaultdict(set)
+    for key in specs.reached(starts):
+        count[key[0]] += 1
+        lines[key[0]] += len(specs.lines[key])
+        files[key[0]].add(key[1])
+    for crate in sorted(count):
+        print(f"{crate}: {count[crate]} definitions, {lines[crate]} lines ({', '.join(sorted(files[crate]))})")
+    print(f"altogether {count.total()} of {len(specs.lines)} definitions, {lines.total()} of {sum(map(len, specs.lines.values()))} lines")
+
+
+if __name__ == "__main__":
+    main()
