@@ -3,7 +3,7 @@ PREFIX ?= /usr/local
 
 example = crates/opensolver
 
-.PHONY: run test try install
+.PHONY: run test try examples install
 
 # Proves the program, builds it and runs the example.
 run:
@@ -17,6 +17,10 @@ test:
 try:
 	@echo 'This run proves nothing: make run proves the program first.'
 	cd $(example) && rt try -- --names data/names.csv data/plan.csv < stdin
+
+# Runs the example workbooks with the program that `make run` built, and compares what they print and save.
+examples:
+	python3 examples/run.py $(example)/out/opensolver
 
 # Copies the program that `make run` built.
 install:
