@@ -194,7 +194,7 @@ entry_held sheets names es k formulas kept = ap (option_map (says sheets names k
 within : (m n : ℕ) → n ≤ m → false ≡ nat_lt m n
 within m n h = grind (arith, nat_tests)
 
-one_past : (b : Bool) (m n : ℕ) → n ≤ m → (nat_le m n && not b) ≡ nat_lt m (cond b n (n + 1))
+pub one_past : (b : Bool) (m n : ℕ) → n ≤ m → (nat_le m n && not b) ≡ nat_lt m (cond b n (n + 1))
 one_past true m n h = grind (arith, nat_tests)
 one_past false m n h = grind (arith, nat_tests)
 
@@ -210,7 +210,7 @@ gone : (c : Contents) (k : Cell) (text : List ℕ) → (length text == 0) ≡ tr
 gone c k [] e = refl
 gone c k (b ∷ text) e = absurd (let k : suc (length text) ≡ 0 = eqb-true (suc (length text)) 0 e in omega arith)
 
-counts : (is was : Bool) (m n after : ℕ) → n ≤ m → after + one was ≡ n + one is → (nat_le m n && (is && not was)) ≡ nat_lt m after
+pub counts : (is was : Bool) (m n after : ℕ) → n ≤ m → after + one was ≡ n + one is → (nat_le m n && (is && not was)) ≡ nat_lt m after
 counts true true m n after h e = grind (arith, nat_tests)
 counts true false m n after h e = grind (arith, nat_tests)
 counts false true m n after h e = grind (arith, nat_tests)

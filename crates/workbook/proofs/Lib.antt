@@ -13,8 +13,8 @@ pub mod NextCells
 pub mod Widths
 pub mod OneWay
 pub mod Exchanges
-pub mod Restored
 pub mod Severally
+pub mod Room
 pub mod NameEdits
 pub mod UsedNames
 pub mod NewMeanings

@@ -17,6 +17,7 @@ pub mod Replacing
 pub mod Determined
 pub mod Exchanging
 pub mod Several
+pub mod Filling
 pub mod Naming
 pub mod Saving
 pub mod Uses

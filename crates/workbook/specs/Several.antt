@@ -28,15 +28,11 @@ first_without_room contents [] = None
 first_without_room contents (e ∷ es) =
     if is_too_much (insert contents e.0 e.1) then Some e.0 else first_without_room (insert contents e.0 e.1) es
 
--- there is a first text, and room for it
-abbrev pub FirstHasRoom : Contents → List (Cell × List ℕ) → Type 0
-FirstHasRoom contents [] = ⊥
-FirstHasRoom contents (e ∷ es) = is_too_much (insert contents e.0 e.1) ≡ false
-
--- what putting texts answers: all are put where all have room, or nothing has changed; want of memory comes only where the
--- first has room
+-- what putting texts answers: all are put where all have room, or nothing has changed; memory is wanted only where all have room
+-- and there is a text
 abbrev pub SetsAll : State → List (Cell × List ℕ) → Result (Unit {0}) AllFault → State → Type 0
 SetsAll before texts (Ok _) after =
     (first_without_room before.contents texts ≡ None) × (after ≡ record before { contents = with_texts before.contents texts })
 SetsAll before texts (Err (fault.NoRoom cell)) after = (first_without_room before.contents texts ≡ Some cell) × (after ≡ before)
-SetsAll before texts (Err fault.Memory) after = FirstHasRoom before.contents texts × (after ≡ before)
+SetsAll before texts (Err fault.Memory) after =
+    (first_without_room before.contents texts ≡ None) × (texts ≢ []) × (after ≡ before)

@@ -1,5 +1,6 @@
 // The cells to be decided.
 ghost use Rattle.std.specs.Prelude.{◌≡◌, ◌≤◌, IfOk, length, position};
+ghost use Rattle.std.specs.List.{IsDistinct};
 ghost use Rattle.cell_refs.specs.Cells.{is_same_cell};
 ghost use Rattle.workbook.specs.declared.adj.TheConstants.{DECISIONS};
 
@@ -47,6 +48,13 @@ impl Adj {
         ensures { result.now ≡ self.now }
     {
         self.cells.as_slice()
+    }
+
+    /// No cell is there twice.
+    pub fn cells_are_distinct(&self)
+        ensures { IsDistinct is_same_cell self.now }
+    {
+        let _count = self.cells.len();
     }
 
     /// A copy.

@@ -109,6 +109,19 @@ pub(crate) fn put_over(cells: &mut BTreeMap<Cell, Held>, cell: Cell, held: Held)
     }
 }
 
+/// Gives a cell that has a text back what was held of it before.
+pub(crate) fn put_back(cells: &mut BTreeMap<Cell, Held>, cell: Cell, was: Option<Held>)
+    requires { IsSome (held_at cells.old.entries cell) }
+    ensures back { (q : Cell) → held_at cells.new.entries q
+        ≡ (if is_at (cell_cmp cell) q then was else held_at cells.old.entries q) }
+    ensures len { length cells.new.entries + 1 ≡ length cells.old.entries + (if is_some was then 1 else 0) }
+{
+    match was {
+        Some(held) => put_over(cells, cell, held),
+        None => take_away(cells, cell),
+    }
+}
+
 /// Says something else of the texts of cells, the last of them first.
 pub(crate) fn say_otherwise(cells: &mut BTreeMap<Cell, Held>, mut said: Vec<(Cell, Said)>)
     ensures resaid { (q : Cell) → held_at cells.new.entries q

@@ -1,48 +1,59 @@
 // Texts put into several cells.
-ghost use Rattle.std.specs.Prelude.{◌≡◌, All, length, map, string_bytes, zip};
+ghost use Rattle.std.specs.Prelude.{◌≡◌, ◌≢◌, [], All, None, OnErr, OnOk, map, string_bytes, zip};
+ghost use Rattle.workbook.specs.Filling.{AreHeldAlike, IsFilled};
+ghost use Rattle.workbook.specs.Held.{IsKept, contents_of};
 ghost use Rattle.workbook.specs.Listed.{IsListed};
-ghost use Rattle.workbook.specs.Several.{IsField, SetsAll};
+ghost use Rattle.workbook.specs.Scoped.{IsShort};
+ghost use Rattle.workbook.specs.Several.{IsField, first_without_room};
+ghost use Rattle.workbook.specs.State.{formula_count};
 
-use crate::{Adj, AllFault, Workbook};
-use cell_refs::Cell;
+use crate::held::{Held, put_back, put_in};
+use crate::named::Scope;
+use crate::names::Names;
+use crate::say::hold;
+use cell_refs::{Cell, SheetNames};
+use memory::Memory;
 use sheet_model::Text;
+use std::alloc::Global;
+use std::collections::BTreeMap;
+use std::mem::drop;
 
-impl Workbook {
-    /// Puts a text into each cell, in their order. After a fault nothing has changed.
-    pub fn set_all(&mut self, at: &Adj, texts: &[String]) -> Result<(), AllFault>
-        requires each { length texts.now ≡ length at.now }
-        requires listed { All (IsListed self.old.sheets) at.now }
-        requires fields { All (λ text. IsField (string_bytes text)) texts.now }
-        ensures { SetsAll self.old (zip at.now (map string_bytes texts.now)) result self.new }
-    {
-        self.set_each(at.cells(), texts)
+/// Puts a text into each cell, in their order. On want of memory each cell has what it had.
+pub(crate) fn put_each(
+    alloc: Global,
+    sheets: &SheetNames,
+    names: &Names,
+    cells: &mut BTreeMap<Cell, Held>,
+    at: &[Cell],
+    texts: &[String],
+) -> Result<(), Memory>
+    requires short { All IsShort names.now }
+    requires kept { IsKept sheets.now names.now cells.old.entries (formula_count (contents_of cells.old.entries)) }
+    requires listed { All (IsListed sheets.now) at.now }
+    requires fields { All (λ text. IsField (string_bytes text)) texts.now }
+    requires room { first_without_room (contents_of cells.old.entries) (zip at.now (map string_bytes texts.now)) ≡ None }
+    ensures ok { OnOk result (IsFilled sheets.now names.now cells.old.entries (zip at.now (map string_bytes texts.now)) cells.new.entries) }
+    ensures some { OnErr result (zip at.now (map string_bytes texts.now) ≢ []) }
+    ensures err { OnErr result (AreHeldAlike cells.old.entries cells.new.entries) }
+{
+    let [cell, later_cells @ ..] = at else {
+        return Ok(());
+    };
+    let [text, later_texts @ ..] = texts else {
+        return Ok(());
+    };
+    let scope = Scope {
+        home: cell.sheet,
+        sheets,
+        names,
+    };
+    let text = Text::new(String::from_str(alloc, text.as_str())?);
+    let held = hold(alloc, &scope, *cell, text)?;
+    let was = put_in(cells, *cell, held)?;
+    if let Err(fault) = put_each(alloc, sheets, names, cells, later_cells, later_texts) {
+        put_back(cells, *cell, was);
+        return Err(fault);
     }
-
-    // Puts a text into each cell, as long as there are both; a text is taken out again where a later one isn't put.
-    fn set_each(&mut self, cells: &[Cell], texts: &[String]) -> Result<(), AllFault>
-        requires listed { All (IsListed self.old.sheets) cells.now }
-        requires fields { All (λ text. IsField (string_bytes text)) texts.now }
-        ensures { SetsAll self.old (zip cells.now (map string_bytes texts.now)) result self.new }
-    {
-        let [cell, later_cells @ ..] = cells else {
-            return Ok(());
-        };
-        let [text, later_texts @ ..] = texts else {
-            return Ok(());
-        };
-        if self.has_no_room(*cell, text.as_str()) {
-            return Err(AllFault::NoRoom(*cell));
-        }
-        let Ok(text) = String::from_str(self.alloc(), text.as_str()) else {
-            return Err(AllFault::Memory);
-        };
-        let Ok(was) = self.change(*cell, Text::new(text)) else {
-            return Err(AllFault::Memory);
-        };
-        if let Err(fault) = self.set_each(later_cells, later_texts) {
-            self.give_back(*cell, was);
-            return Err(fault);
-        }
-        Ok(())
-    }
+    drop(was);
+    Ok(())
 }

@@ -7,11 +7,10 @@ ghost use Rattle.workbook.specs.Edits.{Sets, after_set, is_outside, set_fault};
 ghost use Rattle.workbook.specs.Held.{put_all, text_entry};
 ghost use Rattle.workbook.specs.Kinds.{book_of};
 ghost use Rattle.workbook.specs.Listed.{IsListed, TextsAreListed};
-ghost use Rattle.workbook.specs.Exchanging.{CanGiveBack, GivesBack, IsExchange, IsRestorable, given_back};
+ghost use Rattle.workbook.specs.Exchanging.{IsExchange};
 ghost use Rattle.workbook.specs.Replacing.{CanReplace};
 ghost use Rattle.workbook.specs.State.{formula_count, is_formula_text, text_count, text_of, with_text};
 ghost use Rattle.workbook.specs.Room.{HasRoom};
-ghost use Rattle.workbook.specs.Several.{is_too_much};
 ghost use Rattle.workbook.specs.Naming.{SayOtherwise};
 ghost use Rattle.workbook.specs.Renamed.{OthersStay};
 ghost use Rattle.workbook.specs.Scoped.{IsShort};
@@ -34,6 +33,7 @@ use std::mem::drop;
 use std::ops::Bound;
 
 mod laws;
+mod several;
 
 /// The sheets of a workbook, the texts of their cells, and the names.
 #[derive(Drop)]
@@ -158,20 +158,6 @@ impl Workbook {
         ensures ok { OnOk result (self.new ≡ record self.old { contents = finmap.insert self.old.contents cell text }) }
         ensures err { OnErr result (self.new ≡ self.old) }
     {
-        drop(self.change(cell, text)?);
-        Ok(())
-    }
-
-    // Puts a text into a cell, and answers what was held of it, which can be given back.
-    pub(crate) fn change(&mut self, cell: Cell, text: Text) -> Result<Option<Held>, Memory>
-        requires listed { IsListed self.old.sheets cell }
-        requires some { text ≢ [] }
-        requires short { length text ≤ 8192 }
-        requires room { HasRoom self.old.contents cell text }
-        ensures ok { OnOk result (self.new ≡ record self.old { contents = finmap.insert self.old.contents cell text }) }
-        ensures back { IfOk result (λ was. GivesBack self.old cell was self.new) }
-        ensures err { OnErr result (self.new ≡ self.old) }
-    {
         let scope = Scope {
             home: cell.sheet,
             sheets: &self.sheets,
@@ -180,39 +166,9 @@ impl Workbook {
         let is_one = is_formula(text.as_str());
         let held = hold(self.alloc, &scope, cell, text)?;
         let was_one = self.has_formula(cell);
-        let was = put_in(&mut self.cells, cell, held)?;
+        drop(put_in(&mut self.cells, cell, held)?);
         self.formulas = self.formulas + one(is_one) - one(was_one);
-        Ok(was)
-    }
-
-    // Gives a cell back what was held of it.
-    pub(crate) fn give_back(&mut self, cell: Cell, was: Option<Held>)
-        requires { CanGiveBack self.old cell was }
-        ensures { self.new ≡ record self.old { contents = given_back self.old.contents cell was } }
-    {
-        match was {
-            Some(held) => self.restore(cell, held),
-            None => self.clear(cell),
-        }
-    }
-
-    // Puts into a cell that has a text what is held for it.
-    fn restore(&mut self, cell: Cell, held: Held)
-        requires { IsRestorable self.old cell held }
-        ensures { self.new ≡ record self.old { contents = finmap.insert self.old.contents cell held.text } }
-    {
-        let is_one = is_formula(held.text.as_str());
-        let was_one = self.has_formula(cell);
-        put_over(&mut self.cells, cell, held);
-        self.formulas = self.formulas + one(is_one) - one(was_one);
-    }
-
-    // Whether there would be too many texts or formulas with this one in the cell.
-    pub(crate) fn has_no_room(&self, cell: Cell, text: &str) -> bool
-        requires { text.now ≢ [] }
-        ensures { result ≡ is_too_much (finmap.insert self.now.contents cell text.now) }
-    {
-        self.would_be_full(cell, text) || self.would_have_too_many(cell, text)
+        Ok(())
     }
 
     // Where memory is taken from.

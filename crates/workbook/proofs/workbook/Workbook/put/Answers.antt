@@ -4,12 +4,10 @@ use Rattle.workbook.specs.Contents.{content_of}
 use Rattle.workbook.specs.Held.{contents_of}
 use Rattle.workbook.specs.Listed.{IsListed}
 use Rattle.workbook.specs.Room.{HasRoom}
-use Rattle.workbook.specs.Exchanging.{GivesBack}
-use Rattle.workbook.specs.State.{State, is_formula_text}
+use Rattle.workbook.specs.State.{is_formula_text}
 use Rattle.workbook.proofs.Counting.{one}
 use Rattle.workbook.proofs.Keeping.{had_fits, kept_put, text_put, the_state}
-use Rattle.workbook.proofs.Restored.{gives_back}
-use Rattle.workbook.proofs.workbook.Workbook.change.Goals as goal
+use Rattle.workbook.proofs.workbook.Workbook.put.Goals as goal
 
 pub hold-requires-clause-listed : goal.hold-requires-clause-listed
 hold-requires-clause-listed c = subst (λ s. IsListed s.sheets c.args.cell) (sym c.self.view_is) c.requires.listed
@@ -34,25 +32,12 @@ invariant_of-self-2 c =
     let room : HasRoom (contents_of es) c.args.cell held.text =
     subst (HasRoom (contents_of es) c.args.cell) (sym c.in_ok-held.ensures.text) (subst (λ s. HasRoom s.contents c.args.cell c.args.text) (sym c.self.view_is) c.requires.room) in
     kept_put sheets names es c.put_in.new.cells.entries c.args.cell c.self.inside.formulas (c.self.inside.formulas + c.one.result - c.one-2.result) c.self.invariant
-    held c.in_ok-held.ensures.held room c.in_ok-was.ensures.put c.in_ok-was.ensures.len
+    held c.in_ok-held.ensures.held room c.in_ok-put_in.ensures.put c.in_ok-put_in.ensures.len
     (omega (arith, was, is, had_fits sheets names es c.args.cell c.self.inside.formulas c.self.invariant))
 
 pub returns-clause-ok : goal.returns-clause-ok
 returns-clause-ok c =
     ap (λ m. the_state c.self.inside.sheets m c.self.inside.names)
-    (text_put c.self.inside.cells.entries c.put_in.new.cells.entries c.args.cell c.in_ok-held.held c.in_ok-was.ensures.put
+    (text_put c.self.inside.cells.entries c.put_in.new.cells.entries c.args.cell c.in_ok-held.held c.in_ok-put_in.ensures.put
     ∙ ap (insert (contents_of c.self.inside.cells.entries) c.args.cell) c.in_ok-held.ensures.text)
     ∙ ap (λ s. the_state s.sheets (insert s.contents c.args.cell c.args.text) s.names) c.self.view_is
-
-pub returns-clause-back : goal.returns-clause-back
-returns-clause-back c =
-    let sheets = c.self.inside.sheets in
-    let names = c.self.inside.names in
-    let es = c.self.inside.cells.entries in
-    let listed : IsListed sheets c.args.cell = subst (λ s. IsListed s.sheets c.args.cell) (sym c.self.view_is) c.requires.listed in
-    let put : the_state sheets (contents_of c.put_in.new.cells.entries) names ≡ the_state sheets (insert (contents_of es) c.args.cell c.args.text) names =
-    ap (λ m. the_state sheets m names)
-    (text_put es c.put_in.new.cells.entries c.args.cell c.in_ok-held.held c.in_ok-was.ensures.put ∙ ap (insert (contents_of es) c.args.cell) c.in_ok-held.ensures.text) in
-    subst (λ (s : State). GivesBack s c.args.cell c.in_ok-was.was' (the_state sheets (contents_of c.put_in.new.cells.entries) names)) c.self.view_is
-    (subst (λ (t : State). GivesBack (the_state sheets (contents_of es) names) c.args.cell c.in_ok-was.was' t) (sym put)
-    (gives_back sheets names es c.self.inside.formulas c.self.invariant c.args.cell c.args.text listed c.in_ok-was.was' c.in_ok-was.ensures.was))
