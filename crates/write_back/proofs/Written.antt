@@ -79,7 +79,7 @@ puts s t cells numbers texts r e all = by r (subst (λ ts. SetsAll s (zip cells 
     by : (r : Result (Unit {0}) AllFault) → SetsAll s (zip cells (map number_text numbers)) r t → Puts s cells numbers r t
     by (Ok _) all = all
     by (Err (fault.NoRoom cell)) all = all
-    by (Err fault.Memory) all = all.1
+    by (Err fault.Memory) all = all.2
 
 pub recalculated : (s t : State) (cells : List Cell) (numbers : List ℚ) → length numbers ≡ length cells → AreDistinct cells → All IsNarrow numbers → (r : Result (Unit {0}) AllFault) → Puts s cells numbers r t
     → OnOk r (KeepsValues (book_of s) cells numbers (book_of t))
