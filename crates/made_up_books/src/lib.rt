@@ -13,7 +13,7 @@ ghost use Rattle.made_up_books.specs.MadeUp.{made_up, sheet_name};
 
 use cells::put_cells;
 use draws::Drawn;
-pub use examples::first_numbers;
+pub use examples::{first_names, first_numbers};
 use memory::Memory;
 use names::{name_demands, name_objective, name_supplies};
 use std::alloc::Global;

@@ -2,7 +2,7 @@
 ghost use Rattle.std.specs.Prelude.{◌≡◌, ◌<◌, ◌≤◌, ◌∷◌, [], OnOk, length};
 ghost use Rattle.made_up_books.specs.Putting.{demand_names, objective_names, supply_names, with_named};
 
-use crate::texts::{address, area};
+use crate::texts::{absolute_address, absolute_area};
 use cell_refs::SheetId;
 use memory::Memory;
 use std::alloc::Global;
@@ -15,8 +15,8 @@ pub(crate) fn name_objective(alloc: Global, book: &mut Workbook, size: u16) -> R
     requires few { size ≤ 12 }
     ensures { OnOk result (book.new ≡ with_named book.old (objective_names size)) }
 {
-    let sent = area(alloc, size, 0, 2 * size - 1, size - 1)?;
-    let total = address(alloc, 2 * size + 2, 0)?;
+    let sent = absolute_area(alloc, size, 0, 2 * size - 1, size - 1)?;
+    let total = absolute_address(alloc, 2 * size + 2, 0)?;
     name(book, "solver_adj", &sent)?;
     name(book, "solver_opt", &total)?;
     name(book, "solver_typ", "2")?;
@@ -31,8 +31,8 @@ pub(crate) fn name_supplies(alloc: Global, book: &mut Workbook, size: u16) -> Re
     requires few { size ≤ 12 }
     ensures { OnOk result (book.new ≡ with_named book.old (supply_names size)) }
 {
-    let sent = area(alloc, size, size, 2 * size - 1, size)?;
-    let supplies = area(alloc, size, size + 1, 2 * size - 1, size + 1)?;
+    let sent = absolute_area(alloc, size, size, 2 * size - 1, size)?;
+    let supplies = absolute_area(alloc, size, size + 1, 2 * size - 1, size + 1)?;
     name(book, "solver_lhs1", &sent)?;
     name(book, "solver_rel1", "1")?;
     name(book, "solver_rhs1", &supplies)?;
@@ -46,8 +46,8 @@ pub(crate) fn name_demands(alloc: Global, book: &mut Workbook, size: u16) -> Res
     requires few { size ≤ 12 }
     ensures { OnOk result (book.new ≡ with_named book.old (demand_names size)) }
 {
-    let got = area(alloc, 2 * size, 0, 2 * size, size - 1)?;
-    let demands = area(alloc, 2 * size + 1, 0, 2 * size + 1, size - 1)?;
+    let got = absolute_area(alloc, 2 * size, 0, 2 * size, size - 1)?;
+    let demands = absolute_area(alloc, 2 * size + 1, 0, 2 * size + 1, size - 1)?;
     name(book, "solver_lhs2", &got)?;
     name(book, "solver_rel2", "3")?;
     name(book, "solver_rhs2", &demands)?;

@@ -1,7 +1,7 @@
 // Texts: numbers, addresses, areas and sums.
-ghost use Rattle.std.specs.Prelude.{◌≡◌, ◌++◌, IfOk, codes, decimal, string_bytes};
+ghost use Rattle.std.specs.Prelude.{◌≡◌, ◌<◌, ◌++◌, IfOk, OnOk, codes, decimal, string_bytes};
 ghost use Rattle.cell_refs.specs.Address.{address_text};
-ghost use Rattle.made_up_books.specs.MadeUp.{area_text, sum_of};
+ghost use Rattle.made_up_books.specs.MadeUp.{absolute_address_text, absolute_area_text, area_text, sum_of};
 
 use cell_refs::print_address;
 use itoa::Buffer;
@@ -61,4 +61,47 @@ pub(crate) fn sum_of_products(alloc: Global, first: &str, second: &str) -> Resul
     text.push_str(second)?;
     text.push_str(")")?;
     Ok(text)
+}
+
+/// The absolute address of a cell, by its row and its column from 0.
+pub(crate) fn absolute_address(alloc: Global, row: u16, col: u16) -> Result<String, Memory>
+    requires { col < 26 }
+    ensures { IfOk result (λ text. string_bytes text ≡ absolute_address_text row col) }
+{
+    let mut text = String::new(alloc);
+    print_absolute(row, col, &mut text)?;
+    Ok(text)
+}
+
+/// An area by absolute addresses, by the rows and columns of its first cell and its last.
+pub(crate) fn absolute_area(
+    alloc: Global,
+    top: u16,
+    left: u16,
+    bottom: u16,
+    right: u16,
+) -> Result<String, Memory>
+    requires left { left < 26 }
+    requires right { right < 26 }
+    ensures { IfOk result (λ text. string_bytes text ≡ absolute_area_text top left bottom right) }
+{
+    let mut text = absolute_address(alloc, top, left)?;
+    if top != bottom || left != right {
+        text.push_str(":")?;
+        print_absolute(bottom, right, &mut text)?;
+    }
+    Ok(text)
+}
+
+// Appends an absolute address whose column is a single letter.
+fn print_absolute(row: u16, col: u16, to: &mut String) -> Result<(), Memory>
+    requires { col < 26 }
+    ensures { OnOk result (string_bytes to.new ≡ string_bytes to.old ++ absolute_address_text row col) }
+{
+    let mut digits = Buffer::new();
+    to.push_str("$")?;
+    to.push((65 + col) as u8 as char)?;
+    to.push_str("$")?;
+    to.push_str(digits.format(u32::from(row) + 1))?;
+    Ok(())
 }
