@@ -1,8 +1,9 @@
 -- A workbook into which texts are put and whose names get texts, one after the other.
-use Rattle.std.specs.Prelude.{ℕ, ◌+◌, ◌-◌, ◌*◌, List, [], ◌∷◌, map, flat_map, slice_index, codes, decimal, Some}
+use Rattle.std.specs.Prelude.{ℕ, ◌≤◌, length, ◌+◌, ◌-◌, ◌*◌, List, [], ◌∷◌, map, flat_map, slice_index, codes, decimal, Some}
 use Rattle.workbook.specs.Naming.{after_name}
 use Rattle.workbook.specs.Several.{with_texts}
-use Rattle.workbook.specs.State.{State}
+use Rattle.cell_refs.specs.declared.limits.TheConstants.{FORMULAS, NAMES}
+use Rattle.workbook.specs.State.{State, text_count}
 use Rattle.made_up_books.specs.MadeUp.{TextInCell, absolute_address_text, absolute_area_text, area_text, at, below, sum_of}
 
 -- the workbook with these texts in cells, put there in their order
@@ -13,6 +14,14 @@ with_cells state cells = record state { contents = with_texts state.contents cel
 unfoldable pub with_named : State → List (List ℕ × List ℕ) → State
 with_named state [] = state
 with_named state (e ∷ es) = with_named (after_name state (Some 0) e.0 e.1) es
+
+-- there is room for so many texts more, also where each is a formula
+abbrev pub HasRoomFor : ℕ → State → Type 0
+HasRoomFor count state = text_count state.contents + count ≤ FORMULAS
+
+-- there is room for so many names more
+abbrev pub HasRoomForNames : ℕ → State → Type 0
+HasRoomForNames count state = length state.names + count ≤ NAMES
 
 -- ---- cells
 -- the numbers of a row, of those that stand in a list row by row
