@@ -1,12 +1,5 @@
-//! Tests of the Solver's names, of workbooks that are made up, of the words of the command line, and of what is saved. They stand here
-//! so that no crate below is proved twice.
+//! Tests of the Solver's names. They stand here so that no crate below is proved twice.
 #![tactic(auto)]
 
-#[cfg(test)]
-mod command_words;
-#[cfg(test)]
-mod made_up_workbooks;
-#[cfg(test)]
-mod saved_files;
 #[cfg(test)]
 mod statements;
