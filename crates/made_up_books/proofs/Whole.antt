@@ -9,6 +9,7 @@ use Rattle.workbook.specs.State.{State}
 use Rattle.made_up_books.specs.MadeUp.{TextInCell, all_cells, cost_cells, costs, demand_cells, demands, made_up, named_as, sent_cells, sheet_name, supply_cells, total_cell}
 use Rattle.made_up_books.specs.Putting.{demand_names, demand_pairs, number_cells, objective_names, supply_names, with_cells, with_named}
 use Rattle.made_up_books.proofs.InTurn.{Contents, cells_in_turn}
+use Rattle.made_up_books.proofs.Opening.{one_empty, one_file_is}
 
 -- ---- cells
 costs_are : (n : ℕ) → number_cells n (costs n) ≡ cost_cells n
@@ -39,18 +40,14 @@ all_cells_are n numbers wanted s0 s1 s2 s3 s4 s5 c d e1 e2 e3 e4 e5 =
 abbrev pub blank : State
 blank = record { sheets = sheet_name ∷ []; contents = empty; names = [] }
 
-read_of_nothing : state_in (record { stem = sheet_name; bytes = [] } ∷ []) [] ≡ blank
+read_of_nothing : state_in one_empty [] ≡ blank
 unfolding strip_bom records_from next_record
 read_of_nothing = refl
 
 pub blank_is : (files before : List SheetFile) (file : SheetFile) (stem bytes : List ℕ) (book : State) → files ≡ before ++ file ∷ [] → before ≡ []
     → file ≡ record { stem = stem; bytes = bytes } → stem ≡ sheet_name → bytes ≡ [] → book ≡ state_in files [] → book ≡ blank
 blank_is files before file stem bytes book all first is named none opened =
-    let one : files ≡ record { stem = sheet_name; bytes = [] } ∷ [] =
-    all ∙ ap (λ fs. fs ++ file ∷ []) first ∙ ap (λ (f : SheetFile). f ∷ []) is
-    ∙ ap (λ t. (λ (f : SheetFile). f ∷ []) (record { stem = t; bytes = bytes })) named
-    ∙ ap (λ b. (λ (f : SheetFile). f ∷ []) (record { stem = sheet_name; bytes = b })) none in
-    opened ∙ ap (λ fs. state_in fs []) one ∙ read_of_nothing
+    opened ∙ ap (λ fs. state_in fs []) (one_file_is files before file stem bytes all first is named none) ∙ read_of_nothing
 
 -- ---- names
 names_are : (contents : Contents) (sent total spent supplies got wanted : List ℕ) →

@@ -1,9 +1,9 @@
 -- A workbook that is made up: so many suppliers send goods to as many places, at costs that are drawn.
-use Rattle.std.specs.Prelude.{ℕ, zero, suc, ◌+◌, ◌-◌, ◌*◌, ◌/◌, ◌%◌, ◌^◌, List, [], ◌∷◌, ◌++◌, map, flat_map, drop, slice_index, codes, decimal, Some}
+use Rattle.std.specs.Prelude.{ℕ, zero, suc, ◌+◌, ◌-◌, ◌*◌, ◌/◌, ◌%◌, ◌^◌, ◌==◌, ◌&&◌, if◌then◌else◌, List, [], ◌∷◌, ◌++◌, map, flat_map, drop, slice_index, codes, decimal, Some}
 use Rattle.std.specs.FinMap.{empty}
 use Rattle.std.specs.List.{range_with_len}
 use Rattle.cell_refs.specs.declared.cell.Cell.{Cell}
-use Rattle.cell_refs.specs.Address.{address_text}
+use Rattle.cell_refs.specs.Address.{address_text, column_text}
 use Rattle.workbook.specs.Several.{with_texts}
 use Rattle.workbook.specs.State.{Name, State}
 
@@ -70,19 +70,29 @@ sheet_name = codes "gen"
 abbrev pub named_as : List ℕ → List ℕ → Name
 named_as name text = record { sheet = Some 0; sheet_text = sheet_name; name = name; text = text }
 
+-- an absolute address, with a dollar sign before the column and one before the row
+abbrev pub absolute_address_text : ℕ → ℕ → List ℕ
+absolute_address_text row column = codes "$" ++ (column_text column ++ (codes "$" ++ decimal (row + 1)))
+
+-- an area by absolute addresses: one alone where it is a single cell
+abbrev pub absolute_area_text : ℕ → ℕ → ℕ → ℕ → List ℕ
+absolute_area_text top left bottom right =
+    if (top == bottom) && (left == right) then absolute_address_text top left
+    else absolute_address_text top left ++ (codes ":" ++ absolute_address_text bottom right)
+
 -- the least cost, with no more sent than the supplies and no less got than the demands
 abbrev pub made_up_names : ℕ → List Name
 made_up_names n =
-    named_as (codes "solver_adj") (area_text n 0 (2 * n - 1) (n - 1))
-    ∷ named_as (codes "solver_opt") (address_text (2 * n + 2) 0)
+    named_as (codes "solver_adj") (absolute_area_text n 0 (2 * n - 1) (n - 1))
+    ∷ named_as (codes "solver_opt") (absolute_address_text (2 * n + 2) 0)
     ∷ named_as (codes "solver_typ") (codes "2")
     ∷ named_as (codes "solver_num") (codes "2")
-    ∷ named_as (codes "solver_lhs1") (area_text n n (2 * n - 1) n)
+    ∷ named_as (codes "solver_lhs1") (absolute_area_text n n (2 * n - 1) n)
     ∷ named_as (codes "solver_rel1") (codes "1")
-    ∷ named_as (codes "solver_rhs1") (area_text n (n + 1) (2 * n - 1) (n + 1))
-    ∷ named_as (codes "solver_lhs2") (area_text (2 * n) 0 (2 * n) (n - 1))
+    ∷ named_as (codes "solver_rhs1") (absolute_area_text n (n + 1) (2 * n - 1) (n + 1))
+    ∷ named_as (codes "solver_lhs2") (absolute_area_text (2 * n) 0 (2 * n) (n - 1))
     ∷ named_as (codes "solver_rel2") (codes "3")
-    ∷ named_as (codes "solver_rhs2") (area_text (2 * n + 1) 0 (2 * n + 1) (n - 1))
+    ∷ named_as (codes "solver_rhs2") (absolute_area_text (2 * n + 1) 0 (2 * n + 1) (n - 1))
     ∷ []
 
 abbrev pub made_up : ℕ → State

@@ -1,14 +1,15 @@
 // The texts of the cells: costs, what is sent, what each supplier sends and each place gets, and the costs of all.
 ghost use Rattle.std.specs.Prelude.{◌≡◌, ◌≢◌, ◌<◌, ◌≤◌, ◌*◌, ◌∷◌, [], OnOk, decimal, length};
+ghost use Rattle.cell_refs.specs.declared.limits.TheConstants.{COLUMNS, ROWS, TEXT_BYTES};
 ghost use Rattle.made_up_books.specs.MadeUp.{all_cells, at, costs, demands, sent_cells, supply_cells, total_cell};
-ghost use Rattle.made_up_books.specs.Putting.{demand_pair, demand_pairs, number_cells, number_row, sent_row, supply_pair, with_cells};
+ghost use Rattle.made_up_books.specs.Putting.{HasRoomFor, demand_pair, demand_pairs, number_cells, number_row, sent_row, supply_pair, with_cells};
 
 use crate::draws::Drawn;
 use crate::texts::{area, number, sum, sum_of_products};
 use cell_refs::{Cell, SheetId};
 use memory::Memory;
 use std::alloc::Global;
-use workbook::Workbook;
+use workbook::{EditFault, Workbook};
 
 /// Puts all texts into their cells.
 pub(crate) fn put_cells(
@@ -18,6 +19,7 @@ pub(crate) fn put_cells(
     drawn: &Drawn,
 ) -> Result<(), Memory>
     requires listed { 0 < length book.old.sheets }
+    requires room { HasRoomFor 337 book.old }
     requires some { 1 ≤ size }
     requires few { size ≤ 12 }
     requires costs { drawn.now.costs.items ≡ costs size }
@@ -36,6 +38,7 @@ pub(crate) fn put_cells(
 
 fn put_costs(alloc: Global, book: &mut Workbook, size: u16, costs: &[u16]) -> Result<(), Memory>
     requires listed { 0 < length book.old.sheets }
+    requires room { HasRoomFor 144 book.old }
     requires few { size ≤ 12 }
     requires all { length costs.now ≡ size * size }
     ensures { OnOk result (book.new ≡ with_cells book.old (number_cells size costs.now)) }
@@ -55,6 +58,7 @@ fn put_cost_row(
     row: u16,
 ) -> Result<(), Memory>
     requires listed { 0 < length book.old.sheets }
+    requires room { HasRoomFor 12 book.old }
     requires few { size ≤ 12 }
     requires all { length costs.now ≡ size * size }
     requires row { row < size }
@@ -70,6 +74,7 @@ fn put_cost_row(
 
 fn put_sent(book: &mut Workbook, size: u16) -> Result<(), Memory>
     requires listed { 0 < length book.old.sheets }
+    requires room { HasRoomFor 144 book.old }
     requires few { size ≤ 12 }
     ensures { OnOk result (book.new ≡ with_cells book.old (sent_cells size)) }
 {
@@ -82,6 +87,7 @@ fn put_sent(book: &mut Workbook, size: u16) -> Result<(), Memory>
 // What a supplier sends to each place: nothing yet.
 fn put_sent_row(book: &mut Workbook, size: u16, supplier: u16) -> Result<(), Memory>
     requires listed { 0 < length book.old.sheets }
+    requires room { HasRoomFor 12 book.old }
     requires few { size ≤ 12 }
     requires supplier { supplier < size }
     ensures { OnOk result (book.new ≡ with_cells book.old (sent_row size supplier)) }
@@ -96,6 +102,7 @@ fn put_sent_row(book: &mut Workbook, size: u16, supplier: u16) -> Result<(), Mem
 
 fn put_supplies(alloc: Global, book: &mut Workbook, size: u16) -> Result<(), Memory>
     requires listed { 0 < length book.old.sheets }
+    requires room { HasRoomFor 24 book.old }
     requires some { 1 ≤ size }
     requires few { size ≤ 12 }
     ensures { OnOk result (book.new ≡ with_cells book.old (supply_cells size)) }
@@ -109,8 +116,10 @@ fn put_supplies(alloc: Global, book: &mut Workbook, size: u16) -> Result<(), Mem
 // Behind a row of what is sent: how much that is, and what the supplier has, 20.
 fn put_supply(alloc: Global, book: &mut Workbook, size: u16, row: u16) -> Result<(), Memory>
     requires listed { 0 < length book.old.sheets }
+    requires room { HasRoomFor 2 book.old }
     requires some { 1 ≤ size }
     requires few { size ≤ 12 }
+    requires row { row < 24 }
     ensures { OnOk result (book.new ≡ with_cells book.old (supply_pair size row)) }
 {
     let sent = area(alloc, row, 0, row, size - 1)?;
@@ -121,6 +130,7 @@ fn put_supply(alloc: Global, book: &mut Workbook, size: u16, row: u16) -> Result
 
 fn put_demands(alloc: Global, book: &mut Workbook, size: u16, demands: &[u16]) -> Result<(), Memory>
     requires listed { 0 < length book.old.sheets }
+    requires room { HasRoomFor 24 book.old }
     requires some { 1 ≤ size }
     requires few { size ≤ 12 }
     requires all { length demands.now ≡ size }
@@ -141,8 +151,10 @@ fn put_demand(
     demand: u16,
 ) -> Result<(), Memory>
     requires listed { 0 < length book.old.sheets }
+    requires room { HasRoomFor 2 book.old }
     requires some { 1 ≤ size }
     requires few { size ≤ 12 }
+    requires col { col < size }
     ensures { OnOk result (book.new ≡ with_cells book.old (demand_pair size col demand)) }
 {
     let sent = area(alloc, size, col, 2 * size - 1, col)?;
@@ -155,6 +167,7 @@ fn put_demand(
 
 fn put_total(alloc: Global, book: &mut Workbook, size: u16) -> Result<(), Memory>
     requires listed { 0 < length book.old.sheets }
+    requires room { HasRoomFor 1 book.old }
     requires some { 1 ≤ size }
     requires few { size ≤ 12 }
     ensures { OnOk result (book.new ≡ with_cells book.old (total_cell size ∷ [])) }
@@ -180,15 +193,22 @@ fn put_number(
     value: u16,
 ) -> Result<(), Memory>
     requires listed { 0 < length book.old.sheets }
+    requires room { HasRoomFor 1 book.old }
+    requires row { row < ROWS }
+    requires col { col < COLUMNS }
     ensures { OnOk result (book.new ≡ with_cells book.old (at row col (decimal value) ∷ [])) }
 {
     put(book, row, col, &number(alloc, value)?)
 }
 
-// Puts a text into a cell of the first sheet. Each fault is told as want of memory: none else comes of so few texts, which are short.
+// Puts a text into a cell of the first sheet.
 fn put(book: &mut Workbook, row: u16, col: u16, text: &str) -> Result<(), Memory>
     requires listed { 0 < length book.old.sheets }
+    requires room { HasRoomFor 1 book.old }
+    requires row { row < ROWS }
+    requires col { col < COLUMNS }
     requires some { text.now ≢ [] }
+    requires short { length text.now ≤ TEXT_BYTES }
     ensures { OnOk result (book.new ≡ with_cells book.old (at row col text.now ∷ [])) }
 {
     let cell = Cell {
@@ -196,8 +216,9 @@ fn put(book: &mut Workbook, row: u16, col: u16, text: &str) -> Result<(), Memory
         row,
         col,
     };
-    let Ok(()) = book.set(cell, text) else {
-        return Err(Memory);
-    };
-    Ok(())
+    match book.set(cell, text) {
+        Ok(()) => Ok(()),
+        Err(EditFault::Memory) => Err(Memory),
+        Err(_) => unreachable!(),
+    }
 }

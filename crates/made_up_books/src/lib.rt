@@ -13,11 +13,11 @@ ghost use Rattle.made_up_books.specs.MadeUp.{made_up, sheet_name};
 
 use cells::put_cells;
 use draws::Drawn;
-pub use examples::first_numbers;
+pub use examples::{first_names, first_numbers};
 use memory::Memory;
 use names::{name_demands, name_objective, name_supplies};
 use std::alloc::Global;
-use workbook::{File, Workbook};
+use workbook::{File, OpenFault, Workbook};
 
 /// The workbook of a size from 1 to 12: a sheet `gen` with so many suppliers and as many places, costs and demands that are drawn, and
 /// the names of the Solver for the least cost.
@@ -42,8 +42,9 @@ fn blank(alloc: Global) -> Result<Workbook, Memory>
 {
     let mut files = Vec::new(alloc);
     files.push(File::new(String::from_str(alloc, "gen")?, Vec::new(alloc)))?;
-    let Ok(book) = Workbook::open(alloc, &files, b"") else {
-        return Err(Memory);
-    };
-    Ok(book)
+    match Workbook::open(alloc, &files, b"") {
+        Ok(book) => Ok(book),
+        Err(OpenFault::Memory) => Err(Memory),
+        Err(_) => unreachable!(),
+    }
 }

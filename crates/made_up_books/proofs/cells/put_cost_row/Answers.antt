@@ -1,7 +1,8 @@
-use Rattle.std.proofs.Common.{◌+◌, ◌*◌, ap, sym}
+use Rattle.std.proofs.Common.{◌+◌, ◌*◌, ap, sym, ◌+◌, arith}
 use Rattle.std.specs.Prelude.{decimal, slice_index}
 use Rattle.made_up_books.specs.MadeUp.{at}
 use Rattle.made_up_books.proofs.InTurn.{listed_after, no_cells, row_goes_on}
+use Rattle.made_up_books.proofs.Room.{texts_of_row}
 use Rattle.made_up_books.proofs.cells.put_cost_row.Goals as goal
 
 pub loop-col-init : goal.loop-col-init
@@ -12,3 +13,8 @@ loop-col-preserved c = record {
   cells = row_goes_on (λ j. at c.args.row j (decimal (slice_index c.args.costs.now (c.args.row * c.args.size + j)))) c.args.book.now c.loop-col.book _ c.loop-col.col _ c.loop-col.invariant.cells c.in_ok-put_number.ensures (ap (λ k. at c.args.row c.loop-col.col (decimal (slice_index c.args.costs.now k))) c.from.ensures);
   listed = listed_after c.loop-col.book _ _ c.in_ok-put_number.ensures c.loop-col.invariant.listed;
 }
+
+pub put_number-requires-clause-room : goal.put_number-requires-clause-room
+put_number-requires-clause-room c =
+    let a = texts_of_row _ c.loop-col.col _ _ c.loop-col.invariant.cells in
+    omega (arith, c.requires.room, c.requires.few)

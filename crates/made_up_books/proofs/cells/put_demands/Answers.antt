@@ -4,6 +4,7 @@ use Rattle.std.specs.Prelude.{slice_index}
 use Rattle.made_up_books.specs.MadeUp.{below}
 use Rattle.made_up_books.specs.Putting.{demand_pair, demand_pairs, with_cells}
 use Rattle.made_up_books.proofs.InTurn.{listed_after, no_cells, rows_go_on}
+use Rattle.made_up_books.proofs.Room.{texts_of_rows}
 use Rattle.made_up_books.proofs.cells.put_demands.Goals as goal
 
 pub loop-col-init : goal.loop-col-init
@@ -21,3 +22,8 @@ returns c =
     let whole : c.loop-col.col ≡ c.args.size = omega arith in
     c.loop-col.invariant.cells
     ∙ ap (λ k. with_cells c.args.book.now (flat_map (λ j. demand_pair c.args.size j (slice_index c.args.demands.now j)) (below k))) whole
+
+pub put_demand-requires-clause-room : goal.put_demand-requires-clause-room
+put_demand-requires-clause-room c =
+    let a = texts_of_rows (λ j. demand_pair c.args.size j (slice_index c.args.demands.now j)) 2 c.loop-col.col _ _ (λ j. omega arith) c.loop-col.invariant.cells in
+    omega (arith, c.requires.room, c.requires.few)

@@ -9,5 +9,5 @@ some_digits n h e = let long = decimal_nonempty n h in let none = ap length e in
 
 pub put-requires-clause-some : goal.put-requires-clause-some
 put-requires-clause-some c = λ e.
-    let none : decimal c.args.value ≡ [] = sym c.in_ok-number.ensures ∙ (sym c.deref.ensures ∙ e) in
+    let none : decimal c.args.value ≡ [] = sym c.in_ok-number.ensures.digits ∙ (sym c.deref.ensures ∙ e) in
     some_digits c.args.value (omega arith) none

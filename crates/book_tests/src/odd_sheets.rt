@@ -1,30 +1,20 @@
 // Sheets of odd texts, saved and read back. They come of 40 texts (quotes, commas, line ends, byte order marks, blanks) put by chance
 // into 1 to 5 rows of 1 to 4 fields, spelled with needless quotes, three kinds of line ends and blank lines; what is saved follows from
 // the rules of saved files.
-ghost use Rattle.std.specs.Prelude.{◌≡◌, ◌≤◌, ◌<◌, IfOk, length};
-
+use crate::saved_files::opened;
 use cell_refs::SheetId;
 use saved_sheets::sheet_file;
 use std::alloc::Global;
 use std::test::Fail;
-use workbook::{File, Workbook};
 
-// A workbook of one sheet, whose file has these bytes.
-fn book_of(alloc: Global, bytes: &[u8]) -> Result<Workbook, Fail>
-    ensures { IfOk result (λ book. 0 < length book.sheets) }
-{
-    if bytes.len() > 1000 {
-        return Err(Fail::new("the sheet is a long text"));
-    }
-    let mut files = Vec::new(alloc);
-    files.push(File::new(String::from_str(alloc, "plan")?, bytes.to_vec(alloc)?))?;
-    let Ok(book) = Workbook::open(alloc, &files, b"") else {
-        return Err(Fail::new("it is not opened"));
-    };
+// The file as which a sheet is saved that is read from these bytes.
+fn saved_again(alloc: Global, bytes: &[u8]) -> Result<Vec<u8>, Fail> {
+    let book = opened(alloc, bytes, b"", b"")?;
     if book.sheets().len() == 0 {
         return Err(Fail::new("there is no sheet"));
     }
-    Ok(book)
+    let saved = sheet_file(alloc, &book, SheetId(0))?;
+    Ok(saved)
 }
 
 // The file as it is read and as it is saved, of one sheet after the other.
@@ -235,11 +225,9 @@ fn sheets_of_odd_texts(rt: HostRuntime) -> Result<(), Fail> {
     let alloc = rt.alloc();
     for case in SHEETS.split('\u{2}') {
         let (read, saved) = case.split_once('\u{1}').ok_or("a case is one text alone")?;
-        let book = book_of(alloc, read.as_bytes())?;
-        let bytes = sheet_file(alloc, &book, SheetId(0))?;
+        let bytes = saved_again(alloc, read.as_bytes())?;
         assert_eq!(rt; bytes.as_slice(), saved.as_bytes());
-        let again = book_of(alloc, &bytes)?;
-        let bytes = sheet_file(alloc, &again, SheetId(0))?;
+        let bytes = saved_again(alloc, &bytes)?;
         assert_eq!(rt; bytes.as_slice(), saved.as_bytes());
     }
     Ok(())

@@ -1,0 +1,91 @@
+// What the words of the command line ask for.
+use command_line::{Asked, Job, Pick, asked};
+use std::alloc::Global;
+use std::fmt::Write;
+use std::test::Fail;
+
+// Words, with a space between them, and what they ask for; nothing where they are of another form.
+const CASES: &[(&str, &str)] = &[
+    ("", ""),
+    ("--gen 3", "gen 3"),
+    ("--gen=12", "gen 12"),
+    ("--gen 0", ""),
+    ("--gen 13", ""),
+    ("--gen two", ""),
+    ("--gen", ""),
+    ("--gen 1 --gen 2", ""),
+    ("--gen 1 --budget 5", ""),
+    ("--gen 1 --pick best", ""),
+    ("--gen 1 --names n.csv", ""),
+    ("--gen 1 a.csv", ""),
+    ("--names n.csv plan.csv", "n.csv 100000 depth plan.csv"),
+    (
+        "--names=n.csv --budget=7 --pick=best a.csv dir/b.csv",
+        "n.csv 7 best a.csv dir/b.csv",
+    ),
+    (
+        "a.csv --pick oldest --names n --budget 1000000 b.csv",
+        "n 1000000 oldest a.csv b.csv",
+    ),
+    ("--names n --pick depth a.csv", "n 100000 depth a.csv"),
+    ("--names n -- --a.csv", "n 100000 depth --a.csv"),
+    ("--names n", ""),
+    ("plan.csv", ""),
+    ("--names n a.txt", ""),
+    ("--names n .csv", ""),
+    ("--names n dir/.csv", ""),
+    ("--names n a.csv b", ""),
+    ("--names n --budget 0 a.csv", ""),
+    ("--names n --budget 1000001 a.csv", ""),
+    ("--names n --budget -1 a.csv", ""),
+    ("--names n --budget many a.csv", ""),
+    ("--names n --pick deepest a.csv", ""),
+    ("--names n --names m a.csv", ""),
+    ("--names n --other 1 a.csv", ""),
+    ("--help", ""),
+    ("--version", ""),
+    ("-h", ""),
+];
+
+fn words_of(alloc: Global, line: &str) -> Result<Vec<String>, Fail> {
+    let mut words = Vec::new(alloc);
+    for word in line.split(' ') {
+        if !word.is_empty() {
+            words.push(String::from_str(alloc, word)?)?;
+        }
+    }
+    Ok(words)
+}
+
+fn name_of(pick: Pick) -> &'static str {
+    match pick {
+        Pick::Depth => "depth",
+        Pick::Best => "best",
+        Pick::Oldest => "oldest",
+    }
+}
+
+fn tell_job(job: &Job, to: &mut String) -> Result<(), Fail> {
+    to.push_str(job.named.names.as_str())?;
+    write!(to, " {} {}", job.budget, name_of(job.pick))?;
+    for sheet in &job.named.sheets {
+        to.push_str(" ")?;
+        to.push_str(sheet.as_str())?;
+    }
+    Ok(())
+}
+
+#[test]
+fn what_words_ask_for(rt: HostRuntime) -> Result<(), Fail> {
+    let alloc = rt.alloc();
+    for (line, want) in CASES {
+        let mut told = String::new(alloc);
+        match &asked(alloc, &words_of(alloc, line)?)? {
+            Some(Asked::Script(job)) => tell_job(job, &mut told)?,
+            Some(Asked::MadeUp(size)) => write!(told, "gen {}", *size)?,
+            None => (),
+        }
+        assert!(rt; told.as_str() == *want, "{}: {}", line, told.as_str());
+    }
+    Ok(())
+}
