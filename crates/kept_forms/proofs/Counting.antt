@@ -1,5 +1,5 @@
 -- How many elements of lists pass tests, where an element fails that passed before, and keys that differ.
-use Rattle.std.proofs.Common.{◌≡◌, ℕ, zero, suc, ◌+◌, ◌<◌, Bool, true, false, cond, List, [], ◌∷◌, ◌++◌, length, refl, sym, ap, ◌∙◌, subst, Option, Some, None, nat_eq, arith}
+use Rattle.std.proofs.Common.{◌≡◌, ℕ, zero, suc, ◌+◌, ◌<◌, ◌≤◌, Bool, true, false, cond, List, [], ◌∷◌, ◌++◌, length, refl, sym, ap, ◌∙◌, subst, Option, Some, None, nat_eq, arith}
 use Rattle.std.specs.Prelude.{T, ◌==◌, ◌&&◌, ◌||◌, map, filter, is_some, slice_get}
 use Rattle.std.specs.Cmp.{IsTotalOrder, eq_by_cmp_equiv, nat_cmp_total}
 use Rattle.std.specs.FinMap.{FinMap, IsAntisymmetric, entries, entries_sorted, get, get-insert, insert, keys, len, len-insert, nat_cmp-IsAntisymmetric}
@@ -205,6 +205,17 @@ module _ {A : Type 0} where
             let rest = more j in
             let here : cond {A = ℕ} (p x) 1 0 ≡ cond (q x) 1 0 = ap (λ w. cond w 1 0) (others x e) in
             omega (arith, rest, here)
+
+  -- no more pass a test that passes only where another does
+  pub no_more_pass : (p q : A → Bool) → ((a : A) → q a ≡ true → p a ≡ true) → (xs : List A) → passing q xs ≤ passing p xs
+  no_more_pass p q h [] = omega arith
+  no_more_pass p q h (x ∷ xs) = by (q x) (p x) (h x) (no_more_pass p q h xs)
+    where
+      by : (w v : Bool) → (w ≡ true → v ≡ true) → passing q xs ≤ passing p xs → cond w 1 0 + passing q xs ≤ cond v 1 0 + passing p xs
+      by true true k r = omega (arith, r)
+      by true false k r = let never : false ≡ true = k refl in absurd cc
+      by false true k r = omega (arith, r)
+      by false false k r = omega (arith, r)
 
   -- none passes where each that passes another test fails
   pub none_of_those : (p f : A → Bool) → ((a : A) → f a ≡ true → p a ≡ false) → (xs : List A) → passing p (filter f xs) ≡ 0

@@ -1,8 +1,8 @@
 -- Forms of stale places are kept one after the other.
 use Rattle.std.proofs.Common.{◌≡◌, ◌<◌, ◌≤◌, ◌+◌, ◌-◌, ℕ, suc, Bool, true, false, cond, List, [], ◌∷◌, ◌++◌, Option, Some, None, refl, sym, ap, subst, ◌∙◌, length, take, get_or, arith, if◌then◌else◌}
-use Rattle.std.specs.Prelude.{◌==◌, ◌&&◌, ◌||◌, not, nat_lt, is_some, map, filter, option_map, slice_get, IsSome, Contains}
+use Rattle.std.specs.Prelude.{◌==◌, ◌&&◌, ◌||◌, not, nat_lt, is_some, map, filter, option_map, slice_get, IsSome}
 use Rattle.std.specs.Cmp.{eq_by_cmp_equiv, nat_cmp_total}
-use Rattle.std.specs.FinMap.{contains_key, contains_key-keys, get, keys, len, nat_cmp-IsAntisymmetric}
+use Rattle.std.specs.FinMap.{contains_key-keys, keys, len, nat_cmp-IsAntisymmetric}
 use Rattle.std.specs.FinSet as set
 use Rattle.std.specs.List.{find, list_any, position_or_len}
 use Rattle.std.proofs.lemmas.List.{take_more}
@@ -16,14 +16,13 @@ use Rattle.formula_ast.specs.Tree.{Tree}
 use Rattle.dep_table.specs.Order.{HasFree, IsOrder}
 use Rattle.recalculation.specs.Entries.{Book, Entry, Constant, Formula, Malformed, entry}
 use Rattle.recalculation.specs.Walks.{has_walk, is_circular, is_formula, refers, steps_to}
-use Rattle.recalculation.proofs.Circles.{entry_there, formula_text, found_text}
+use Rattle.recalculation.proofs.Circles.{formula_text, found_text}
 use Rattle.recalculation.proofs.Lists.{both}
 use Rattle.workbook.specs.Contents.{tree_of as tree_of_entry}
 use Rattle.workbook.specs.declared.place.Place.{Place}
 use Rattle.workbook.specs.declared.place.Place.TheVariants as place
 use Rattle.form_extraction.specs.declared.forms.CellForm.{CellForm}
 use Rattle.form_extraction.specs.declared.forms.CellForm.TheVariants.{Circular}
-use Rattle.form_extraction.specs.Formulas.{part_of}
 use Rattle.form_extraction.specs.Places.{decision_or, entry_form, form_of, formula_form, numbered_in}
 use Rattle.form_extraction.specs.Looked.{forms_of, LooksFrom, refers_to_circle, side_form}
 use Rattle.form_extraction.proofs.Agreeing.{form_is}
@@ -33,9 +32,9 @@ use Rattle.extract.specs.Tables.{Table, form_at, form_count, with_form}
 use Rattle.sheet_problems.specs.Forms.{form_at as form_of_place}
 use Rattle.sheet_problems.specs.Places.{Sides, tree_of}
 use Rattle.needed_cells.specs.Settled.{HasEntry}
-use Rattle.kept_forms.specs.Keeping.{AllAreKept, AreKept, GrowsTo, HaveOwnNumbers, IsStale, Kept, is_missing, stale_count}
-use Rattle.kept_forms.specs.Settling.{AreCircular, AreThere, Goes, IsThere, IsTreeIn, kept_in, leaf_in, left}
-use Rattle.kept_forms.proofs.Counting.{NoTwo, alike, among_numbers, count_append, count_filter, count_map, equal_numbers, equal_of, filter_differ, filter_has, first_true, found_at, keys_differ, none_of_all, none_of_those, numbers_differ, one_fewer, one_passes, passes_one, passing, put_apart, put_has, put_holds, put_keeps, put_length, second_true, there_is}
+use Rattle.kept_forms.specs.Keeping.{AllAreKept, AreKept, HaveOwnNumbers, IsStale, Kept, count_to_make, entries_of, is_circular_place, is_circular_side, is_missing, stale_count}
+use Rattle.kept_forms.specs.Settling.{AreCircular, AreThere, Goes, IsThere, IsTreeIn, kept_in, leaf_in, left, unmade}
+use Rattle.kept_forms.proofs.Counting.{alike, among_numbers, count_append, count_filter, count_map, equal_numbers, equal_of, filter_differ, filter_has, first_true, found_at, keys_differ, no_more_pass, none_of_all, none_of_those, numbers_differ, one_fewer, one_passes, passes_one, passing, put_apart, put_has, put_holds, put_keeps, put_length, second_true, there_is}
 
 -- ---- options
 pub none_of : {A : Type 0} (o : Option A) → is_some o ≡ false → o ≡ None
@@ -86,22 +85,35 @@ module _ (book : Book) (adj : List Cell) (sides : Sides) where
   abbrev has_form : Cell → Bool
   has_form a = is_formula (entry book a) && not (is_some (numbered_in adj a))
 
-  abbrev stale_cells : Table → ℕ
-  stale_cells table = passing (λ a. is_missing table (place.Cell a)) (filter has_form (keys book.texts))
+  -- of the places that pass a test those whose form is missing
+  abbrev missing_of : (Place → Bool) → Table → Place → Bool
+  missing_of counts table p = counts p && is_missing table p
 
-  abbrev stale_sides : Table → ℕ
-  stale_sides table = passing (λ n. is_missing table (place.Side n)) (map (λ (s : ℕ × Tree). s.0) sides)
+  abbrev every : Place → Bool
+  every p = true
 
-  count_parts : (table : Table) → stale_count book (kept_in adj sides table) ≡ stale_cells table + stale_sides table
-  count_parts table =
-      count_filter (is_missing table) (map (λ a. place.Cell a) (filter has_form (keys book.texts)) ++ map (λ (s : ℕ × Tree). place.Side s.0) sides)
-      ∙ count_append (is_missing table) (map (λ a. place.Cell a) (filter has_form (keys book.texts))) (map (λ (s : ℕ × Tree). place.Side s.0) sides)
-      ∙ (λ i. count_map (is_missing table) (λ a. place.Cell a) (filter has_form (keys book.texts)) i
-      + (count_map (is_missing table) (λ (s : ℕ × Tree). place.Side s.0) sides ∙ sym (count_map (λ n. is_missing table (place.Side n)) (λ (s : ℕ × Tree). s.0) sides)) i)
+  abbrev is_free : Place → Bool
+  is_free p = not (is_circular_place book sides adj p)
 
-  left_parts : (table : Table) → left book (kept_in adj sides table) ≡ stale_cells table + stale_sides table
+  abbrev cells_missing : (Place → Bool) → Table → ℕ
+  cells_missing counts table = passing (λ a. missing_of counts table (place.Cell a)) (filter has_form (keys book.texts))
+
+  abbrev sides_missing : (Place → Bool) → Table → ℕ
+  sides_missing counts table = passing (λ n. missing_of counts table (place.Side n)) (map (λ (s : ℕ × Tree). s.0) sides)
+
+  abbrev all_missing : (Place → Bool) → Table → ℕ
+  all_missing counts table = length (filter (missing_of counts table) (entries_of book (kept_in adj sides table)))
+
+  count_parts : (counts : Place → Bool) (table : Table) → all_missing counts table ≡ cells_missing counts table + sides_missing counts table
+  count_parts counts table =
+      count_filter (missing_of counts table) (map (λ a. place.Cell a) (filter has_form (keys book.texts)) ++ map (λ (s : ℕ × Tree). place.Side s.0) sides)
+      ∙ count_append (missing_of counts table) (map (λ a. place.Cell a) (filter has_form (keys book.texts))) (map (λ (s : ℕ × Tree). place.Side s.0) sides)
+      ∙ (λ i. count_map (missing_of counts table) (λ a. place.Cell a) (filter has_form (keys book.texts)) i
+      + (count_map (missing_of counts table) (λ (s : ℕ × Tree). place.Side s.0) sides ∙ sym (count_map (λ n. missing_of counts table (place.Side n)) (λ (s : ℕ × Tree). s.0) sides)) i)
+
+  left_parts : (table : Table) → left book (kept_in adj sides table) ≡ cells_missing every table + sides_missing every table
   unfolding left
-  left_parts table = count_parts table
+  left_parts table = count_parts every table
 
   -- a formula cell that isn't to be decided is one of the places
   cell_listed : (a : Cell) → HasEntry book sides adj (place.Cell a) → list_any (eq_by_cmp cell_cmp a) (filter has_form (keys book.texts)) ≡ true
@@ -122,22 +134,24 @@ module _ (book : Book) (adj : List Cell) (sides : Sides) where
 
   -- ---- a form more
   module _ (table : Table) (own : HaveOwnNumbers sides) where
-    fewer_cells : (a : Cell) (form : CellForm) → IsStale book (kept_in adj sides table) (place.Cell a) → stale_cells table ≡ stale_cells (with_form table (place.Cell a) form) + 1
-    fewer_cells a form stale =
-        one_fewer (eq_by_cmp cell_cmp) same_cells (λ b. is_missing table (place.Cell b)) (λ b. is_missing (with_form table (place.Cell a) form) (place.Cell b)) a
-        (λ b e. ap (λ (o : Option CellForm). not (is_some o)) (sym (put_apart cells_total exact_cells table.cells a form b e)))
-        (ap (λ (o : Option CellForm). not (is_some o)) stale.none)
-        (ap (λ (o : Option CellForm). not (is_some o)) (put_has cells_total exact_cells table.cells a form))
+    fewer_cells : (counts : Place → Bool) (a : Cell) (form : CellForm) → counts (place.Cell a) ≡ true → IsStale book (kept_in adj sides table) (place.Cell a)
+        → cells_missing counts table ≡ cells_missing counts (with_form table (place.Cell a) form) + 1
+    fewer_cells counts a form passes stale =
+        one_fewer (eq_by_cmp cell_cmp) same_cells (λ b. missing_of counts table (place.Cell b)) (λ b. missing_of counts (with_form table (place.Cell a) form) (place.Cell b)) a
+        (λ b e. ap (λ (o : Option CellForm). counts (place.Cell b) && not (is_some o)) (sym (put_apart cells_total exact_cells table.cells a form b e)))
+        (λ i. passes i && not (is_some (stale.none i)))
+        (λ i. passes i && not (is_some (put_has cells_total exact_cells table.cells a form i)))
         (filter has_form (keys book.texts))
         (filter_differ (eq_by_cmp cell_cmp) has_form (keys book.texts) (keys_differ book.texts))
         (cell_listed a stale.entry)
 
-    fewer_sides : (k : ℕ) (form : CellForm) → IsStale book (kept_in adj sides table) (place.Side k) → stale_sides table ≡ stale_sides (with_form table (place.Side k) form) + 1
-    fewer_sides k form stale =
-        one_fewer (eq_by_cmp nat_cmp) equal_numbers (λ n. is_missing table (place.Side n)) (λ n. is_missing (with_form table (place.Side k) form) (place.Side n)) k
-        (λ n e. ap (λ (o : Option CellForm). not (is_some o)) (sym (put_apart nat_cmp_total nat_cmp-IsAntisymmetric table.sides k form n e)))
-        (ap (λ (o : Option CellForm). not (is_some o)) stale.none)
-        (ap (λ (o : Option CellForm). not (is_some o)) (put_has nat_cmp_total nat_cmp-IsAntisymmetric table.sides k form))
+    fewer_sides : (counts : Place → Bool) (k : ℕ) (form : CellForm) → counts (place.Side k) ≡ true → IsStale book (kept_in adj sides table) (place.Side k)
+        → sides_missing counts table ≡ sides_missing counts (with_form table (place.Side k) form) + 1
+    fewer_sides counts k form passes stale =
+        one_fewer (eq_by_cmp nat_cmp) equal_numbers (λ n. missing_of counts table (place.Side n)) (λ n. missing_of counts (with_form table (place.Side k) form) (place.Side n)) k
+        (λ n e. ap (λ (o : Option CellForm). counts (place.Side n) && not (is_some o)) (sym (put_apart nat_cmp_total nat_cmp-IsAntisymmetric table.sides k form n e)))
+        (λ i. passes i && not (is_some (stale.none i)))
+        (λ i. passes i && not (is_some (put_has nat_cmp_total nat_cmp-IsAntisymmetric table.sides k form i)))
         (map (λ (s : ℕ × Tree). s.0) sides)
         (numbers_differ sides own)
         (side_listed k stale.entry)
@@ -148,16 +162,25 @@ module _ (book : Book) (adj : List Cell) (sides : Sides) where
     fewer_after : (m n k l : ℕ) → m ≡ k + l → n ≡ k + (l + 1) → n ≡ m + 1
     fewer_after m n k l e d = omega (arith, e, d)
 
-    pub one_less : (p : Place) (form : CellForm) → IsStale book (kept_in adj sides table) p → left book (kept_in adj sides table) ≡ left book (kept_in adj sides (with_form table p form)) + 1
-    one_less (place.Cell a) form stale =
-        fewer_by _ _ (stale_cells (with_form table (place.Cell a) form)) (stale_sides table) (left_parts (with_form table (place.Cell a) form))
-        (left_parts table ∙ ap (λ n. n + stale_sides table) (fewer_cells a form stale))
-    one_less (place.Side k) form stale =
-        fewer_after _ _ (stale_cells table) (stale_sides (with_form table (place.Side k) form)) (left_parts (with_form table (place.Side k) form))
-        (left_parts table ∙ ap (λ n. stale_cells table + n) (fewer_sides k form stale))
+    one_missing_less : (counts : Place → Bool) (p : Place) (form : CellForm) → counts p ≡ true → IsStale book (kept_in adj sides table) p → all_missing counts table ≡ all_missing counts (with_form table p form) + 1
+    one_missing_less counts (place.Cell a) form passes stale =
+        fewer_by _ _ (cells_missing counts (with_form table (place.Cell a) form)) (sides_missing counts table) (count_parts counts (with_form table (place.Cell a) form))
+        (count_parts counts table ∙ ap (λ n. n + sides_missing counts table) (fewer_cells counts a form passes stale))
+    one_missing_less counts (place.Side k) form passes stale =
+        fewer_after _ _ (cells_missing counts table) (sides_missing counts (with_form table (place.Side k) form)) (count_parts counts (with_form table (place.Side k) form))
+        (count_parts counts table ∙ ap (λ n. cells_missing counts table + n) (fewer_sides counts k form passes stale))
 
-    pub some_stale : (p : Place) → IsStale book (kept_in adj sides table) p → 0 < left book (kept_in adj sides table)
-    some_stale p stale = let e = one_less p Circular stale in omega (arith, e)
+    one_less : (p : Place) (form : CellForm) → IsStale book (kept_in adj sides table) p → left book (kept_in adj sides table) ≡ left book (kept_in adj sides (with_form table p form)) + 1
+    unfolding left
+    one_less p form stale = one_missing_less every p form refl stale
+
+    one_made : (p : Place) (form : CellForm) → is_circular_place book sides adj p ≡ false → IsStale book (kept_in adj sides table) p
+        → unmade book (kept_in adj sides table) ≡ unmade book (kept_in adj sides (with_form table p form)) + 1
+    unfolding unmade
+    one_made p form free stale = one_missing_less is_free p form (ap not free) stale
+
+    pub some_unmade : (p : Place) → is_circular_place book sides adj p ≡ false → IsStale book (kept_in adj sides table) p → 0 < unmade book (kept_in adj sides table)
+    some_unmade p free stale = let e = one_made p Circular free stale in omega (arith, e)
 
     one_form_more : (p : Place) (form : CellForm) → form_at table p ≡ None → form_count (with_form table p form) ≡ form_count table + 1
     one_form_more (place.Cell a) form none = let e = put_length cells_total exact_cells table.cells a form none in omega (arith, e)
@@ -172,6 +195,22 @@ module _ (book : Book) (adj : List Cell) (sides : Sides) where
     still_there (place.Cell a) form none (place.Side j) f at = at
     still_there (place.Side k) form none (place.Cell b) f at = at
     still_there (place.Side k) form none (place.Side j) f at = put_keeps nat_cmp_total nat_cmp-IsAntisymmetric table.sides k form none j f at
+
+    -- what was missing before is all that can be missing
+    missing_before : (now : Table) → ((q : Place) (f : CellForm) → form_at table q ≡ Some f → form_at now q ≡ Some f) → (q : Place) → missing_of is_free now q ≡ true → missing_of is_free table q ≡ true
+    missing_before now kept q h =
+        both (is_free q) (is_missing table q) (first_true (is_free q) _ h) (by (form_at table q) refl (not_false (is_some (form_at now q)) (second_true (is_free q) _ h)))
+      where
+        by : (o : Option CellForm) → form_at table q ≡ o → is_some (form_at now q) ≡ false → not (is_some o) ≡ true
+        by None e none = refl
+        by (Some f) e none = let never : true ≡ false = sym (ap (λ (o : Option CellForm). is_some o) (kept q f e)) ∙ none in absurd cc
+
+    fewer_unmade : (now : Table) → ((q : Place) (f : CellForm) → form_at table q ≡ Some f → form_at now q ≡ Some f) → unmade book (kept_in adj sides now) ≤ unmade book (kept_in adj sides table)
+    unfolding unmade
+    fewer_unmade now kept =
+        let entries : List Place = entries_of book (kept_in adj sides table) in
+        let less = no_more_pass (missing_of is_free table) (missing_of is_free now) (missing_before now kept) entries in
+        omega (arith, less, count_filter (missing_of is_free table) entries, count_filter (missing_of is_free now) entries)
 
     abbrev IsRight : Place → CellForm → Type 0
     IsRight q f = HasEntry book sides adj q × (form_of_place book sides adj q ≡ Some f)
@@ -197,6 +236,7 @@ module _ (book : Book) (adj : List Cell) (sides : Sides) where
           grown = record { decisions = refl; sides = refl; kept = still_there p form stale.none };
           count = omega (arith, less, more);
           fewer = omega (arith, less);
+          less = fewer_unmade (with_form table p form) (still_there p form stale.none);
         }
 
     -- what it comes to that a form is put
@@ -204,9 +244,9 @@ module _ (book : Book) (adj : List Cell) (sides : Sides) where
         → AreKept book (kept_in adj sides table) → Goes book (kept_in adj sides table) (kept_in adj sides now)
     now_goes now p form put stale is kept = subst (λ t. Goes book (kept_in adj sides table) (kept_in adj sides t)) (sym put) (put_goes p form stale is kept)
 
-    pub now_less : (now : Table) (p : Place) (form : CellForm) → now ≡ with_form table p form → IsStale book (kept_in adj sides table) p
-        → left book (kept_in adj sides table) ≡ left book (kept_in adj sides now) + 1
-    now_less now p form put stale = one_less p form stale ∙ ap (λ t. left book (kept_in adj sides t) + 1) (sym put)
+    pub now_less : (now : Table) (p : Place) (form : CellForm) → now ≡ with_form table p form → IsStale book (kept_in adj sides table) p → is_circular_place book sides adj p ≡ false
+        → unmade book (kept_in adj sides table) ≡ unmade book (kept_in adj sides now) + 1
+    now_less now p form put stale free = one_made p form free stale ∙ ap (λ t. unmade book (kept_in adj sides t) + 1) (sym put)
 
     pub now_there : (now : Table) (p : Place) (form : CellForm) → now ≡ with_form table p form → IsSome (form_at now p)
     now_there now p form put = ap (λ t. is_some (form_at t p)) put ∙ ap (λ (o : Option CellForm). is_some o) (put_is p form)
@@ -232,6 +272,10 @@ module _ (book : Book) (adj : List Cell) (sides : Sides) where
   pub tree_of_place : (p : Place) (t : Tree) → IsTreeIn book sides p t → IsTreeOf book p t
   tree_of_place (place.Cell a) t is = is
   tree_of_place (place.Side k) t is = tt
+
+  pub free_place : (p : Place) (t : Tree) → IsTreeIn book sides p t → is_in_circle book (numbered_in adj) p t ≡ false → is_circular_place book sides adj p ≡ false
+  free_place (place.Cell a) t is free = free
+  free_place (place.Side k) t is free = ap (is_circular_side book adj) is ∙ free
 
   pub undecided_place : (table : Table) (p : Place) → IsStale book (kept_in adj sides table) p → IsUndecided (numbered_in adj) p
   undecided_place table (place.Cell a) stale = stale.entry.1
@@ -328,11 +372,11 @@ module _ (book : Book) (adj : List Cell) (sides : Sides) where
 
   pub none_left : (table : Table) → HaveOwnNumbers sides → AllAreKept book (kept_in adj sides table) → left book (kept_in adj sides table) ≡ 0
   none_left table own settled =
-      let cells : stale_cells table ≡ 0 =
+      let cells : cells_missing every table ≡ 0 =
       none_of_those (λ a. is_missing table (place.Cell a)) has_form
       (λ a h. not_missing (form_at table (place.Cell a)) (settled.all (place.Cell a)
       (first_true (is_formula (entry book a)) _ h, none_of (numbered_in adj a) (not_false (is_some (numbered_in adj a)) (second_true (is_formula (entry book a)) _ h))))) (keys book.texts) in
-      let others : stale_sides table ≡ 0 =
+      let others : sides_missing every table ≡ 0 =
       count_map (λ n. is_missing table (place.Side n)) (λ (s : ℕ × Tree). s.0) sides
       ∙ none_of_all (λ (s : ℕ × Tree). is_missing table (place.Side s.0)) sides
       (λ i s at. not_missing (form_at table (place.Side s.0)) (settled.all (place.Side s.0) (ap (λ (o : Option Tree). is_some o) (side_there i s own at)))) in
@@ -341,7 +385,7 @@ module _ (book : Book) (adj : List Cell) (sides : Sides) where
 -- ---- one after the other
 pub goes_itself : (book : Book) (k : Kept) → AreKept book k → Goes book k k
 goes_itself book k kept =
-    record { kept = kept; grown = record { decisions = refl; sides = refl; kept = λ p f at. at }; count = refl; fewer = omega arith }
+    record { kept = kept; grown = record { decisions = refl; sides = refl; kept = λ p f at. at }; count = refl; fewer = omega arith; less = omega arith }
 
 pub goes_same : (book : Book) (adj : List Cell) (sides : Sides) (table now : Table) → now ≡ table → AreKept book (kept_in adj sides table) → Goes book (kept_in adj sides table) (kept_in adj sides now)
 goes_same book adj sides table now e kept = subst (λ t. Goes book (kept_in adj sides table) (kept_in adj sides t)) (sym e) (goes_itself book (kept_in adj sides table) kept)
@@ -356,11 +400,16 @@ goes_on book k l m g h =
       grown = record { decisions = h.grown.decisions ∙ g.grown.decisions; sides = h.grown.sides ∙ g.grown.sides; kept = λ p f at. h.grown.kept p f (g.grown.kept p f at) };
       count = h.count ∙ g.count;
       fewer = no_more _ _ _ h.fewer g.fewer;
+      less = no_more _ _ _ h.less g.less;
     }
 
 pub left_is : (book : Book) (k : Kept) → left book k ≡ stale_count book k
 unfolding left
 left_is book k = refl
+
+pub unmade_is : (book : Book) (k : Kept) → unmade book k ≡ count_to_make book k
+unfolding unmade
+unmade_is book k = refl
 
 -- ---- cells to be decided as a set
 first_or : (w : Bool) (m n : ℕ) (r : Bool) → r ≡ nat_lt m n → (w || r) ≡ nat_lt (cond (not w) (1 + m) 0) (suc n)

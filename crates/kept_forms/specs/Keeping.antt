@@ -1,16 +1,17 @@
 -- Forms that are kept for a workbook: those of some formula cells that aren't to be decided, and of some sides.
-use Rattle.std.specs.Prelude.{◌≡◌, ℕ, ◌&&◌, Bool, not, List, ◌++◌, map, filter, length, None, Some, is_some, slice_get}
+use Rattle.std.specs.Prelude.{◌≡◌, ℕ, ◌&&◌, Bool, false, not, List, ◌++◌, map, filter, length, Option, None, Some, is_some, slice_get}
 use Rattle.std.specs.FinMap.{keys}
 use Rattle.cell_refs.specs.declared.cell.Cell.{Cell}
 use Rattle.formula_ast.specs.Tree.{Tree}
 use Rattle.recalculation.specs.Entries.{Book, entry}
-use Rattle.recalculation.specs.Walks.{is_formula}
+use Rattle.recalculation.specs.Walks.{is_circular, is_formula}
 use Rattle.workbook.specs.declared.place.Place.{Place}
 use Rattle.workbook.specs.declared.place.Place.TheVariants as place
 use Rattle.form_extraction.specs.declared.forms.CellForm.{CellForm}
+use Rattle.form_extraction.specs.Looked.{refers_to_circle}
 use Rattle.form_extraction.specs.Places.{numbered_in}
 use Rattle.extract.specs.Tables.{Table, form_at}
-use Rattle.sheet_problems.specs.Places.{Sides}
+use Rattle.sheet_problems.specs.Places.{Sides, tree_of}
 use Rattle.form_needs.specs.Needed.{Asked}
 use Rattle.needed_cells.specs.Settled.{AreForms, HasEntry, IsSettled}
 
@@ -45,6 +46,20 @@ is_missing table p = not (is_some (form_at table p))
 -- how many places are stale
 abbrev pub stale_count : Book → Kept → ℕ
 stale_count book k = length (filter (is_missing k.table) (entries_of book k))
+
+-- ---- circular places, whose forms are known without a look at what they say
+abbrev pub is_circular_side : Book → List Cell → Option Tree → Bool
+is_circular_side book decisions None = false
+is_circular_side book decisions (Some t) = refers_to_circle book (λ c. is_some (numbered_in decisions c)) t
+
+-- a circular cell, or a side that refers to one
+abbrev pub is_circular_place : Book → Sides → List Cell → Place → Bool
+is_circular_place book sides decisions (place.Cell a) = is_circular book (λ c. is_some (numbered_in decisions c)) a
+is_circular_place book sides decisions (place.Side k) = is_circular_side book decisions (tree_of sides k)
+
+-- how many forms are to be made: those of stale places that aren't circular
+abbrev pub count_to_make : Book → Kept → ℕ
+count_to_make book k = length (filter (λ p. not (is_circular_place book k.sides k.decisions p) && is_missing k.table p) (entries_of book k))
 
 -- no two sides have one number
 abbrev pub HaveOwnNumbers : Sides → Type 0

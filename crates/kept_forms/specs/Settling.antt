@@ -1,5 +1,5 @@
 -- How a table comes to have the forms of all places whose forms can be kept.
-use Rattle.std.specs.Prelude.{◌≡◌, ◌≤◌, ◌+◌, ℕ, true, Bool, List, Some, IsSome, is_some}
+use Rattle.std.specs.Prelude.{◌≡◌, ◌≤◌, ◌+◌, ℕ, Bool, List, Some, IsSome, is_some}
 use Rattle.std.specs.List.{list_any}
 use Rattle.std.specs.Ordering.{eq_by_cmp}
 use Rattle.cell_refs.specs.Cells.{cell_cmp}
@@ -13,7 +13,7 @@ use Rattle.form_extraction.specs.Places.{numbered_in}
 use Rattle.extract.specs.Tables.{Table, form_at, form_count}
 use Rattle.sheet_problems.specs.Places.{Sides, tree_of}
 use Rattle.needed_cells.specs.Settled.{HasEntry}
-use Rattle.kept_forms.specs.Keeping.{AreKept, GrowsTo, Kept, stale_count}
+use Rattle.kept_forms.specs.Keeping.{AreKept, GrowsTo, Kept, count_to_make, stale_count}
 
 abbrev pub kept_in : List Cell → Sides → Table → Kept
 kept_in decisions sides table = record { decisions = decisions; sides = sides; table = table }
@@ -22,12 +22,17 @@ kept_in decisions sides table = record { decisions = decisions; sides = sides; t
 unfoldable pub left : Book → Kept → ℕ
 left book k = stale_count book k
 
+-- how many forms are to be made
+unfoldable pub unmade : Book → Kept → ℕ
+unmade book k = count_to_make book k
+
 -- stale places got their forms
 pub record Goes (book : Book) (before after : Kept) : Type 0 where
   pub kept : AreKept book after
   pub grown : GrowsTo before after
   pub count : form_count after.table + left book after ≡ form_count before.table + left book before
   pub fewer : left book after ≤ left book before
+  pub less : unmade book after ≤ unmade book before
 
 -- the form of a place is kept, if it can be
 abbrev pub IsThere : Book → Kept → Place → Type 0

@@ -3,7 +3,7 @@ ghost use Rattle.std.specs.Prelude.{◌≡◌, ◌≤◌, ◌+◌, All, IfOk, No
 ghost use Rattle.dep_table.specs.References.{AreReferencesOf};
 ghost use Rattle.extract.specs.Tables.{form_at, no_forms};
 ghost use Rattle.form_needs.specs.FirstRefusal.{IsRefusal};
-ghost use Rattle.kept_forms.specs.Keeping.{AllAreKept, AreKept, GrowsTo, HaveOwnNumbers, asked_from, stale_count};
+ghost use Rattle.kept_forms.specs.Keeping.{AllAreKept, AreKept, GrowsTo, HaveOwnNumbers, asked_from, count_to_make, stale_count};
 ghost use Rattle.needed_cells.specs.Settled.{IsRoot};
 ghost use Rattle.workbook.specs.Kinds.{book_of};
 
@@ -64,8 +64,8 @@ impl Forms {
         })
     }
 
-    /// Makes the forms of all stale places, each once, and answers how many places were stale. With want of memory what was made
-    /// stays.
+    /// Makes the forms of all stale places, each once, and answers how many places were stale. A form is a step, but for those of
+    /// circular places, which are known. With want of memory what was made stays.
     pub fn settle<L: Ledger>(
         &mut self,
         book: &Workbook,
@@ -79,7 +79,7 @@ impl Forms {
         ensures kept { AreKept (book_of book.now) self.new }
         ensures grown { GrowsTo self.old self.new }
         ensures counted { steps.old ≤ steps.new }
-        ensures bound { steps.new ≤ steps.old + stale_count (book_of book.now) self.old }
+        ensures bound { steps.new ≤ steps.old + count_to_make (book_of book.now) self.old }
     {
         let before = self.table.len();
         settle(

@@ -11,8 +11,8 @@ ghost use Rattle.extract.specs.Tables.{form_at};
 ghost use Rattle.form_extraction.specs.Looked.{refers_to_circle};
 ghost use Rattle.form_extraction.specs.Places.{numbered_in};
 ghost use Rattle.formula_ast.specs.Tree.{Tree};
-ghost use Rattle.kept_forms.specs.Keeping.{AllAreKept, AreKept, HaveOwnNumbers, IsStale};
-ghost use Rattle.kept_forms.specs.Settling.{AreCircular, AreThere, Goes, IsThere, IsTreeIn, kept_in, leaf_in, left};
+ghost use Rattle.kept_forms.specs.Keeping.{AllAreKept, AreKept, HaveOwnNumbers, IsStale, is_circular_place};
+ghost use Rattle.kept_forms.specs.Settling.{AreCircular, AreThere, Goes, IsThere, IsTreeIn, kept_in, leaf_in, unmade};
 ghost use Rattle.recalculation.specs.Entries.{entry};
 ghost use Rattle.recalculation.specs.Walks.{is_circular, refers};
 ghost use Rattle.sheet_problems.specs.Forms.{form_at as form_of_place};
@@ -46,7 +46,7 @@ pub(crate) fn settle<L: Ledger>(
     ensures goes { Goes (book_of book.now) (kept_in adj.now sides.now table.old) (kept_in adj.now sides.now table.new) }
     ensures settled { OnOk result (AllAreKept (book_of book.now) (kept_in adj.now sides.now table.new)) }
     ensures counted { steps.old ≤ steps.new }
-    ensures bound { steps.new ≤ steps.old + left (book_of book.now) (kept_in adj.now sides.now table.old) }
+    ensures bound { steps.new ≤ steps.old + unmade (book_of book.now) (kept_in adj.now sides.now table.old) }
 {
     let leaves = set_of(alloc, adj.cells())?;
     let tour = deps.tour(alloc, &leaves)?;
@@ -93,7 +93,7 @@ fn settle_places<L: Ledger>(
     ensures goes { Goes (book_of book.now) (kept_in adj.now sides.now table.old) (kept_in adj.now sides.now table.new) }
     ensures settled { OnOk result (AllAreKept (book_of book.now) (kept_in adj.now sides.now table.new)) }
     ensures counted { steps.old ≤ steps.new }
-    ensures bound { steps.new ≤ steps.old + left (book_of book.now) (kept_in adj.now sides.now table.old) }
+    ensures bound { steps.new ≤ steps.old + unmade (book_of book.now) (kept_in adj.now sides.now table.old) }
 {
     settle_cells(alloc, book, adj, sides, circular, order, table, steps)?;
     settle_sides(alloc, book, adj, sides, circular, table, steps)?;
@@ -119,8 +119,8 @@ fn settle_cells<L: Ledger>(
     ensures goes { Goes (book_of book.now) (kept_in adj.now sides.now table.old) (kept_in adj.now sides.now table.new) }
     ensures there { OnOk result (AreThere (book_of book.now) (kept_in adj.now sides.now table.new)) }
     ensures counted { steps.old ≤ steps.new }
-    ensures ok { OnOk result (steps.new + left (book_of book.now) (kept_in adj.now sides.now table.new) ≤ steps.old + left (book_of book.now) (kept_in adj.now sides.now table.old)) }
-    ensures bound { steps.new ≤ steps.old + left (book_of book.now) (kept_in adj.now sides.now table.old) }
+    ensures ok { OnOk result (steps.new + unmade (book_of book.now) (kept_in adj.now sides.now table.new) ≤ steps.old + unmade (book_of book.now) (kept_in adj.now sides.now table.old)) }
+    ensures bound { steps.new ≤ steps.old + unmade (book_of book.now) (kept_in adj.now sides.now table.old) }
 {
     settle_circular(book, adj, sides, circular, table)?;
     settle_order(alloc, book, adj, sides, order, table, steps)?;
@@ -184,8 +184,8 @@ fn settle_order<L: Ledger>(
     ensures goes { Goes (book_of book.now) (kept_in adj.now sides.now table.old) (kept_in adj.now sides.now table.new) }
     ensures there { OnOk result ((p : ℕ) (a : Cell) → slice_get order.now p ≡ Some a → IsThere (book_of book.now) (kept_in adj.now sides.now table.new) (place.Cell a)) }
     ensures counted { steps.old ≤ steps.new }
-    ensures ok { OnOk result (steps.new + left (book_of book.now) (kept_in adj.now sides.now table.new) ≤ steps.old + left (book_of book.now) (kept_in adj.now sides.now table.old)) }
-    ensures bound { steps.new ≤ steps.old + left (book_of book.now) (kept_in adj.now sides.now table.old) }
+    ensures ok { OnOk result (steps.new + unmade (book_of book.now) (kept_in adj.now sides.now table.new) ≤ steps.old + unmade (book_of book.now) (kept_in adj.now sides.now table.old)) }
+    ensures bound { steps.new ≤ steps.old + unmade (book_of book.now) (kept_in adj.now sides.now table.old) }
 {
     for &cell in order {
         settle_cell(alloc, book, adj, sides, cell, table, steps)?;
@@ -210,8 +210,8 @@ fn settle_cell<L: Ledger>(
     ensures goes { Goes (book_of book.now) (kept_in adj.now sides.now table.old) (kept_in adj.now sides.now table.new) }
     ensures there { OnOk result (IsThere (book_of book.now) (kept_in adj.now sides.now table.new) (place.Cell cell)) }
     ensures counted { steps.old ≤ steps.new }
-    ensures ok { OnOk result (steps.new + left (book_of book.now) (kept_in adj.now sides.now table.new) ≤ steps.old + left (book_of book.now) (kept_in adj.now sides.now table.old)) }
-    ensures bound { steps.new ≤ steps.old + left (book_of book.now) (kept_in adj.now sides.now table.old) }
+    ensures ok { OnOk result (steps.new + unmade (book_of book.now) (kept_in adj.now sides.now table.new) ≤ steps.old + unmade (book_of book.now) (kept_in adj.now sides.now table.old)) }
+    ensures bound { steps.new ≤ steps.old + unmade (book_of book.now) (kept_in adj.now sides.now table.old) }
 {
     let place = Place::Cell(cell);
     if adj.find(cell).is_some() {
@@ -243,8 +243,8 @@ fn settle_sides<L: Ledger>(
     ensures goes { Goes (book_of book.now) (kept_in adj.now sides.now table.old) (kept_in adj.now sides.now table.new) }
     ensures there { OnOk result ((p : ℕ) (s : ℕ × Tree) → slice_get sides.now p ≡ Some s → IsSome (form_at table.new (place.Side s.0))) }
     ensures counted { steps.old ≤ steps.new }
-    ensures ok { OnOk result (steps.new + left (book_of book.now) (kept_in adj.now sides.now table.new) ≤ steps.old + left (book_of book.now) (kept_in adj.now sides.now table.old)) }
-    ensures bound { steps.new ≤ steps.old + left (book_of book.now) (kept_in adj.now sides.now table.old) }
+    ensures ok { OnOk result (steps.new + unmade (book_of book.now) (kept_in adj.now sides.now table.new) ≤ steps.old + unmade (book_of book.now) (kept_in adj.now sides.now table.old)) }
+    ensures bound { steps.new ≤ steps.old + unmade (book_of book.now) (kept_in adj.now sides.now table.old) }
 {
     for side in sides {
         settle_side(
@@ -274,8 +274,8 @@ fn settle_side<L: Ledger>(
     ensures goes { Goes (book_of book.now) (kept_in adj.now sides.now table.old) (kept_in adj.now sides.now table.new) }
     ensures there { OnOk result (IsSome (form_at table.new (place.Side number))) }
     ensures counted { steps.old ≤ steps.new }
-    ensures ok { OnOk result (steps.new + left (book_of book.now) (kept_in adj.now sides.now table.new) ≤ steps.old + left (book_of book.now) (kept_in adj.now sides.now table.old)) }
-    ensures bound { steps.new ≤ steps.old + left (book_of book.now) (kept_in adj.now sides.now table.old) }
+    ensures ok { OnOk result (steps.new + unmade (book_of book.now) (kept_in adj.now sides.now table.new) ≤ steps.old + unmade (book_of book.now) (kept_in adj.now sides.now table.old)) }
+    ensures bound { steps.new ≤ steps.old + unmade (book_of book.now) (kept_in adj.now sides.now table.old) }
 {
     let place = Place::Side(number);
     if table.get(place).is_some() {
@@ -336,8 +336,8 @@ fn extract_stale<L: Ledger>(
     ensures goes { Goes (book_of book.now) (kept_in adj.now sides.now table.old) (kept_in adj.now sides.now table.new) }
     ensures there { OnOk result (IsSome (form_at table.new place)) }
     ensures counted { steps.old ≤ steps.new }
-    ensures ok { OnOk result (steps.new + left (book_of book.now) (kept_in adj.now sides.now table.new) ≤ steps.old + left (book_of book.now) (kept_in adj.now sides.now table.old)) }
-    ensures bound { steps.new ≤ steps.old + left (book_of book.now) (kept_in adj.now sides.now table.old) }
+    ensures ok { OnOk result (steps.new + unmade (book_of book.now) (kept_in adj.now sides.now table.new) ≤ steps.old + unmade (book_of book.now) (kept_in adj.now sides.now table.old)) }
+    ensures bound { steps.new ≤ steps.old + unmade (book_of book.now) (kept_in adj.now sides.now table.old) }
 {
     let form = form_of(alloc, book, adj, place, tree, table, steps)?;
     keep(book, adj, sides, place, form, table)
@@ -357,8 +357,7 @@ fn keep(
     requires numbers { HaveOwnNumbers sides.now }
     requires kept { AreKept (book_of book.now) (kept_in adj.now sides.now table.old) }
     ensures goes { Goes (book_of book.now) (kept_in adj.now sides.now table.old) (kept_in adj.now sides.now table.new) }
-    ensures some { 0 < left (book_of book.now) (kept_in adj.now sides.now table.old) }
-    ensures one { OnOk result (left (book_of book.now) (kept_in adj.now sides.now table.old) ≡ left (book_of book.now) (kept_in adj.now sides.now table.new) + 1) }
+    ensures one { OnOk result (is_circular_place (book_of book.now) sides.now adj.now place ≡ false → unmade (book_of book.now) (kept_in adj.now sides.now table.old) ≡ unmade (book_of book.now) (kept_in adj.now sides.now table.new) + 1) }
     ensures there { OnOk result (IsSome (form_at table.new place)) }
 {
     table.put(place, form)?;

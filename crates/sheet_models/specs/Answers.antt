@@ -9,7 +9,7 @@ use Rattle.workbook.specs.declared.place.Place.TheVariants as place
 use Rattle.extract.specs.Tables.{no_forms}
 use Rattle.form_needs.specs.declared.refusal.FormRefusal.{FormRefusal}
 use Rattle.form_needs.specs.declared.refusal.FormRefusal.TheVariants as refusal
-use Rattle.kept_forms.specs.Keeping.{stale_count}
+use Rattle.kept_forms.specs.Keeping.{count_to_make}
 use Rattle.solver_names.specs.Answers.{Answers, statement_of}
 use Rattle.solver_names.specs.Sides.{sides_in}
 use Rattle.solver_names.specs.Stated.{statement_in}
@@ -36,9 +36,9 @@ Prepares book sheet (Err (none.WideRow row)) = HasWideRow book sheet row
 Prepares book sheet (Err none.Memory) = ⊤
 
 -- ---- steps
--- how many forms there are to make: one for each formula cell that isn't to be decided, and one for each side
+-- how many forms there are to make: one for each formula cell that isn't to be decided, and one for each side, but for circular ones
 abbrev pub forms_to_make : State → ℕ → List Cell → ℕ
-forms_to_make book sheet decisions = stale_count (book_of book) (record { decisions = decisions; sides = sides_in book sheet; table = no_forms })
+forms_to_make book sheet decisions = count_to_make (book_of book) (record { decisions = decisions; sides = sides_in book sheet; table = no_forms })
 
 -- no step where the names have a fault, and else at most one for each form that there is to make
 abbrev pub MakesFew : State → ℕ → ℕ → ℕ → Type 0

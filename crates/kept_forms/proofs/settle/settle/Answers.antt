@@ -1,4 +1,4 @@
-use Rattle.std.proofs.Common.{◌≡◌, List, ◌∙◌, ap, subst, sym}
+use Rattle.std.proofs.Common.{List, ◌∙◌, ap, subst, sym}
 use Rattle.std.specs.Prelude.{⊤}
 use Rattle.std.specs.FinSet as set
 use Rattle.cell_refs.specs.declared.cell.Cell.{Cell}

@@ -1,4 +1,4 @@
-use Rattle.std.proofs.Common.{◌≡◌, ◌≤◌, ◌+◌, Some, arith, subst, sym, ◌∙◌, ap, false}
+use Rattle.std.proofs.Common.{◌≡◌, ◌+◌, Some, arith, subst, sym, ◌∙◌}
 use Rattle.std.specs.Prelude.{slice_get, slice_index_or, not, is_some, ◌&&◌}
 use Rattle.std.proofs.lemmas.Option.{slice_get-get_or}
 use Rattle.cell_refs.specs.declared.cell.Cell.{Cell}
@@ -6,8 +6,8 @@ use Rattle.recalculation.specs.Entries.{entry}
 use Rattle.recalculation.specs.Walks.{refers}
 use Rattle.workbook.specs.Kinds.{book_of}
 use Rattle.workbook.specs.declared.place.Place.TheVariants as place
-use Rattle.kept_forms.specs.Settling.{IsThere, kept_in, left}
-use Rattle.kept_forms.proofs.Counting.{before_or_at, none_before, there_below}
+use Rattle.kept_forms.specs.Settling.{IsThere, kept_in, unmade}
+use Rattle.kept_forms.proofs.Counting.{before_or_at, there_below}
 use Rattle.kept_forms.proofs.Settling.{goes_on, still_some, the_same, within_both}
 use Rattle.kept_forms.proofs.settle.settle_order.Goals as goal
 
@@ -29,8 +29,8 @@ loop-cell-preserved g c =
           (λ q before d e has. still_some (book_of c.args.book.now) c.args.adj.now c.args.sides.now c.loop-cell.table c.settle_cell.new.table c.in_ok-settle_cell.ensures.goes (place.Cell d) (c.loop-cell.invariant.1 q d before e has))
           (λ d e. subst (λ b. IsThere (book_of c.args.book.now) (kept_in c.args.adj.now c.args.sides.now c.settle_cell.new.table) (place.Cell b)) (the_same _ d (sym at ∙ e)) c.in_ok-settle_cell.ensures.there) a there,
       within_both c.args.steps.now c.loop-cell.steps c.settle_cell.new.steps c.loop-cell.invariant.2 c.in_ok-settle_cell.ensures.counted,
-      within_both (c.settle_cell.new.steps + left (book_of c.args.book.now) (kept_in c.args.adj.now c.args.sides.now c.settle_cell.new.table)) (c.loop-cell.steps + left (book_of c.args.book.now) (kept_in c.args.adj.now c.args.sides.now c.loop-cell.table))
-          (c.args.steps.now + left (book_of c.args.book.now) (kept_in c.args.adj.now c.args.sides.now c.args.table.now)) c.in_ok-settle_cell.ensures.ok c.loop-cell.invariant.3,
+      within_both (c.settle_cell.new.steps + unmade (book_of c.args.book.now) (kept_in c.args.adj.now c.args.sides.now c.settle_cell.new.table)) (c.loop-cell.steps + unmade (book_of c.args.book.now) (kept_in c.args.adj.now c.args.sides.now c.loop-cell.table))
+          (c.args.steps.now + unmade (book_of c.args.book.now) (kept_in c.args.adj.now c.args.sides.now c.args.table.now)) c.in_ok-settle_cell.ensures.ok c.loop-cell.invariant.3,
     )
 
 pub returns-clause-there : goal.returns-clause-there

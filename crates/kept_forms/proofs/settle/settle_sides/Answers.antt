@@ -1,12 +1,12 @@
-use Rattle.std.proofs.Common.{◌≡◌, ◌≤◌, ◌+◌, ℕ, Some, arith, subst, sym, ◌∙◌, ap, false}
-use Rattle.std.specs.Prelude.{IsSome, slice_get, slice_index_or, not, is_some, ◌&&◌}
+use Rattle.std.proofs.Common.{◌≡◌, ◌+◌, ℕ, Some, arith, subst, sym, ◌∙◌, ap}
+use Rattle.std.specs.Prelude.{IsSome, slice_get}
 use Rattle.std.proofs.lemmas.Option.{slice_get-get_or}
 use Rattle.extract.specs.Tables.{form_at}
 use Rattle.formula_ast.specs.Tree.{Tree}
 use Rattle.workbook.specs.Kinds.{book_of}
 use Rattle.workbook.specs.declared.place.Place.TheVariants as place
-use Rattle.kept_forms.specs.Settling.{IsThere, kept_in, left}
-use Rattle.kept_forms.proofs.Counting.{before_or_at, none_before, there_below}
+use Rattle.kept_forms.specs.Settling.{kept_in, unmade}
+use Rattle.kept_forms.proofs.Counting.{before_or_at, there_below}
 use Rattle.kept_forms.proofs.Settling.{goes_on, still_some, the_same, tree_found, within_both}
 use Rattle.kept_forms.proofs.settle.settle_sides.Goals as goal
 
@@ -28,8 +28,8 @@ loop-side-preserved g c =
           (λ q before d e. still_some (book_of c.args.book.now) c.args.adj.now c.args.sides.now c.loop-side.table c.settle_side.new.table c.in_ok-settle_side.ensures.goes (place.Side d.0) (c.loop-side.invariant.1 q d before e))
           (λ d e. subst (λ (b : ℕ × Tree). IsSome (form_at c.settle_side.new.table (place.Side b.0))) (the_same c.side-item.result d (sym at ∙ e)) c.in_ok-settle_side.ensures.there) s there,
       within_both c.args.steps.now c.loop-side.steps c.settle_side.new.steps c.loop-side.invariant.2 c.in_ok-settle_side.ensures.counted,
-      within_both (c.settle_side.new.steps + left (book_of c.args.book.now) (kept_in c.args.adj.now c.args.sides.now c.settle_side.new.table)) (c.loop-side.steps + left (book_of c.args.book.now) (kept_in c.args.adj.now c.args.sides.now c.loop-side.table))
-          (c.args.steps.now + left (book_of c.args.book.now) (kept_in c.args.adj.now c.args.sides.now c.args.table.now)) c.in_ok-settle_side.ensures.ok c.loop-side.invariant.3,
+      within_both (c.settle_side.new.steps + unmade (book_of c.args.book.now) (kept_in c.args.adj.now c.args.sides.now c.settle_side.new.table)) (c.loop-side.steps + unmade (book_of c.args.book.now) (kept_in c.args.adj.now c.args.sides.now c.loop-side.table))
+          (c.args.steps.now + unmade (book_of c.args.book.now) (kept_in c.args.adj.now c.args.sides.now c.args.table.now)) c.in_ok-settle_side.ensures.ok c.loop-side.invariant.3,
     )
 
 pub returns-clause-there : goal.returns-clause-there

@@ -1,6 +1,6 @@
 use Rattle.std.proofs.Common.{◌≤◌, ◌+◌, ap, subst}
 use Rattle.workbook.specs.Kinds.{book_of}
-use Rattle.kept_forms.specs.Keeping.{Kept, stale_count}
+use Rattle.kept_forms.specs.Keeping.{Kept, count_to_make}
 use Rattle.sheet_models.proofs.Opening.{none_is_kept}
 use Rattle.sheet_models.proofs.stated.settled.Goals as goal
 
@@ -9,8 +9,8 @@ settle-requires-clause-kept g c = none_is_kept (book_of c.args.book.now) _ (ap (
 
 pub returns-in_err-settle-clause-bound : goal.returns-in_err-settle-clause-bound
 returns-in_err-settle-clause-bound g c =
-    subst (λ (k : Kept). c.settle.new.steps ≤ c.args.steps.now + stale_count (book_of c.args.book.now) k) c.in_ok-forms.ensures c.in_err-settle.ensures.bound
+    subst (λ (k : Kept). c.settle.new.steps ≤ c.args.steps.now + count_to_make (book_of c.args.book.now) k) c.in_ok-forms.ensures c.in_err-settle.ensures.bound
 
 pub returns-clause-bound : goal.returns-clause-bound
 returns-clause-bound g c =
-    subst (λ (k : Kept). c.settle.new.steps ≤ c.args.steps.now + stale_count (book_of c.args.book.now) k) c.in_ok-forms.ensures c.in_ok-settle.ensures.bound
+    subst (λ (k : Kept). c.settle.new.steps ≤ c.args.steps.now + count_to_make (book_of c.args.book.now) k) c.in_ok-forms.ensures c.in_ok-settle.ensures.bound

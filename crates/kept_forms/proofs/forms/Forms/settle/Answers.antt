@@ -1,9 +1,9 @@
 use Rattle.std.proofs.Common.{◌≤◌, ◌+◌, ap, subst, sym, ◌∙◌}
 use Rattle.extract.specs.Tables.{form_count}
 use Rattle.kept_forms.specs.Keeping.{AreKept, HaveOwnNumbers, stale_count}
-use Rattle.kept_forms.specs.Settling.{kept_in, left}
+use Rattle.kept_forms.specs.Settling.{kept_in, left, unmade}
 use Rattle.workbook.specs.Kinds.{book_of}
-use Rattle.kept_forms.proofs.Settling.{counted_as, left_is, none_left}
+use Rattle.kept_forms.proofs.Settling.{counted_as, left_is, none_left, unmade_is}
 use Rattle.kept_forms.proofs.forms.Forms.settle.Goals as goal
 
 pub settle-requires-clause-kept : goal.settle-requires-clause-kept
@@ -13,7 +13,7 @@ settle-requires-clause-kept g c =
 pub returns-in_err-settle-clause-bound : goal.returns-in_err-settle-clause-bound
 returns-in_err-settle-clause-bound g c =
     subst (λ n. c.settle.new.steps ≤ c.args.steps.now + n)
-    (ap (left (book_of c.args.book.now)) ((λ i. kept_in c.self.inside.adj (c.deref.ensures.value i) c.self.inside.table) ∙ c.self.view_is) ∙ left_is (book_of c.args.book.now) c.args.self.now)
+    (ap (unmade (book_of c.args.book.now)) ((λ i. kept_in c.self.inside.adj (c.deref.ensures.value i) c.self.inside.table) ∙ c.self.view_is) ∙ unmade_is (book_of c.args.book.now) c.args.self.now)
     c.in_err-settle.ensures.bound
 
 pub returns-clause-count : goal.returns-clause-count
@@ -26,5 +26,5 @@ returns-clause-count g c =
 pub returns-clause-bound : goal.returns-clause-bound
 returns-clause-bound g c =
     subst (λ n. c.settle.new.steps ≤ c.args.steps.now + n)
-    (ap (left (book_of c.args.book.now)) ((λ i. kept_in c.self.inside.adj (c.deref.ensures.value i) c.self.inside.table) ∙ c.self.view_is) ∙ left_is (book_of c.args.book.now) c.args.self.now)
+    (ap (unmade (book_of c.args.book.now)) ((λ i. kept_in c.self.inside.adj (c.deref.ensures.value i) c.self.inside.table) ∙ c.self.view_is) ∙ unmade_is (book_of c.args.book.now) c.args.self.now)
     c.in_ok-settle.ensures.bound
