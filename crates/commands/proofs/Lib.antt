@@ -1,6 +1,7 @@
 pub mod Others
 pub mod Quotes
 pub mod Marks
+pub mod Naming
 pub mod Saying
 pub mod Spelled
 pub mod Unspelled

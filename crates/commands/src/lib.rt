@@ -9,6 +9,7 @@ mod lines;
 mod locating;
 mod refusals;
 mod save_file;
+mod sheet;
 mod units;
 
 pub use answer::{Answer, PathStep};

@@ -1,10 +1,10 @@
 -- What stands after want of memory, which comes only where memory was taken.
-use Rattle.std.specs.Prelude.{◌≡◌, true, IsSome, Result, Ok, Err}
+use Rattle.std.specs.Prelude.{◌≡◌, ◌≢◌, [], IsSome, Result, Ok, Err}
 use Rattle.cell_refs.specs.Names.{place_in}
-use Rattle.workbook.specs.State.{State}
-use Rattle.commands.specs.Addresses.{has_place}
 use Rattle.commands.specs.Commands.{Spoken, Set, Clear, Name, Unname, Show, Model, Solve, Budget, Save, Unknown}
-use Rattle.session.specs.Edits.{home_to_name, home_to_unname}
+use Rattle.commands.specs.Locating.{cell_named}
+use Rattle.session.specs.Edits.{cell_to_set, home_to_name, home_to_unname}
+use Rattle.session.specs.Saves.{files_to_save}
 use Rattle.session.specs.States.{SessionState}
 
 -- nothing is refused
@@ -12,19 +12,21 @@ abbrev pub IsAllowed : {A E : Type 0} → Result A E → Type 0
 IsAllowed (Ok x) = Unit {0}
 IsAllowed (Err e) = ⊥
 
--- the command is none that is refused before any memory is taken, and none that takes no memory
-abbrev pub TakesMemory : State → Spoken → Type 0
-TakesMemory book (Set address text) = has_place address ≡ true
-TakesMemory book (Clear address) = has_place address ≡ true
-TakesMemory book (Name sheet name text) = IsAllowed (home_to_name book sheet name text)
-TakesMemory book (Unname sheet name) = IsAllowed (home_to_unname book sheet name)
-TakesMemory book (Show address) = has_place address ≡ true
-TakesMemory book (Model sheet) = IsSome (place_in book.sheets sheet)
-TakesMemory book (Solve sheet) = IsSome (place_in book.sheets sheet)
-TakesMemory book (Budget units) = ⊥
-TakesMemory book Save = Unit {0}
-TakesMemory book Unknown = ⊥
+-- the command is none that is refused before any memory is taken, and none that takes no memory: a text is put where it may be and isn't
+-- empty, a name is given or removed where it may be, the cell to be shown or the sheet to be modelled is there, or there is a file to be
+-- saved
+abbrev pub TakesMemory : SessionState → Spoken → Type 0
+TakesMemory s (Set address text) = IsAllowed (cell_to_set s.book address text) × (text ≢ [])
+TakesMemory s (Clear address) = ⊥
+TakesMemory s (Name sheet name text) = IsAllowed (home_to_name s.book sheet name text)
+TakesMemory s (Unname sheet name) = IsAllowed (home_to_unname s.book sheet name)
+TakesMemory s (Show address) = IsAllowed (cell_named s.book.sheets address)
+TakesMemory s (Model sheet) = IsSome (place_in s.book.sheets sheet)
+TakesMemory s (Solve sheet) = IsSome (place_in s.book.sheets sheet)
+TakesMemory s (Budget units) = ⊥
+TakesMemory s Save = files_to_save s ≢ []
+TakesMemory s Unknown = ⊥
 
 -- the session is as it was before the command
 abbrev pub IsInterrupted : SessionState → Spoken → SessionState → Type 0
-IsInterrupted before command after = TakesMemory before.book command × (after ≡ before)
+IsInterrupted before command after = TakesMemory before command × (after ≡ before)

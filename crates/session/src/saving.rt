@@ -1,6 +1,8 @@
 // Saving the files that have changed.
-ghost use Rattle.std.specs.Prelude.{◌≡◌, IfOk};
+ghost use Rattle.std.specs.Prelude.{◌≡◌, ◌≢◌, [], IfOk, OnErr};
+ghost use Rattle.commands.specs.Commands.{Save};
 ghost use Rattle.commands.specs.Lines.{CanBeSaid};
+ghost use Rattle.session.specs.Interrupted.{IsInterrupted};
 ghost use Rattle.session.specs.Saves.{Saves, changed_from};
 ghost use Rattle.session.specs.States.{with_none_changed};
 
@@ -22,6 +24,7 @@ impl Session {
     pub(crate) fn save(&self) -> Result<Answer, Memory>
         ensures step { IfOk result (λ answer. Saves self.now.state answer self.now.state) }
         ensures said { IfOk result (CanBeSaid self.now.state.book.sheets) }
+        ensures memory { OnErr result (IsInterrupted self.now.state Save self.now.state) }
     {
         let mut files = self.changed_files()?;
         if self.changed_names {
@@ -33,7 +36,8 @@ impl Session {
 
     // The files of the sheets that have changed, in their order.
     fn changed_files(&self) -> Result<Vec<SaveFile>, Memory>
-        ensures { IfOk result (λ files. files.items ≡ changed_from self.now.state.book 0 self.now.state.changed.sheets) }
+        ensures files { IfOk result (λ files. files.items ≡ changed_from self.now.state.book 0 self.now.state.changed.sheets) }
+        ensures memory { OnErr result (changed_from self.now.state.book 0 self.now.state.changed.sheets ≢ []) }
     {
         let mut files = Vec::new(self.alloc);
         for place in 0..self.book.sheets().len() {

@@ -1,5 +1,5 @@
 // A session: a workbook and the commands on it.
-ghost use Rattle.std.specs.Prelude.{◌≡◌, ◌≤◌, ◌<◌, All, IfOk, OnErr, [], false, length};
+ghost use Rattle.std.specs.Prelude.{◌≡◌, ◌≢◌, ◌≤◌, ◌<◌, All, IfOk, None, OnErr, [], false, length};
 ghost use Rattle.sheet_models.specs.Answers.{prepared_of};
 ghost use Rattle.sheet_models.specs.Prepared.{IsPrepared};
 ghost use Rattle.sheet_problems.specs.Laws.{ModelIsTheSheet};
@@ -7,7 +7,7 @@ ghost use Rattle.solver_names.specs.Answers.{statement_of};
 ghost use Rattle.statement_laws.specs.Laws.{IsWhole};
 ghost use Rattle.workbook.specs.Edits.{is_outside, set_fault};
 ghost use Rattle.workbook.specs.Listed.{IsListed};
-ghost use Rattle.commands.specs.Commands.{Clear, Model as ToModel, Set, Show, Solve, spoken};
+ghost use Rattle.commands.specs.Commands.{Model as ToModel, Set, Show, Solve, spoken};
 ghost use Rattle.commands.specs.Lines.{CanBeSaid};
 ghost use Rattle.commands.specs.Locating.{cell_named, sheet_named};
 ghost use Rattle.session.specs.Edits.{cell_to_set, unless};
@@ -97,7 +97,7 @@ impl Session {
     {
         match command {
             Command::Set(address, text) => self.set(address.as_str(), text.as_str()),
-            Command::Clear(address) => self.clear(address.as_str()),
+            Command::Clear(address) => Ok(self.clear(address.as_str())),
             Command::Name(sheet, name, text) => {
                 self.name(sheet.as_str(), name.as_str(), text.as_str())
             }
@@ -118,7 +118,7 @@ impl Session {
         ensures sheets { self.new.state.book.sheets ≡ self.old.state.book.sheets }
         ensures memory { OnErr result (IsInterrupted self.old.state (Set address.now text.now) self.new.state) }
     {
-        match locate(self.alloc, self.book.sheets(), address)? {
+        match locate(self.book.sheets(), address) {
             Ok(cell) => self.put(cell, text),
             Err(answer) => Ok(answer),
         }
@@ -130,6 +130,8 @@ impl Session {
         ensures step { IfOk result (λ answer. Does (λ c. IsDone (with_text self.old.state c text.now)) self.old.state (unless (set_fault self.old.state.book cell text.now) cell) answer self.new.state) }
         ensures said { IfOk result (CanBeSaid self.old.state.book.sheets) }
         ensures sheets { self.new.state.book.sheets ≡ self.old.state.book.sheets }
+        ensures allowed { OnErr result (set_fault self.old.state.book cell text.now ≡ None) }
+        ensures some { OnErr result (text.now ≢ []) }
         ensures memory { OnErr result (self.new.state ≡ self.old.state) }
     {
         match self.book.set(cell, text) {
@@ -142,19 +144,18 @@ impl Session {
     }
 
     // Takes away the text of the cell that is named.
-    fn clear(&mut self, address: &str) -> Result<Answer, Memory>
-        ensures step { IfOk result (λ answer. Does (λ cell. IsDone (with_text self.old.state cell [])) self.old.state (cell_named self.old.state.book.sheets address.now) answer self.new.state) }
-        ensures said { IfOk result (CanBeSaid self.old.state.book.sheets) }
+    fn clear(&mut self, address: &str) -> Answer
+        ensures step { Does (λ cell. IsDone (with_text self.old.state cell [])) self.old.state (cell_named self.old.state.book.sheets address.now) result self.new.state }
+        ensures said { CanBeSaid self.old.state.book.sheets result }
         ensures sheets { self.new.state.book.sheets ≡ self.old.state.book.sheets }
-        ensures memory { OnErr result (IsInterrupted self.old.state (Clear address.now) self.new.state) }
     {
-        match locate(self.alloc, self.book.sheets(), address)? {
+        match locate(self.book.sheets(), address) {
             Ok(cell) => {
                 self.book.clear(cell);
                 self.changed_sheets[usize::from(cell.sheet.0)] = true;
-                Ok(Answer::Done)
+                Answer::Done
             }
-            Err(answer) => Ok(answer),
+            Err(answer) => answer,
         }
     }
 
@@ -164,7 +165,7 @@ impl Session {
         ensures said { IfOk result (CanBeSaid self.now.state.book.sheets) }
         ensures memory { OnErr result (IsInterrupted self.now.state (Show address.now) self.now.state) }
     {
-        match locate(self.alloc, self.book.sheets(), address)? {
+        match locate(self.book.sheets(), address) {
             Ok(cell) => self.shown(cell),
             Err(answer) => Ok(answer),
         }

@@ -5,5 +5,5 @@ use Rattle.session.proofs.session.Session.clear.Goals as goal
 
 pub returns-in-Err-clause-said : goal.returns-in-Err-clause-said
 returns-in-Err-clause-said c =
-    let named = rw c.in-Err.is at c.in_ok-cell.ensures.named in
+    let named = c.in-Err.ensures.named in
     rw (← c.self.view_is) (subst (λ (sheets : List (List ℕ)). CanBeSaid sheets c.in-Err.answer) c.sheets.ensures (named_said c.sheets.result.now c.args.address.now c.in-Err.answer named))
