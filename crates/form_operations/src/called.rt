@@ -14,7 +14,7 @@ use form_ops::{
 };
 use form_values::{Abs, AbsArg, Rel};
 use formula_ast::Func;
-use sheet_model::Arg;
+use sheet_model::{Arg, Value};
 use std::alloc::Global;
 
 /// What an operator or a function makes of some arguments.
@@ -73,7 +73,12 @@ fn relation_in(name: &str) -> Result<Rel, Stop> {
 fn are_known(args: &[AbsArg]) -> bool
     ensures { result ≡ list_all all_known args.now }
 {
-    args.iter().all(|arg| arg.is_known())
+    for arg in args {
+        if !arg.is_known() {
+            return false;
+        }
+    }
+    true
 }
 
 // Of a function of arguments of which one is open.
@@ -125,16 +130,22 @@ pub(crate) fn copied(alloc: Global, name: &str, rest: &str) -> Result<String, St
 // Each known value behind a bar.
 fn show_values(values: &Arg, to: &mut String) -> Result<(), Stop> {
     match values {
-        Arg::One(value) => {
-            to.push('|')?;
-            show_value(value, to)?;
-        }
-        Arg::Area(grid) => {
-            for value in grid.items() {
-                to.push('|')?;
-                show_value(value, to)?;
-            }
-        }
+        Arg::One(value) => show_behind_bar(value, to),
+        Arg::Area(grid) => show_all(grid.items(), to),
     }
+}
+
+// The same of some values.
+fn show_all(values: &[Value], to: &mut String) -> Result<(), Stop> {
+    for value in values {
+        show_behind_bar(value, to)?;
+    }
+    Ok(())
+}
+
+// The same of one.
+fn show_behind_bar(value: &Value, to: &mut String) -> Result<(), Stop> {
+    to.push('|')?;
+    show_value(value, to)?;
     Ok(())
 }

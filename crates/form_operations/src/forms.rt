@@ -40,19 +40,17 @@ fn numbers(alloc: Global, text: &str) -> Result<Vec<Frac>, Stop> {
     Ok(found)
 }
 
-// A whole number, or a numerator and a denominator.
+// A numeral, or two of which the second one divides.
 fn number(text: &str) -> Result<Frac, Stop> {
-    let (above, below) = match text.split_once('/') {
-        Some((above, below)) => (above, below),
-        None => (text, "1"),
+    let Some((above, below)) = text.split_once('/') else {
+        return Ok(Frac::read(text)?);
     };
-    let Ok(above) = above.parse::<i128>() else {
+    let above = Frac::read(above)?;
+    let below = Frac::read(below)?;
+    if below.is_zero() {
         return Err(Stop::Unread);
-    };
-    let Ok(below) = below.parse::<i128>() else {
-        return Err(Stop::Unread);
-    };
-    Frac::new(above, below).ok_or(Stop::Unread)
+    }
+    Ok(above.div(below)?)
 }
 
 // The form of a constant and of coefficients.
@@ -97,15 +95,17 @@ fn joined(alloc: Global, name: &str, left: Form, right: &Form) -> Result<Form, S
         "add" => Ok(left.add(alloc, right)?),
         "sub" => Ok(left.sub(alloc, right)?),
         "scale" => Ok(left.scale(alloc, right.base())?),
-        "less-twice" => less_twice(alloc, left, right),
         "multiple-of" => is_multiple(alloc, &left, right),
-        _ => Err(Stop::Unread),
+        _ => with_multiple(alloc, name, left, right),
     }
 }
 
-// A form less another one twice.
-fn less_twice(alloc: Global, mut left: Form, right: &Form) -> Result<Form, Stop> {
-    left.add_product(alloc, Frac::from_whole(-2), right)?;
+// A form and a multiple of another one: the factor stands in the operation's name.
+fn with_multiple(alloc: Global, name: &str, mut left: Form, right: &Form) -> Result<Form, Stop> {
+    let Some(factor) = name.strip_prefix("add-times:") else {
+        return Err(Stop::Unread);
+    };
+    left.add_product(alloc, Frac::read(factor)?, right)?;
     Ok(left)
 }
 

@@ -82,22 +82,26 @@ fn known(text: &str) -> Result<Value, Stop> {
 
 // A form by its name, where it is one.
 fn form(alloc: Global, text: &str) -> Result<Option<Form>, Stop> {
-    let x = Form::decision(alloc, 0);
-    Ok(Some(match text {
-        "x" => x,
-        "-x" => x.neg(alloc)?,
-        "2x" => x.scale(alloc, Frac::from_whole(2))?,
-        "x+1" => x.add(alloc, &Form::constant(alloc, Frac::one()))?,
-        "w" => x.scale(alloc, greatest()?)?,
-        "-w" => x.scale(alloc, greatest()?.neg())?,
-        "y" => Form::decision(alloc, 1),
-        _ => return decision(alloc, text),
-    }))
+    if let Some(coefficient) = text.strip_suffix('x') {
+        return Ok(Some(multiple(alloc, coefficient)?));
+    }
+    if text == "y" {
+        return Ok(Some(Form::decision(alloc, 1)));
+    }
+    if text == "x+1" {
+        let one = Form::constant(alloc, Frac::one());
+        return Ok(Some(one.add(alloc, &Form::decision(alloc, 0))?));
+    }
+    decision(alloc, text)
 }
 
-// The greatest number that there is.
-fn greatest() -> Result<Frac, Stop> {
-    Frac::new(i128::MAX, 1).ok_or(Stop::Unread)
+// The first decision with a coefficient.
+fn multiple(alloc: Global, coefficient: &str) -> Result<Form, Stop> {
+    let x = Form::decision(alloc, 0);
+    match coefficient {
+        "" => Ok(x),
+        _ => Ok(x.scale(alloc, Frac::read(coefficient)?)?),
+    }
 }
 
 // A decision by its number, from 0.

@@ -1,9 +1,9 @@
 // Operators and functions of formulas on arguments of which some are open, and operations on affine forms. Each line of the input is a
 // call, and its answer is printed. A line that begins with `#` says what the next ones show; it is printed as it stands.
 //
-// A semicolon stands between two arguments. `x` and `y` are the first two decisions, `d2` is the third, `t` is the test x >= 0, `w` is x
-// times the greatest number that there is, a text has an apostrophe in front, and an area is its size and, behind a bar each, its
-// values. A form is printed as its constant and, behind a plus each, its terms.
+// A semicolon stands between two arguments. `x` and `y` are the first two decisions, `2x` is twice the first one, `d2` is the third, `t` is
+// the test x >= 0, a text has an apostrophe in front, and an area is its size and, behind a bar each, its values. A form is printed as its
+// constant and, behind a plus each, its terms.
 #![tactic(auto)]
 
 mod called;

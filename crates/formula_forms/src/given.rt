@@ -44,26 +44,56 @@ fn listed_in(alloc: Global, text: &str) -> Result<Listed, Stop> {
 
 // The form of a cell, where it has one.
 fn form_in(alloc: Global, text: &str) -> Result<Option<Abs>, Stop> {
-    if let Some(letters) = text.strip_prefix('\'') {
-        return Ok(Some(Abs::Known(Value::Text(Text::new(String::from_str(alloc, letters)?)))));
+    if text == "none" {
+        return Ok(None);
     }
-    let x = Form::decision(alloc, 0);
-    let y = Form::decision(alloc, 1);
-    Ok(Some(match text {
-        "none" => return Ok(None),
-        "x" => Abs::entry(x),
-        "y" => Abs::entry(y),
-        "z" => Abs::entry(Form::decision(alloc, 2)),
-        "1+x+y" => {
-            let one = Form::constant(alloc, Frac::one());
-            Abs::entry(one.add(alloc, &x)?.add(alloc, &y)?)
-        }
-        "x>=0" => Abs::test(Rel::Ge, x),
-        "y=0" => Abs::test(Rel::Eq, y),
-        "TRUE" => Abs::Known(Value::Logical(true)),
-        "#N/A" => Abs::Known(Value::Error(ErrorKind::NotAvailable)),
-        _ => Abs::Known(Value::Number(Frac::read(text)?)),
-    }))
+    match open_in(alloc, text)? {
+        Some(form) => Ok(Some(form)),
+        None => Ok(Some(Abs::Known(known_in(alloc, text)?))),
+    }
+}
+
+// A value that decisions decide, where it is one.
+fn open_in(alloc: Global, text: &str) -> Result<Option<Abs>, Stop> {
+    match text {
+        "x" => Ok(Some(decision(alloc, 0))),
+        "y" => Ok(Some(decision(alloc, 1))),
+        "z" => Ok(Some(decision(alloc, 2))),
+        "1+x+y" => sum_in(alloc, 0, 1),
+        "x>=0" => Ok(Some(test(alloc, Rel::Ge, 0))),
+        "y=0" => Ok(Some(test(alloc, Rel::Eq, 1))),
+        _ => Ok(None),
+    }
+}
+
+// A decision.
+fn decision(alloc: Global, j: u16) -> Abs {
+    Abs::entry(Form::decision(alloc, j))
+}
+
+// The test how a decision stands to 0.
+fn test(alloc: Global, relation: Rel, j: u16) -> Abs {
+    Abs::test(relation, Form::decision(alloc, j))
+}
+
+// 1 and two decisions.
+fn sum_in(alloc: Global, j: u16, k: u16) -> Result<Option<Abs>, Stop> {
+    let mut sum = Form::constant(alloc, Frac::one());
+    sum.add_to(alloc, &Form::decision(alloc, j))?;
+    sum.add_to(alloc, &Form::decision(alloc, k))?;
+    Ok(Some(Abs::entry(sum)))
+}
+
+// A known value.
+fn known_in(alloc: Global, text: &str) -> Result<Value, Stop> {
+    if let Some(letters) = text.strip_prefix('\'') {
+        return Ok(Value::Text(Text::new(String::from_str(alloc, letters)?)));
+    }
+    match text {
+        "TRUE" => Ok(Value::Logical(true)),
+        "#N/A" => Ok(Value::Error(ErrorKind::NotAvailable)),
+        _ => Ok(Value::Number(Frac::read(text)?)),
+    }
 }
 
 /// A part of a text.
@@ -76,10 +106,10 @@ pub(crate) fn span_in(text: &str) -> Result<Option<Span>, Stop> {
     Ok(Some(Span { start, end }))
 }
 
-// The names of the sheets.
-fn names(alloc: Global) -> Result<SheetNames, Stop> {
+// The names of the sheets, which are one.
+fn names(alloc: Global, name: &str) -> Result<SheetNames, Stop> {
     let mut sheets = SheetNames::new(alloc);
-    match sheets.add("plan") {
+    match sheets.add(name) {
         Ok(_) => Ok(sheets),
         Err(_) => Err(Stop::Unread),
     }
@@ -87,7 +117,7 @@ fn names(alloc: Global) -> Result<SheetNames, Stop> {
 
 /// The tree of a formula.
 pub(crate) fn tree_in(alloc: Global, text: &str) -> Result<Expr, Stop> {
-    let sheets = names(alloc)?;
+    let sheets = names(alloc, "plan")?;
     if text.len() > 8193 || sheets.is_empty() {
         return Err(Stop::Unread);
     }
@@ -96,7 +126,7 @@ pub(crate) fn tree_in(alloc: Global, text: &str) -> Result<Expr, Stop> {
 
 /// A reference.
 pub(crate) fn area_in(alloc: Global, text: &str) -> Result<Area, Stop> {
-    let sheets = names(alloc)?;
+    let sheets = names(alloc, "plan")?;
     if text.len() > 8193 || sheets.is_empty() {
         return Err(Stop::Unread);
     }

@@ -38,18 +38,33 @@ pub(crate) fn parts_shown(
     asked: &str,
     steps: &str,
 ) -> Result<String, Stop> {
-    let mut made = made_by(alloc, sheet, steps)?;
-    let mut text = String::new(alloc);
+    let made = made_by(alloc, sheet, steps)?;
     match asked {
-        "place" => show_span(last(&mut made.parts)?.span(), &mut text)?,
-        "all-looks" => show_cells(&all_looks(alloc, &made.parts)?, &mut text)?,
+        "place" => place_shown(alloc, &made.parts),
+        "all-looks" => looks_shown(alloc, &made.parts),
         "second-undecided" => {
             let refused = refused_by(made.span, &made.parts, OpRefusal::Undecided(1))?;
-            text = outcome_shown(alloc, &refused)?;
+            Ok(outcome_shown(alloc, &refused)?)
         }
-        "values" => text = values_shown(alloc, &made.parts)?,
-        _ => return Err(Stop::Unread),
+        "values" => values_shown(alloc, &made.parts),
+        _ => Err(Stop::Unread),
     }
+}
+
+// The place of the first part in the text.
+fn place_shown(alloc: Global, parts: &[Part]) -> Result<String, Stop> {
+    let Some(part) = parts.first() else {
+        return Err(Stop::Unread);
+    };
+    let mut text = String::new(alloc);
+    show_span(part.span(), &mut text)?;
+    Ok(text)
+}
+
+// The cells at which all parts look.
+fn looks_shown(alloc: Global, parts: &[Part]) -> Result<String, Stop> {
+    let mut text = String::new(alloc);
+    show_cells(&all_looks(alloc, parts)?, &mut text)?;
     Ok(text)
 }
 

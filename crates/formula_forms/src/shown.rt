@@ -119,14 +119,24 @@ pub(crate) fn show_cell_form(form: &CellForm, to: &mut String) -> Result<(), Mem
 /// What a part comes to, and of a grid the first element.
 pub(crate) fn outcome_shown(alloc: Global, outcome: &Outcome) -> Result<String, Memory> {
     let mut text = String::new(alloc);
-    match outcome {
-        Outcome::Gives(AbsArg::One(value)) => show_value(value, &mut text)?,
-        Outcome::Gives(AbsArg::Area(grid)) => match grid.items().first() {
-            Some(value) => show_value(value, &mut text)?,
-            None => text.push_str("no element")?,
-        },
-        Outcome::Refused(at, cause) => show_refused(*at, *cause, &mut text)?,
-        Outcome::Without => text.push_str("without")?,
-    }
+    show_outcome(outcome, &mut text)?;
     Ok(text)
+}
+
+// The same behind a text.
+fn show_outcome(outcome: &Outcome, to: &mut String) -> Result<(), Memory> {
+    match outcome {
+        Outcome::Gives(AbsArg::One(value)) => show_value(value, to),
+        Outcome::Gives(AbsArg::Area(grid)) => show_first(grid.items(), to),
+        Outcome::Refused(at, cause) => show_refused(*at, *cause, to),
+        Outcome::Without => Ok(to.push_str("without")?),
+    }
+}
+
+// The first of some values.
+fn show_first(values: &[Abs], to: &mut String) -> Result<(), Memory> {
+    match values.first() {
+        Some(value) => show_value(value, to),
+        None => Ok(to.push_str("no element")?),
+    }
 }
