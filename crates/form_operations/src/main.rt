@@ -1,0 +1,68 @@
+// Operators and functions of formulas on arguments of which some are open, and operations on affine forms. Each line of the input is a
+// call, and its answer is printed. A line that begins with `#` says what the next ones show; it is printed as it stands.
+//
+// A semicolon stands between two arguments. `x` and `y` are the first two decisions, `2x` is twice the first one, `d2` is the third, `t` is
+// the test x >= 0, a text has an apostrophe in front, and an area is its size and, behind a bar each, its values. A form is printed as its
+// constant and, behind a plus each, its terms.
+#![tactic(auto)]
+
+mod called;
+mod forms;
+mod given;
+mod picked;
+mod shown;
+mod stop;
+
+use crate::called::{called, copied};
+use crate::forms::form_made;
+use crate::given::arguments;
+use crate::picked::{column_found, index_picked, match_picked};
+use crate::shown::{refusal_text, show_argument};
+use crate::stop::Stop;
+use std::alloc::{AllocError, Global};
+use std::io;
+
+fn main(rt: HostRuntime) -> io::Result<()> {
+    for line in rt.lines(rt.alloc()) {
+        let text = printed(rt.alloc(), line?.as_str())?;
+        println!(rt; "{text}")?;
+    }
+    Ok(())
+}
+
+// What is printed for a line.
+fn printed(alloc: Global, line: &str) -> Result<String, AllocError> {
+    if line.starts_with('#') {
+        return String::from_str(alloc, line);
+    }
+    match answer(alloc, line) {
+        Ok(text) => Ok(text),
+        Err(Stop::Refused(refusal)) => String::from_str(alloc, refusal_text(refusal)),
+        Err(Stop::Unread) => String::from_str(alloc, "unread"),
+        Err(Stop::Memory) => Err(AllocError),
+    }
+}
+
+// The answer to a call.
+fn answer(alloc: Global, line: &str) -> Result<String, Stop> {
+    let Some((name, rest)) = line.split_once(' ') else {
+        return Err(Stop::Unread);
+    };
+    match name {
+        "form" => form_made(alloc, rest),
+        "index" => index_picked(alloc, rest),
+        "match" => match_picked(alloc, rest),
+        "vlookup" => column_found(alloc, rest),
+        "copy" | "values" | "known" => copied(alloc, name, rest),
+        _ => operated(alloc, name, rest),
+    }
+}
+
+// The answer of an operator or of a function.
+fn operated(alloc: Global, name: &str, rest: &str) -> Result<String, Stop> {
+    let args = arguments(alloc, rest)?;
+    let value = called(alloc, name, &args)?;
+    let mut text = String::new(alloc);
+    show_argument(&value, &mut text)?;
+    Ok(text)
+}

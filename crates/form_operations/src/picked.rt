@@ -1,0 +1,59 @@
+// What INDEX, MATCH and VLOOKUP pick.
+
+use crate::given::{arguments, size_in, whole};
+use crate::stop::Stop;
+use form_areas::{index_at, lookup_at, record_at};
+use sheet_funcs::Pick;
+use std::alloc::Global;
+
+/// The part of a grid that INDEX picks: behind the size of the grid stand one or two places.
+pub(crate) fn index_picked(alloc: Global, rest: &str) -> Result<String, Stop> {
+    let Some((size, places)) = rest.split_once(' ') else {
+        return Err(Stop::Unread);
+    };
+    let (rows, columns) = size_in(size)?;
+    let places = arguments(alloc, places)?;
+    if rows == 0 || columns == 0 || places.len() < 1 || places.len() > 2 {
+        return Err(Stop::Unread);
+    }
+    shown(alloc, index_at(rows, columns, &places)?)
+}
+
+/// The place at which MATCH finds a key: behind the key stand the keys and the kind.
+pub(crate) fn match_picked(alloc: Global, rest: &str) -> Result<String, Stop> {
+    let args = arguments(alloc, rest)?;
+    let [key, keys, kind] = args.as_slice() else {
+        return Err(Stop::Unread);
+    };
+    shown(alloc, lookup_at(alloc, key, keys, kind)?)
+}
+
+// The first row and column of a part and the last ones, from 0.
+fn shown(alloc: Global, pick: Pick) -> Result<String, Stop> {
+    match pick {
+        Pick::Part(top, left, bottom, right) => {
+            Ok(format!(in alloc; "{top},{left},{bottom},{right}")?)
+        }
+        Pick::Fault(kind) => Ok(String::from_str(alloc, kind.text())?),
+    }
+}
+
+/// The record and the field that VLOOKUP finds: behind the number of fields stand the key, the keys, the field and, where it is said,
+/// whether the keys are sorted.
+pub(crate) fn column_found(alloc: Global, rest: &str) -> Result<String, Stop> {
+    let Some((fields, args)) = rest.split_once(' ') else {
+        return Err(Stop::Unread);
+    };
+    let fields = whole(fields)?;
+    let args = arguments(alloc, args)?;
+    let [key, keys, field, sorted @ ..] = args.as_slice() else {
+        return Err(Stop::Unread);
+    };
+    if keys.elements().len() > 9 {
+        return Err(Stop::Unread);
+    }
+    match record_at(alloc, fields, keys.elements(), key, field, sorted)? {
+        Ok((record, field)) => Ok(format!(in alloc; "{record},{field}")?),
+        Err(kind) => Ok(String::from_str(alloc, kind.text())?),
+    }
+}
