@@ -1,10 +1,10 @@
 use Rattle.std.proofs.Common.{◌+◌, ◌*◌}
 use Rattle.formula_ast.specs.Size.{all_count, node_count}
 use Rattle.formula_ast.specs.Tree.{trees}
-use Rattle.layer_tests.proofs.trees.+showing.Given as goal
+use Rattle.layer_answers.proofs.trees.+showing.Given as goal
 
 abbrev pub decreases-show_all : goal.decreases-show_all
 decreases-show_all l = 2 * all_count (trees l.exprs.now) + 1
 
-abbrev pub decreases-show : goal.decreases-show
-decreases-show l = 2 * node_count l.expr.now
+abbrev pub decreases-show_tree : goal.decreases-show_tree
+decreases-show_tree l = 2 * node_count l.expr.now
