@@ -1,5 +1,5 @@
 -- How a run over a workbook that is made up ends, and one that has no memory for its words.
-use Rattle.std.proofs.Common.{◌≡◌, ◌≢◌, ◌≤◌, ◌∷◌, [], ℕ, List, Option, Some, None, ap, arith, inl, inr, length, refl, subst, sym, ◌∙◌}
+use Rattle.std.proofs.Common.{◌≡◌, ◌≢◌, ◌∷◌, [], ℕ, List, Option, Some, None, ap, inl, inr, refl, subst, sym, ◌∙◌}
 use Rattle.std.specs.Prelude.{Bool, true, false, option_map, ◌⊎◌}
 use Rattle.solver_io.specs.Files.{Files}
 use Rattle.workbook.specs.State.{State}
@@ -12,7 +12,7 @@ use Rattle.session.specs.States.{Session, SessionState, opened}
 use Rattle.session.specs.Steps.{Applies, once_written}
 use Rattle.opensolver_cli.specs.Answering.{AnswersSize, Says, IsSinkFault, SolvesSize}
 use Rattle.opensolver_cli.specs.Completeness.{EndsExactly, IsEarly, IsWhole}
-use Rattle.opensolver_cli.specs.Headline.{EndsOver, IsCounted, RunsAs, usage_line}
+use Rattle.opensolver_cli.specs.Headline.{EndsOver, IsCounted, RunsAs}
 use Rattle.opensolver_cli.specs.MadeUp.{MadeUpEnds, SaysLine, made_up_line, status_by}
 use Rattle.opensolver_cli.specs.Outside.{IsFolderLeft, IsScriptLeft, Outside}
 use Rattle.command_line.specs.Read.{asked_read}
@@ -22,7 +22,6 @@ use Rattle.command_line.specs.Words.{Asked, Job, MadeUp, Script, default_budget,
 use Rattle.opensolver_cli.specs.declared.status.Status.{Status}
 use Rattle.opensolver_cli.specs.declared.status.Status.TheVariants as status
 use Rattle.opensolver_cli.proofs.RunLaws.{counted, memory_exactly, put_by_line}
-use Rattle.opensolver_cli.proofs.StepLaws.{takes_none}
 
 -- ---- the solve
 -- the sheet was solved, by a picker of this rule
@@ -97,7 +96,7 @@ pub asked_size : (size : ℕ) (read : words.Asked) (given : Option words.Asked) 
 asked_size size read given asked is size_is reads = ap (λ (z : words.Asked). Some (asked_read z)) (sym size_is) ∙ ap (option_map asked_read) (sym is) ∙ reads
 
 folder_left : (o : Outside) → IsFolderLeft o o
-folder_left o = record { files = refl; reads = refl; writes = refl }
+folder_left o = record { files = refl; reads = refl; writes = refl; wants = refl }
 
 script_left : (o : Outside) → IsScriptLeft o o
 script_left o = record { left = refl; reads = refl }
@@ -114,7 +113,7 @@ size_exactly size asked files left before after ends is h = subst (λ (z : Optio
 pub size_counted : (size : ℕ) (before after : Outside) (ends : Status) → IsFolderLeft before after → IsScriptLeft before after → SolvesSize size before.pieces after.pieces ends
     → IsSinkFault before.sink_writes after.sink_writes ends → IsCounted before after ends
 size_counted size before after ends folder script h cause =
-    counted before after ends (size_ends size before.pieces after.pieces ends h).1 (folder.reads, script.reads) (put_by_line before after ends folder.writes cause)
+    counted before after ends (size_ends size before.pieces after.pieces ends h).1 (folder.reads, script.reads) (put_by_line before after ends folder.writes folder.wants cause) (λ _. folder.files)
 
 -- ---- no memory for the words
 nothing_over : (job : Job) (o : Outside) (files : Option Files) (left : Option (List ℕ)) → EndsOver job files left o o status.Memory
@@ -124,8 +123,7 @@ nothing_over job o (Some files) (Some script) = (inl (record { printed = refl; f
 
 pub memory_runs : (asked : Option Asked) (o : Outside) → RunsAs asked o o status.Memory
 memory_runs None o =
-    let few : 0 ≤ length usage_line = omega arith in
-    (record { printed = (0, few, takes_none o.pieces); files = refl }, folder_left o, script_left o)
+    (record { printed = refl; files = refl }, folder_left o, script_left o)
 memory_runs (Some (Script job)) o = (nothing_over job o o.files o.left, λ big. (folder_left o, script_left o))
 memory_runs (Some (MadeUp size)) o = (inr (refl, record { printed = refl; files = refl }), folder_left o, script_left o)
 

@@ -1,8 +1,8 @@
 -- Answering one record.
-use Rattle.std.proofs.Common.{◌≡◌, ℕ, ◌≤◌, ◌∷◌, [], List, Option, arith, inl, inr, length, refl, subst, sym}
+use Rattle.std.proofs.Common.{◌≡◌, ℕ, ◌∷◌, [], List, Option, inl, inr, refl, subst, sym}
 use Rattle.std.specs.Prelude.{Bool, Err, Ok, Vec}
 use Rattle.std.specs.Global.{Global}
-use Rattle.solver_io.specs.Bytes.{PutCause, Takes, TakesSome}
+use Rattle.solver_io.specs.Bytes.{PutCause, PutWant, SinkTakes, Takes, TakesSome}
 use Rattle.solver_io.specs.Files.{Files}
 use Rattle.solver_io.specs.declared.ends.PutEnd.{PutEnd}
 use Rattle.solver_io.specs.declared.ends.PutEnd.TheVariants as put
@@ -15,10 +15,9 @@ use Rattle.commands.specs.declared.answer.Answer.TheVariants as answer
 use Rattle.node_pick.specs.Rules.{Rule}
 use Rattle.session.specs.States.{SessionState}
 use Rattle.session.specs.Steps.{Applies, Step, once_written}
-use Rattle.opensolver_cli.specs.Answering.{AnswersRecord, IsAnswered, IsCutInFolder, IsCutOff, IsRefusedAt, IsSaved, SavesAnswer}
+use Rattle.opensolver_cli.specs.Answering.{AnswersRecord, IsAnswered, IsCutInFolder, IsCutOff, IsRefusedAt, IsSaved, IsUnprinted, SavesAnswer}
 use Rattle.opensolver_cli.specs.Outside.{Written, put_in}
 use Rattle.command_line.specs.Words.{Named}
-use Rattle.opensolver_cli.proofs.StepLaws.{takes_none}
 
 -- what a command did is the step of its record, once the files are written
 stepped : (rule : Rule) (old applied new : SessionState) (fields : Record) (s : Spoken) (a : Answer) → s ≡ command_of fields → Applies rule old s a applied → new ≡ once_written a applied → Step rule old (command_of fields) a new
@@ -47,16 +46,22 @@ cut_in_folder rule named old applied fields s a v w e is does h printed =
       printed = printed;
     }
 
-pub not_saved : (rule : Rule) (named : Named) (old applied new : SessionState) (fields : Record) (s : Spoken) (a : Answer) (before after : Option Files) (writes writes_now : ℕ) (pieces : Option (List (List ℕ))) (faults : ℕ) (e : PutEnd)
-    → s ≡ command_of fields → Applies rule old s a applied → SavesAnswer named a before after (Err e) → PutCause {T = Unit {0}} writes writes_now (Err e)
-    → AnswersRecord rule named old fields (put_in before writes pieces faults) (put_in after writes_now pieces faults) new (Err e)
-not_saved rule named old applied new fields s a before after writes writes_now pieces faults put.Failed is does h cause =
-    inr (cut_in_folder rule named old applied fields s a (put_in before writes pieces faults) (put_in after writes_now pieces faults) put.Failed is does h refl, record { rose = cause; sink = refl })
-not_saved rule named old applied new fields s a before after writes writes_now pieces faults put.Memory is does h cause =
-    (inr (inl (cut_in_folder rule named old applied fields s a (put_in before writes pieces faults) (put_in after writes_now pieces faults) put.Memory is does h refl)), record { folder = cause; sink = refl })
+pub not_saved : (rule : Rule) (named : Named) (old applied new : SessionState) (fields : Record) (s : Spoken) (a : Answer) (before after : Option Files) (writes wants writes_now wants_now : ℕ) (pieces : Option (List (List ℕ))) (faults : ℕ) (e : PutEnd)
+    → s ≡ command_of fields → Applies rule old s a applied → SavesAnswer named a before after (Err e) → PutCause {T = Unit {0}} writes writes_now (Err e) → PutWant {T = Unit {0}} wants wants_now (Err e)
+    → AnswersRecord rule named old fields (put_in before writes wants pieces faults) (put_in after writes_now wants_now pieces faults) new (Err e)
+not_saved rule named old applied new fields s a before after writes wants writes_now wants_now pieces faults put.Failed is does h cause want =
+    inr (
+      cut_in_folder rule named old applied fields s a (put_in before writes wants pieces faults) (put_in after writes_now wants_now pieces faults) put.Failed is does h refl,
+      record { rose = cause; wants = want; sink = refl },
+    )
+not_saved rule named old applied new fields s a before after writes wants writes_now wants_now pieces faults put.Memory is does h cause want =
+    inl (
+      cut_in_folder rule named old applied fields s a (put_in before writes wants pieces faults) (put_in after writes_now wants_now pieces faults) put.Memory is does h refl,
+      record { rose = want; folder = cause; sink = refl },
+    )
 
 -- ---- a part of the line was printed
-pub cut_off : (rule : Rule) (named : Named) (old applied new : SessionState) (fields : Record) (s : Spoken) (a : Answer) (text : List ℕ) (v w : Written) → s ≡ command_of fields → Applies rule old s a applied → new ≡ once_written a applied
+cut_off : (rule : Rule) (named : Named) (old applied new : SessionState) (fields : Record) (s : Spoken) (a : Answer) (text : List ℕ) (v w : Written) → s ≡ command_of fields → Applies rule old s a applied → new ≡ once_written a applied
     → IsSaved named a v w → text ≡ answer_text old.book.sheets a → TakesSome v.pieces w.pieces text → IsCutOff rule named old fields v w
 cut_off rule named old applied new fields s a text v w is does written saved text_is printed = record {
   answer = a;
@@ -67,25 +72,26 @@ cut_off rule named old applied new fields s a text v w is does written saved tex
 }
 
 -- whatever the error of its write
-pub written_off : (rule : Rule) (named : Named) (old new : SessionState) (fields : Record) (v w : Written) (e : PutEnd) → IsCutOff rule named old fields v w → w.folder_writes ≡ v.folder_writes
+pub not_taken : (rule : Rule) (named : Named) (old applied new : SessionState) (fields : Record) (s : Spoken) (a : Answer) (text : List ℕ) (v w : Written) (e : PutEnd) → s ≡ command_of fields → Applies rule old s a applied
+    → new ≡ once_written a applied → IsSaved named a v w → text ≡ answer_text old.book.sheets a → SinkTakes v.pieces w.pieces text (Err e) → w.folder_writes ≡ v.folder_writes → w.folder_wants ≡ v.folder_wants
     → PutCause {T = Unit {0}} v.sink_writes w.sink_writes (Err e) → AnswersRecord rule named old fields v w new (Err e)
-written_off rule named old new fields v w put.Failed off kept cause = inl (off, record { rose = cause; folder = kept })
-written_off rule named old new fields v w put.Memory off kept cause = (inl off, record { folder = kept; sink = cause })
-
--- there was no memory for the line
-pub not_printed : (rule : Rule) (named : Named) (old applied new : SessionState) (fields : Record) (s : Spoken) (a : Answer) (v w : Written) → s ≡ command_of fields → Applies rule old s a applied → new ≡ once_written a applied
-    → IsSaved named a v w → w.pieces ≡ v.pieces → w.folder_writes ≡ v.folder_writes → w.sink_writes ≡ v.sink_writes → AnswersRecord rule named old fields v w new (Err put.Memory)
-not_printed rule named old applied new fields s a v w is does written saved pieces folder sink =
-    let line = answer_text old.book.sheets a in
-    let few : 0 ≤ length line = omega arith in
-    let none : TakesSome v.pieces w.pieces line = (0, few, subst (λ (z : Option (List (List ℕ))). Takes v.pieces z []) (sym pieces) (takes_none v.pieces)) in
-    (inl (cut_off rule named old applied new fields s a line v w is does written saved refl none), record { folder = folder; sink = sink })
+not_taken rule named old applied new fields s a text v w put.Failed is does written saved text_is taken kept wants cause =
+    inl (cut_off rule named old applied new fields s a text v w is does written saved text_is taken, record { rose = cause; folder = kept; wants = wants })
+not_taken rule named old applied new fields s a text v w put.Memory is does written saved text_is taken kept wants cause =
+    let unprinted : IsUnprinted rule named old fields v w = record {
+      answer = a;
+      new = new;
+      step = stepped rule old applied new fields s a is does written;
+      saved = saved;
+      printed = taken;
+    } in
+    inr (inl unprinted, record { folder = kept; wants = wants; sink = cause })
 
 -- ---- the line was printed
 pub said_whole : (rule : Rule) (named : Named) (old applied new : SessionState) (fields : Record) (s : Spoken) (a : Answer) (text : List ℕ) (v w : Written) (refused : Bool) → s ≡ command_of fields → Applies rule old s a applied
     → new ≡ once_written a applied → IsSaved named a v w → text ≡ answer_text old.book.sheets a → Takes v.pieces w.pieces (text ∷ []) → refused ≡ is_refusal old.book.sheets a
-    → w.folder_writes ≡ v.folder_writes → w.sink_writes ≡ v.sink_writes → AnswersRecord rule named old fields v w new (Ok refused)
-said_whole rule named old applied new fields s a text v w refused is does written saved text_is printed refusal folder sink =
+    → w.folder_writes ≡ v.folder_writes → w.folder_wants ≡ v.folder_wants → w.sink_writes ≡ v.sink_writes → AnswersRecord rule named old fields v w new (Ok refused)
+said_whole rule named old applied new fields s a text v w refused is does written saved text_is printed refusal folder wants sink =
     let answered : IsAnswered rule named old fields v w new refused = record {
       answer = a;
       step = stepped rule old applied new fields s a is does written;
@@ -93,4 +99,4 @@ said_whole rule named old applied new fields s a text v w refused is does writte
       printed = subst (λ (z : List ℕ). Takes v.pieces w.pieces (z ∷ [])) text_is printed;
       refusal = sym refusal;
     } in
-    (answered, record { folder = folder; sink = sink })
+    (answered, record { folder = folder; wants = wants; sink = sink })

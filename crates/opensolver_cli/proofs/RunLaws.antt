@@ -8,9 +8,9 @@ use Rattle.workbook.specs.State.{State}
 use Rattle.opensolver_cli.specs.Answering.{AnswersRecords, EndsAnswering, IsPutFault, IsSinkFault, Says}
 use Rattle.opensolver_cli.specs.Completeness.{EndsExactly, EndsFor, EndsForTold, IsEarly, IsWhole}
 use Rattle.opensolver_cli.specs.Findings.{book_in, found}
-use Rattle.opensolver_cli.specs.Headline.{EndsAs, EndsOver, IsCounted, IsReadFault, LeavesTooMany, RunsAs, setting_of}
+use Rattle.opensolver_cli.specs.Headline.{EndsAs, EndsOver, IsCounted, IsReadFault, LeavesTooMany, RunsAs, SavesNothing, setting_of}
 use Rattle.opensolver_cli.specs.Inputs.{FindsAll, IsFaultOf, IsSourceLeft}
-use Rattle.opensolver_cli.specs.Outside.{FolderFailed, IsFolderLeft, IsScriptLeft, NoneFailed, Outside, SinkFailed, Written, put_in, written}
+use Rattle.opensolver_cli.specs.Outside.{FolderFailed, FolderWantsMemory, IsFolderLeft, IsScriptLeft, NoneFailed, Outside, SinkFailed, Written, put_in, written}
 use Rattle.opensolver_cli.specs.Stops.{status_of, stop_line}
 use Rattle.command_line.specs.Words.{Asked, Job, Named, Script}
 use Rattle.opensolver_cli.specs.declared.status.Status.{Status}
@@ -55,8 +55,8 @@ answered job files script before after book records status.Refused is h = (book,
 answered job files script before after book records status.Usage is h = absurd h
 answered job files script before after book records status.ReadFault is h = absurd h
 answered job files script before after book records status.WriteFault is h = inr (book, records, record { finds = is.0; to_its_end = is.1 }, h)
-answered job files script before after book records status.Memory is (inl nothing) = inl (record { printed = nothing.pieces; files = nothing.files })
-answered job files script before after book records status.Memory is (inr cut) = inr (inr (book, records, record { finds = is.0; to_its_end = is.1 }, cut))
+answered job files script before after book records status.Memory is (inl nothing) = inl (record { printed = nothing.0.pieces; files = nothing.0.files })
+answered job files script before after book records status.Memory is (inr cut) = inr (book, records, record { finds = is.0; to_its_end = is.1 }, cut)
 answered job files script before after book records status.Limit is h = absurd h
 answered job files script before after book records status.BadInput is h = absurd h
 
@@ -69,17 +69,21 @@ all_answered job (Some files) None before after book records r is h = tt
 all_answered job (Some files) (Some script) before after book records r is h = answered job files script before after book records r is h
 
 -- the records are answered over the folder as finding has left it, which is as it was
-pub answered_over : (job : Job) (book : State) (records : List Record) (found_files files_before : Option Files) (found_writes writes : ℕ) (pieces : Option (List (List ℕ))) (faults : ℕ) (after : Written) (r : Status) → found_files ≡ files_before
-    → found_writes ≡ writes → IfSome found_files (λ files. AnswersRecords (setting_of job book files) records (put_in found_files found_writes pieces faults) after r)
-    → IfSome files_before (λ files. AnswersRecords (setting_of job book files) records (put_in files_before writes pieces faults) after r)
-answered_over job book records found_files files_before found_writes writes pieces faults after r same same_writes h =
-    subst (λ (n : ℕ). IfSome files_before (λ files. AnswersRecords (setting_of job book files) records (put_in files_before n pieces faults) after r)) same_writes
-    (subst (λ (z : Option Files). IfSome z (λ files. AnswersRecords (setting_of job book files) records (put_in z found_writes pieces faults) after r)) same h)
+pub answered_over : (job : Job) (book : State) (records : List Record) (found_files files_before : Option Files) (found_writes found_wants writes wants : ℕ) (pieces : Option (List (List ℕ))) (faults : ℕ) (after : Written) (r : Status)
+    → found_files ≡ files_before → found_writes ≡ writes → found_wants ≡ wants
+    → IfSome found_files (λ files. AnswersRecords (setting_of job book files) records (put_in found_files found_writes found_wants pieces faults) after r)
+    → IfSome files_before (λ files. AnswersRecords (setting_of job book files) records (put_in files_before writes wants pieces faults) after r)
+answered_over job book records found_files files_before found_writes found_wants writes wants pieces faults after r same same_writes same_wants h =
+    subst (λ (k : ℕ). IfSome files_before (λ files. AnswersRecords (setting_of job book files) records (put_in files_before writes k pieces faults) after r)) same_wants
+    (subst (λ (n : ℕ). IfSome files_before (λ files. AnswersRecords (setting_of job book files) records (put_in files_before n found_wants pieces faults) after r)) same_writes
+    (subst (λ (z : Option Files). IfSome z (λ files. AnswersRecords (setting_of job book files) records (put_in z found_writes found_wants pieces faults) after r)) same h))
 
-pub fault_over : (found_files files_before : Option Files) (found_writes writes : ℕ) (pieces : Option (List (List ℕ))) (faults : ℕ) (after : Written) (r : Status) → found_files ≡ files_before → found_writes ≡ writes
-    → IsPutFault (put_in found_files found_writes pieces faults) after r → IsPutFault (put_in files_before writes pieces faults) after r
-fault_over found_files files_before found_writes writes pieces faults after r same same_writes h =
-    subst (λ (n : ℕ). IsPutFault (put_in files_before n pieces faults) after r) same_writes (subst (λ (z : Option Files). IsPutFault (put_in z found_writes pieces faults) after r) same h)
+pub fault_over : (found_files files_before : Option Files) (found_writes found_wants writes wants : ℕ) (pieces : Option (List (List ℕ))) (faults : ℕ) (after : Written) (r : Status) → found_files ≡ files_before → found_writes ≡ writes
+    → found_wants ≡ wants → IsPutFault (put_in found_files found_writes found_wants pieces faults) after r → IsPutFault (put_in files_before writes wants pieces faults) after r
+fault_over found_files files_before found_writes found_wants writes wants pieces faults after r same same_writes same_wants h =
+    subst (λ (k : ℕ). IsPutFault (put_in files_before writes k pieces faults) after r) same_wants
+    (subst (λ (n : ℕ). IsPutFault (put_in files_before n found_wants pieces faults) after r) same_writes
+    (subst (λ (z : Option Files). IsPutFault (put_in z found_writes found_wants pieces faults) after r) same h))
 
 pub run_answered : (job : Job) (before after : Outside) (book : State) (records : List Record) (r : Status) → IsFound job.named before after
     → IfSome before.files (λ files. IfSome before.left (λ script. FindsAll job.named files script after.left (Ok (book, records))))
@@ -95,7 +99,7 @@ stopped job files script before after (BadInput of why) status.Usage is h same =
 stopped job files script before after stop status.Limit is h same = (stop, is, (h.0, record { printed = h.1; files = same }))
 stopped job files script before after stop status.BadInput is h same = (stop, is, (h.0, record { printed = h.1; files = same }))
 stopped job files script before after stop status.WriteFault is h same = inl (stop, is, record { printed = h; files = same })
-stopped job files script before after stop status.Memory is h same = inr (inl (stop, is, record { printed = h; files = same }))
+stopped job files script before after stop status.Memory is h same = inl (record { printed = h; files = same })
 stopped job files script before after (TooMuch kind) status.Done is h same = absurd (cc h.0)
 stopped job files script before after (BadInput of why) status.Done is h same = absurd (cc h.0)
 stopped job files script before after (TooMuch kind) status.Refused is h same = absurd (cc h.0)
@@ -185,63 +189,85 @@ stopped_exactly job (Some files) (Some script) after stop line u v r is h = rw i
 
 -- ---- counts
 -- a line changes no file
-pub put_by_line : (before after : Outside) (r : Status) → after.folder_writes ≡ before.folder_writes → IsSinkFault before.sink_writes after.sink_writes r → IsPutFault (written before) (written after) r
-put_by_line before after status.WriteFault writes sink = inl (record { rose = sink; folder = writes })
-put_by_line before after status.Done writes sink = record { folder = writes; sink = sink }
-put_by_line before after status.Refused writes sink = record { folder = writes; sink = sink }
-put_by_line before after status.Usage writes sink = record { folder = writes; sink = sink }
-put_by_line before after status.ReadFault writes sink = record { folder = writes; sink = sink }
-put_by_line before after status.Memory writes sink = record { folder = writes; sink = sink }
-put_by_line before after status.Limit writes sink = record { folder = writes; sink = sink }
-put_by_line before after status.BadInput writes sink = record { folder = writes; sink = sink }
+pub put_by_line : (before after : Outside) (r : Status) → after.folder_writes ≡ before.folder_writes → after.folder_wants ≡ before.folder_wants → IsSinkFault before.sink_writes after.sink_writes r
+    → IsPutFault (written before) (written after) r
+put_by_line before after status.WriteFault writes wants sink = inl (record { rose = sink; folder = writes; wants = wants })
+put_by_line before after status.Done writes wants sink = record { folder = writes; wants = wants; sink = sink }
+put_by_line before after status.Refused writes wants sink = record { folder = writes; wants = wants; sink = sink }
+put_by_line before after status.Usage writes wants sink = record { folder = writes; wants = wants; sink = sink }
+put_by_line before after status.ReadFault writes wants sink = record { folder = writes; wants = wants; sink = sink }
+put_by_line before after status.Memory writes wants sink = inl (record { folder = writes; wants = wants; sink = sink })
+put_by_line before after status.Limit writes wants sink = record { folder = writes; wants = wants; sink = sink }
+put_by_line before after status.BadInput writes wants sink = record { folder = writes; wants = wants; sink = sink }
 
 rose : (u w : Written) (r : Status) → IsPutFault u w r → r ≡ status.WriteFault → SinkFailed u w ⊎ FolderFailed u w
 rose u w r h e = rw e at h
 
-kept : (u w : Written) (r : Status) → IsPutFault u w r → r ≢ status.WriteFault → NoneFailed u w
-kept u w status.WriteFault h other = absurd (other refl)
-kept u w status.Done h other = h
-kept u w status.Refused h other = h
-kept u w status.Usage h other = h
-kept u w status.ReadFault h other = h
-kept u w status.Memory h other = h
-kept u w status.Limit h other = h
-kept u w status.BadInput h other = h
+wanted : (u w : Written) (r : Status) → IsPutFault u w r → r ≡ status.Memory → NoneFailed u w ⊎ FolderWantsMemory u w
+wanted u w r h e = rw e at h
 
-pub counted : (before after : Outside) (r : Status) → r ≢ status.ReadFault → (after.folder_reads ≡ before.folder_reads) × (after.script_reads ≡ before.script_reads) → IsPutFault (written before) (written after) r → IsCounted before after r
-counted before after r other reads put = record {
+kept : (u w : Written) (r : Status) → IsPutFault u w r → r ≢ status.WriteFault → r ≢ status.Memory → NoneFailed u w
+kept u w status.WriteFault h other memory = absurd (other refl)
+kept u w status.Memory h other memory = absurd (memory refl)
+kept u w status.Done h other memory = h
+kept u w status.Refused h other memory = h
+kept u w status.Usage h other memory = h
+kept u w status.ReadFault h other memory = h
+kept u w status.Limit h other memory = h
+kept u w status.BadInput h other memory = h
+
+pub counted : (before after : Outside) (r : Status) → r ≢ status.ReadFault → (after.folder_reads ≡ before.folder_reads) × (after.script_reads ≡ before.script_reads) → IsPutFault (written before) (written after) r
+    → (SavesNothing r → after.files ≡ before.files) → IsCounted before after r
+counted before after r other reads put unsaved = record {
   read_fault = λ e. absurd (other e);
   quiet = λ e. absurd (other e);
   no_read_fault = λ _. reads;
   write_fault = rose (written before) (written after) r put;
+  memory = wanted (written before) (written after) r put;
   no_write_fault = kept (written before) (written after) r put;
+  unsaved = unsaved;
 }
+
+-- records that are answered may save
+nothing_saved : (r : Status) → EndsAnswering r → ¬ (SavesNothing r)
+nothing_saved status.Done h n = n
+nothing_saved status.Refused h n = n
+nothing_saved status.WriteFault h n = n
+nothing_saved status.Memory h n = n
+nothing_saved status.Usage h n = h
+nothing_saved status.ReadFault h n = h
+nothing_saved status.Limit h n = h
+nothing_saved status.BadInput h n = h
 
 pub answered_counted : (before after : Outside) (r : Status) → EndsAnswering r → (after.folder_reads ≡ before.folder_reads) × (after.script_reads ≡ before.script_reads) → IsPutFault (written before) (written after) r
     → IsCounted before after r
-answered_counted before after r h reads put = counted before after r (whole_or_early r h).2 reads put
+answered_counted before after r h reads put = counted before after r (whole_or_early r h).2 reads put (λ n. absurd (nothing_saved r h n))
 
 pub said_counted : (stop : Stop) (line : List ℕ) (before after : Outside) (r : Status) → Says line (status_of stop) before.pieces after.pieces r
-    → (after.folder_reads ≡ before.folder_reads) × (after.script_reads ≡ before.script_reads) → after.folder_writes ≡ before.folder_writes
-    → IsSinkFault before.sink_writes after.sink_writes r → IsCounted before after r
-said_counted stop line before after r h reads writes sink = counted before after r (said stop line before.pieces after.pieces r h).2 reads (put_by_line before after r writes sink)
+    → (after.folder_reads ≡ before.folder_reads) × (after.script_reads ≡ before.script_reads) → after.folder_writes ≡ before.folder_writes → after.folder_wants ≡ before.folder_wants
+    → IsSinkFault before.sink_writes after.sink_writes r → after.files ≡ before.files → IsCounted before after r
+said_counted stop line before after r h reads writes wants sink files =
+    counted before after r (said stop line before.pieces after.pieces r h).2 reads (put_by_line before after r writes wants sink) (λ _. files)
 
 pub memory_counted : (before after : Outside) → (after.folder_reads ≡ before.folder_reads) × (after.script_reads ≡ before.script_reads) → after.folder_writes ≡ before.folder_writes
-    → after.sink_writes ≡ before.sink_writes → IsCounted before after status.Memory
-memory_counted before after reads writes sink = counted before after status.Memory (λ e. cc e) reads (record { folder = writes; sink = sink })
+    → after.folder_wants ≡ before.folder_wants → after.sink_writes ≡ before.sink_writes → IsCounted before after status.Memory
+memory_counted before after reads writes wants sink =
+    counted before after status.Memory (λ e. cc e) reads (inl (record { folder = writes; wants = wants; sink = sink })) (λ n. absurd n)
 
 fault_of : (before after : Outside) → IsFaultOf before.folder_reads after.folder_reads before.left after.left before.script_reads after.script_reads → IsReadFault before after
 fault_of before after (inl h) = inl (h.0, script_left before after h.1)
 fault_of before after (inr h) = inr h
 
 pub read_fault_counted : (before after : Outside) → IsFaultOf before.folder_reads after.folder_reads before.left after.left before.script_reads after.script_reads → after.folder_writes ≡ before.folder_writes
-    → after.sink_writes ≡ before.sink_writes → after.pieces ≡ before.pieces → IsCounted before after status.ReadFault
-read_fault_counted before after h writes sink pieces = record {
+    → after.folder_wants ≡ before.folder_wants → after.sink_writes ≡ before.sink_writes → after.pieces ≡ before.pieces → after.files ≡ before.files → IsCounted before after status.ReadFault
+read_fault_counted before after h writes wants sink pieces files = record {
   read_fault = λ _. fault_of before after h;
   quiet = λ _. pieces;
   no_read_fault = λ other. absurd (other refl);
   write_fault = λ e. cc e;
-  no_write_fault = λ _. record { folder = writes; sink = sink };
+  memory = λ e. cc e;
+  no_write_fault = λ _ _. record { folder = writes; wants = wants; sink = sink };
+  unsaved = λ _. files;
 }
 
 -- ---- words that ask for a script

@@ -16,10 +16,10 @@ use Rattle.commands.specs.declared.answer.Answer.{Answer}
 use Rattle.node_pick.specs.Rules.{Rule}
 use Rattle.session.specs.States.{Session, SessionState, opened}
 use Rattle.session.specs.Steps.{Step}
-use Rattle.opensolver_cli.specs.Answering.{AnswersRecord, AnswersRecords, IsAnswered, IsCutInFolder, IsCutOff, IsSaved, NothingIsWritten}
-use Rattle.opensolver_cli.specs.Courses.{AllAnswered, CutShort, EndsBefore, EndsInFolder, EndsInSink, Setting, sheets_of}
+use Rattle.opensolver_cli.specs.Answering.{AnswersRecord, AnswersRecords, IsAnswered, IsCutInFolder, IsCutOff, IsPutFault, IsSaved, IsUnprinted, NothingIsWritten}
+use Rattle.opensolver_cli.specs.Courses.{AllAnswered, CutShort, EndsBefore, EndsInFolder, EndsInSink, EndsUnprinted, Setting, sheets_of}
 use Rattle.opensolver_cli.specs.Headline.{setting_of}
-use Rattle.opensolver_cli.specs.Outside.{FolderFailed, NoneFailed, SinkFailed, Written}
+use Rattle.opensolver_cli.specs.Outside.{FolderFailed, FolderWantsMemory, NoneFailed, SinkFailed, Written}
 use Rattle.command_line.specs.Words.{Job, Named, rule_of}
 use Rattle.opensolver_cli.specs.Worlds.{Answered, World, files_after, lines_of, none, more, with_saved, word_of}
 use Rattle.opensolver_cli.specs.declared.status.Status.TheVariants as status
@@ -45,7 +45,7 @@ element [] i a h = cc
 element (x ∷ xs) zero a h = cc
 element (x ∷ xs) (suc i) a h = element xs i a h
 
-pub takes_none : (w : Option (List (List ℕ))) → Takes w w []
+takes_none : (w : Option (List (List ℕ))) → Takes w w []
 takes_none None = tt
 takes_none (Some xs) = sym (append-nil xs)
 
@@ -68,13 +68,16 @@ told old None name h = absurd h
 told old (Some new) name h = (new, refl, h)
 
 none_then_none : (u v w : Written) → NoneFailed u v → NoneFailed v w → NoneFailed u w
-none_then_none u v w a b = record { folder = b.folder ∙ a.folder; sink = b.sink ∙ a.sink }
+none_then_none u v w a b = record { folder = b.folder ∙ a.folder; wants = b.wants ∙ a.wants; sink = b.sink ∙ a.sink }
 
 none_then_sink : (u v w : Written) → NoneFailed u v → SinkFailed v w → SinkFailed u w
-none_then_sink u v w a b = record { rose = subst (λ (n : ℕ). Rose n w.sink_writes) a.sink b.rose; folder = b.folder ∙ a.folder }
+none_then_sink u v w a b = record { rose = subst (λ (n : ℕ). Rose n w.sink_writes) a.sink b.rose; folder = b.folder ∙ a.folder; wants = b.wants ∙ a.wants }
 
 none_then_folder : (u v w : Written) → NoneFailed u v → FolderFailed v w → FolderFailed u w
-none_then_folder u v w a b = record { rose = subst (λ (n : ℕ). Rose n w.folder_writes) a.folder b.rose; sink = b.sink ∙ a.sink }
+none_then_folder u v w a b = record { rose = subst (λ (n : ℕ). Rose n w.folder_writes) a.folder b.rose; wants = b.wants ∙ a.wants; sink = b.sink ∙ a.sink }
+
+none_then_wants : (u v w : Written) → NoneFailed u v → FolderWantsMemory v w → FolderWantsMemory u w
+none_then_wants u v w a b = record { rose = subst (λ (n : ℕ). Rose n w.folder_wants) a.wants b.rose; folder = b.folder ∙ a.folder; sink = b.sink ∙ a.sink }
 
 -- ---- refusals
 or_false : (a : Bool) → (a || false) ≡ a
@@ -166,6 +169,17 @@ in_sink setting m rs r u v w before are off = record {
   files_are = saved_over setting.named off.answer v w are.reached are.files_are off.saved;
 }
 
+-- nothing of its lines was printed
+unprinted : (setting : Setting) (m : SessionState) (rs : List Record) (r : Record) (u v w : Written) (before : Bool) (are : AreAnswered setting rs u v m before) (off : IsUnprinted (rule_of setting.pick) setting.named m r v w)
+    → EndsUnprinted setting (over are.reached m) r [] w.files
+unprinted setting m rs r u v w before are off = record {
+  answer = off.answer;
+  next = over (files_after setting.named are.reached off.answer) off.new;
+  answered = (off.step, refl);
+  nothing = refl;
+  files_are = saved_over setting.named off.answer v w are.reached are.files_are off.saved;
+}
+
 -- the folder refused a file of it
 in_folder : (setting : Setting) (m : SessionState) (rs : List Record) (r : Record) (u v w : Written) (before : Bool) (are : AreAnswered setting rs u v m before) (off : IsCutInFolder (rule_of setting.pick) setting.named m r v w)
     → EndsInFolder setting (over are.reached m) r [] w.files
@@ -219,17 +233,24 @@ cut_by_write setting m e rows i u v w before kept are (r, there, inr folder) =
     )
 
 -- memory ran out
-cut_by_memory : (setting : Setting) (m e : SessionState) (rows : List Record) (i : ℕ) (u v w : Written) (before : Bool) → AreAnswered setting (take i rows) u v m before
+cut_by_memory : (setting : Setting) (m e : SessionState) (rows : List Record) (i : ℕ) (u v w : Written) (before : Bool) → NoneFailed u v → AreAnswered setting (take i rows) u v m before
     → AnsweredAt (rule_of setting.pick) setting.named m rows i v w e (Err put.Memory) → AnswersRecords setting rows u w status.Memory
-cut_by_memory setting m e rows i u v w before are (r, there, (inl off, failed)) =
-    inr (cut (λ x fields part. EndsInSink setting x fields part w.files ⊎ (EndsInFolder setting x fields part w.files ⊎ EndsBefore x part w.files)) setting m rows i r u v w before
-    (part_of off.printed.0 (answer_text m.book.sheets off.answer)) there are (inl (in_sink setting m (take i rows) r u v w before are off)) off.printed.2)
-cut_by_memory setting m e rows i u v w before are (r, there, (inr (inl off), failed)) =
-    inr (cut (λ x fields part. EndsInSink setting x fields part w.files ⊎ (EndsInFolder setting x fields part w.files ⊎ EndsBefore x part w.files)) setting m rows i r u v w before
-    [] there are (inr (inl (in_folder setting m (take i rows) r u v w before are off))) (takes_same v.pieces w.pieces off.printed))
-cut_by_memory setting m e rows i u v w before are (r, there, (inr (inr nothing), failed)) =
-    inr (cut (λ x fields part. EndsInSink setting x fields part w.files ⊎ (EndsInFolder setting x fields part w.files ⊎ EndsBefore x part w.files)) setting m rows i r u v w before
-    [] there are (inr (inr (before_it setting m (take i rows) u v w before are nothing))) (takes_same v.pieces w.pieces nothing.pieces))
+cut_by_memory setting m e rows i u v w before kept are (r, there, inl (off, wanted)) =
+    let short =
+    cut (λ x fields part. EndsInFolder setting x fields part w.files) setting m rows i r u v w before [] there are (in_folder setting m (take i rows) r u v w before are off) (takes_same v.pieces w.pieces off.printed)
+    in
+    inr (inl (short, none_then_wants u v w kept wanted))
+cut_by_memory setting m e rows i u v w before kept are (r, there, inr (inl off, quiet)) =
+    let short =
+    cut (λ x fields part. EndsUnprinted setting x fields part w.files ⊎ EndsBefore x part w.files) setting m rows i r u v w before [] there are (inl (unprinted setting m (take i rows) r u v w before are off))
+    (takes_same v.pieces w.pieces off.printed)
+    in
+    inr (inr (short, none_then_none u v w kept quiet))
+cut_by_memory setting m e rows i u v w before kept are (r, there, inr (inr nothing, quiet)) =
+    let short =
+    cut (λ x fields part. EndsUnprinted setting x fields part w.files ⊎ EndsBefore x part w.files) setting m rows i r u v w before [] there are (inr (before_it setting m (take i rows) u v w before are nothing)) (takes_same v.pieces w.pieces nothing.pieces)
+    in
+    inr (inr (short, none_then_none u v w kept quiet))
 
 -- all records were answered
 all_answered : (setting : Setting) (m : SessionState) (rows : List Record) (i : ℕ) (u v : Written) (refused : Bool) → length rows ≤ i → AreAnswered setting (take i rows) u v m refused → AllAnswered setting rows u v refused
@@ -272,12 +293,21 @@ write_failed job book (Some files) m e rows i u v w before x failed kept are h =
     (same_end (rule_of job.pick) job.named m rows i v w e x put.Failed failed h)
 
 -- memory ran out at it
-pub memory_failed : (job : Job) (book : State) (content : Option Files) (m e : SessionState) (rows : List Record) (i : ℕ) (u v w : Written) (before : Bool) (x : PutEnd) → x ≡ put.Memory
+pub memory_failed : (job : Job) (book : State) (content : Option Files) (m e : SessionState) (rows : List Record) (i : ℕ) (u v w : Written) (before : Bool) (x : PutEnd) → x ≡ put.Memory → NoneFailed u v
     → AreAnsweredTold job book content (take i rows) u v m before → AnsweredAt (rule_of job.pick) job.named m rows i v w e (Err x) → IfSome content (λ files. AnswersRecords (setting_of job book files) rows u w status.Memory)
-memory_failed job book None m e rows i u v w before x failed are h = tt
-memory_failed job book (Some files) m e rows i u v w before x failed are h =
-    cut_by_memory (setting_of job book files) m e rows i u v w before are
+memory_failed job book None m e rows i u v w before x failed kept are h = tt
+memory_failed job book (Some files) m e rows i u v w before x failed kept are h =
+    cut_by_memory (setting_of job book files) m e rows i u v w before kept are
     (same_end (rule_of job.pick) job.named m rows i v w e x put.Memory failed h)
+
+-- what the counts say then
+memory_wanted : (here : Rule) (named : Named) (m e : SessionState) (rows : List Record) (i : ℕ) (u v w : Written) → NoneFailed u v → AnsweredAt here named m rows i v w e (Err put.Memory) → IsPutFault u w status.Memory
+memory_wanted here named m e rows i u v w kept (r, there, inl (off, wanted)) = inr (none_then_wants u v w kept wanted)
+memory_wanted here named m e rows i u v w kept (r, there, inr (off, quiet)) = inl (none_then_none u v w kept quiet)
+
+pub memory_counts : (here : Rule) (named : Named) (m e : SessionState) (rows : List Record) (i : ℕ) (u v w : Written) (x : PutEnd) → x ≡ put.Memory → NoneFailed u v → AnsweredAt here named m rows i v w e (Err x)
+    → IsPutFault u w status.Memory
+memory_counts here named m e rows i u v w x failed kept h = memory_wanted here named m e rows i u v w kept (same_end here named m rows i v w e x put.Memory failed h)
 
 -- none is left
 pub all_were_answered : (job : Job) (book : State) (content : Option Files) (m : SessionState) (rows : List Record) (i : ℕ) (u v : Written) (refused all : Bool) → refused ≡ all → length rows ≤ i

@@ -19,9 +19,9 @@ use Rattle.command_line.specs.Words.{default_budget, depth, rule_of}
 use Rattle.made_up_books.specs.MadeUp.{made_up, sheet_name}
 use Rattle.session.specs.States.{SessionState, opened}
 use Rattle.session.specs.Steps.{Step}
-use Rattle.opensolver_cli.specs.Courses.{AllAnswered, CutShort, EndsBefore, EndsInFolder, EndsInSink, Setting}
+use Rattle.opensolver_cli.specs.Courses.{AllAnswered, IsCutByMemory, IsCutByWrite, Setting}
 use Rattle.opensolver_cli.specs.MadeUp.{made_up_line, status_by}
-use Rattle.opensolver_cli.specs.Outside.{FolderFailed, NoneFailed, SinkFailed, Written}
+use Rattle.opensolver_cli.specs.Outside.{FolderFailed, FolderWantsMemory, NoneFailed, SinkFailed, Written}
 use Rattle.command_line.specs.Words.{Named}
 use Rattle.opensolver_cli.specs.Worlds.{files_after, with_saved, word_of}
 use Rattle.opensolver_cli.specs.declared.status.Status.{Status}
@@ -68,6 +68,14 @@ pub record IsCutOff (rule : Rule) (named : Named) (old : SessionState) (fields :
   pub saved : IsSaved named answer before after
   pub printed : TakesSome before.pieces after.pieces (answer_text old.book.sheets answer)
 
+-- the record was answered, what it saves is saved, and nothing printed
+pub record IsUnprinted (rule : Rule) (named : Named) (old : SessionState) (fields : Record) (before after : Written) : Type 0 where
+  pub answer : Answer
+  pub new : SessionState
+  pub step : Step rule old (command_of fields) answer new
+  pub saved : IsSaved named answer before after
+  pub printed : after.pieces ≡ before.pieces
+
 -- the folder refused one of the files that the record saves, and nothing is printed
 pub record IsCutInFolder (rule : Rule) (named : Named) (old : SessionState) (fields : Record) (before after : Written) : Type 0 where
   pub saved : Vec SavedFile Global
@@ -81,25 +89,23 @@ pub record NothingIsWritten (before after : Written) : Type 0 where
   pub files : after.files ≡ before.files
   pub pieces : after.pieces ≡ before.pieces
 
--- the record's answer was printed; or a write failed, or memory ran out then or before
+-- the record's answer was printed; or a write failed; or a write of the folder found no memory; or memory ran out before the files were
+-- written, or after all of them were
 abbrev pub AnswersRecord : Rule → Named → SessionState → Record → Written → Written → SessionState → Result Bool PutEnd → Type 0
 AnswersRecord rule named old fields before after new (Ok refused) = IsAnswered rule named old fields before after new refused × NoneFailed before after
 AnswersRecord rule named old fields before after new (Err put.Failed) =
     (IsCutOff rule named old fields before after × SinkFailed before after) ⊎ (IsCutInFolder rule named old fields before after × FolderFailed before after)
 AnswersRecord rule named old fields before after new (Err put.Memory) =
-    (IsCutOff rule named old fields before after ⊎ (IsCutInFolder rule named old fields before after ⊎ NothingIsWritten before after)) × NoneFailed before after
+    (IsCutInFolder rule named old fields before after × FolderWantsMemory before after)
+    ⊎ ((IsUnprinted rule named old fields before after ⊎ NothingIsWritten before after) × NoneFailed before after)
 
 -- ---- all records
 -- all records were answered, or a write failed or memory ran out meanwhile
 abbrev pub AnswersRecords : Setting → List Record → Written → Written → Status → Type 0
 AnswersRecords setting records before after status.Done = AllAnswered setting records before after false
 AnswersRecords setting records before after status.Refused = AllAnswered setting records before after true
-AnswersRecords setting records before after status.WriteFault =
-    (CutShort (λ w fields part. EndsInSink setting w fields part after.files) setting records before.pieces after.pieces × SinkFailed before after)
-    ⊎ (CutShort (λ w fields part. EndsInFolder setting w fields part after.files) setting records before.pieces after.pieces × FolderFailed before after)
-AnswersRecords setting records before after status.Memory =
-    NothingIsWritten before after
-    ⊎ CutShort (λ w fields part. EndsInSink setting w fields part after.files ⊎ (EndsInFolder setting w fields part after.files ⊎ EndsBefore w part after.files)) setting records before.pieces after.pieces
+AnswersRecords setting records before after status.WriteFault = IsCutByWrite setting records before after
+AnswersRecords setting records before after status.Memory = (NothingIsWritten before after × NoneFailed before after) ⊎ IsCutByMemory setting records before after
 AnswersRecords setting records before after _ = ⊥
 
 -- these are the ends of that
@@ -110,9 +116,11 @@ EndsAnswering status.WriteFault = ⊤
 EndsAnswering status.Memory = ⊤
 EndsAnswering _ = ⊥
 
--- a fault of a write is the status where a count of them rose, and else the counts are as before
+-- a fault of a write is the status where a count of them rose, want of memory where that of the folder did or none, and else all are as
+-- before
 abbrev pub IsPutFault : Written → Written → Status → Type 0
 IsPutFault before after status.WriteFault = SinkFailed before after ⊎ FolderFailed before after
+IsPutFault before after status.Memory = NoneFailed before after ⊎ FolderWantsMemory before after
 IsPutFault before after _ = NoneFailed before after
 
 -- ---- one line
@@ -130,7 +138,7 @@ IsSaid status.Limit = ⊤
 IsSaid status.BadInput = ⊤
 IsSaid _ = ⊥
 
--- the line was printed and the status is this one, or a write failed or memory ran out
+-- the line was printed and the status is this one; or a part of it was, and its write failed; or nothing was, and memory ran out
 abbrev pub Says : List ℕ → Status → Option (List (List ℕ)) → Option (List (List ℕ)) → Status → Type 0
 Says line said before after status.Done = (said ≡ status.Done) × Takes before after (line ∷ [])
 Says line said before after status.Refused = (said ≡ status.Refused) × Takes before after (line ∷ [])
@@ -138,7 +146,7 @@ Says line said before after status.Usage = (said ≡ status.Usage) × Takes befo
 Says line said before after status.Limit = (said ≡ status.Limit) × Takes before after (line ∷ [])
 Says line said before after status.BadInput = (said ≡ status.BadInput) × Takes before after (line ∷ [])
 Says line said before after status.WriteFault = TakesSome before after line
-Says line said before after status.Memory = TakesSome before after line
+Says line said before after status.Memory = after ≡ before
 Says line said before after _ = ⊥
 
 -- ---- a workbook that is made up
@@ -150,7 +158,7 @@ pub record AnswersSize (size : ℕ) (line : List ℕ) (refused : Bool) : Type 0 
   pub line_is : line ≡ made_up_line size answer
   pub refusal : refused ≡ is_refusal (sheet_name ∷ []) answer
 
--- its sheet was solved, and the line of the answer printed, or a part of it; or memory ran out before
+-- its sheet was solved, and the line of the answer printed, or a part of it or nothing; or memory ran out before
 abbrev pub SolvesSize : ℕ → Option (List (List ℕ)) → Option (List (List ℕ)) → Status → Type 0
 SolvesSize size before after ends =
     ((answer : Answer) × (next : SessionState) × Step (rule_of depth) (opened (made_up size) default_budget) (Solve sheet_name) answer next

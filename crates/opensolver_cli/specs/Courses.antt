@@ -1,5 +1,5 @@
 -- How the answering of records goes: to its end, or to an early one.
-use Rattle.std.specs.Prelude.{◌≡◌, ◌++◌, ℕ, Bool, List, [], take, Option, Some, Vec, slice_get}
+use Rattle.std.specs.Prelude.{◌≡◌, ◌⊎◌, ◌++◌, ℕ, Bool, List, [], take, Option, Some, Vec, slice_get}
 use Rattle.std.specs.Global.{Global}
 use Rattle.std.specs.List.{list_any}
 use Rattle.solver_io.specs.Bytes.{Takes, part_of}
@@ -12,7 +12,7 @@ use Rattle.commands.specs.Lines.{answer_text, is_refusal}
 use Rattle.commands.specs.Saved.{SavedFile}
 use Rattle.session.specs.States.{SessionState}
 use Rattle.session.specs.Steps.{Step}
-use Rattle.opensolver_cli.specs.Outside.{Written}
+use Rattle.opensolver_cli.specs.Outside.{FolderFailed, FolderWantsMemory, NoneFailed, SinkFailed, Written}
 use Rattle.command_line.specs.Words.{Named, Pick, rule_of}
 use Rattle.opensolver_cli.specs.Worlds.{World, Answers, Answered, lines_of, with_saved, word_of}
 
@@ -47,6 +47,14 @@ pub record EndsInSink (setting : Setting) (w : World) (fields : Record) (part : 
   pub part_is : part ≡ part_of count (answer_text (sheets_of setting) answer)
   pub files_are : files ≡ Some next.files
 
+-- what the record saves is saved, and nothing of its lines is printed
+pub record EndsUnprinted (setting : Setting) (w : World) (fields : Record) (part : List (List ℕ)) (files : Option Files) : Type 0 where
+  pub answer : Answer
+  pub next : World
+  pub answered : Answers (rule_of setting.pick) setting.named w fields answer next
+  pub nothing : part ≡ []
+  pub files_are : files ≡ Some next.files
+
 -- the folder refused a file that the record saves: those before it are saved, what is held under its name isn't known, all others are
 -- as they were, and nothing of the record's lines is printed
 pub record EndsInFolder (setting : Setting) (w : World) (fields : Record) (part : List (List ℕ)) (files : Option Files) : Type 0 where
@@ -78,3 +86,15 @@ pub record CutShort (Ends : World → Record → List (List ℕ) → Type 0) (se
   pub part : List (List ℕ)
   pub ends : Ends reached fields part
   pub printed : Takes before after (lines_of (sheets_of setting) answers ++ part)
+
+-- a write of the sink failed at a record, or one of the folder
+abbrev pub IsCutByWrite : Setting → List Record → Written → Written → Type 0
+IsCutByWrite setting records before after =
+    (CutShort (λ w fields part. EndsInSink setting w fields part after.files) setting records before.pieces after.pieces × SinkFailed before after)
+    ⊎ (CutShort (λ w fields part. EndsInFolder setting w fields part after.files) setting records before.pieces after.pieces × FolderFailed before after)
+
+-- a write of the folder found no memory at a record; or none did, and what the record saves is saved or nothing of it is seen
+abbrev pub IsCutByMemory : Setting → List Record → Written → Written → Type 0
+IsCutByMemory setting records before after =
+    (CutShort (λ w fields part. EndsInFolder setting w fields part after.files) setting records before.pieces after.pieces × FolderWantsMemory before after)
+    ⊎ (CutShort (λ w fields part. EndsUnprinted setting w fields part after.files ⊎ EndsBefore w part after.files) setting records before.pieces after.pieces × NoneFailed before after)

@@ -6,10 +6,10 @@ use Rattle.cell_refs.specs.declared.limits.TheConstants.{SHEETS}
 use Rattle.sheet_csv.specs.Sheet.{Record}
 use Rattle.workbook.specs.State.{State}
 use Rattle.session.specs.States.{opened}
-use Rattle.opensolver_cli.specs.Courses.{AllAnswered, CutShort, EndsBefore, EndsInFolder, EndsInSink, Setting}
+use Rattle.opensolver_cli.specs.Courses.{AllAnswered, IsCutByMemory, IsCutByWrite, Setting}
 use Rattle.opensolver_cli.specs.Findings.{book_in, found}
 use Rattle.opensolver_cli.specs.MadeUp.{MadeUpEnds}
-use Rattle.opensolver_cli.specs.Outside.{FolderFailed, IsFolderLeft, IsScriptLeft, NoneFailed, NothingIsSeen, Outside, Prints, PrintsSome, SinkFailed, written}
+use Rattle.opensolver_cli.specs.Outside.{FolderFailed, FolderWantsMemory, IsFolderLeft, IsScriptLeft, NoneFailed, NothingIsSeen, Outside, Prints, PrintsSome, SinkFailed, written}
 use Rattle.opensolver_cli.specs.Stops.{status_of, stop_line}
 use Rattle.command_line.specs.Words.{Asked, Job, MadeUp, Named, Script}
 use Rattle.opensolver_cli.specs.declared.stop.Stop.{Stop}
@@ -39,18 +39,6 @@ Goes Done job files script after =
 abbrev pub Stops : (Stop → Type 0) → Job → Files → List ℕ → Type 0
 Stops Done job files script = (stop : Stop) × (found job.named files script ≡ Err stop) × Done stop
 
--- a write of the sink failed at a record, or one of the folder
-abbrev pub IsCutByWrite : Setting → List Record → Outside → Outside → Type 0
-IsCutByWrite setting records before after =
-    (CutShort (λ w fields part. EndsInSink setting w fields part after.files) setting records before.pieces after.pieces × SinkFailed (written before) (written after))
-    ⊎ (CutShort (λ w fields part. EndsInFolder setting w fields part after.files) setting records before.pieces after.pieces × FolderFailed (written before) (written after))
-
--- memory ran out at a record
-abbrev pub IsCutByMemory : Setting → List Record → Outside → Outside → Type 0
-IsCutByMemory setting records before after =
-    CutShort (λ w fields part. EndsInSink setting w fields part after.files ⊎ (EndsInFolder setting w fields part after.files ⊎ EndsBefore w part after.files))
-    setting records before.pieces after.pieces
-
 -- how a run over these files and this script ends
 abbrev pub EndsAs : Job → Files → List ℕ → Outside → Outside → Status → Type 0
 EndsAs job files script before after status.Done =
@@ -61,11 +49,9 @@ EndsAs job files script before after status.Usage = ⊥
 EndsAs job files script before after status.ReadFault = NothingIsSeen before after
 EndsAs job files script before after status.WriteFault =
     Stops (λ stop. PrintsSome (stop_line job.named stop) before after) job files script
-    ⊎ Goes (λ setting records. IsCutByWrite setting records before after) job files script after
+    ⊎ Goes (λ setting records. IsCutByWrite setting records (written before) (written after)) job files script after
 EndsAs job files script before after status.Memory =
-    NothingIsSeen before after
-    ⊎ (Stops (λ stop. PrintsSome (stop_line job.named stop) before after) job files script
-    ⊎ Goes (λ setting records. IsCutByMemory setting records before after) job files script after)
+    NothingIsSeen before after ⊎ Goes (λ setting records. IsCutByMemory setting records (written before) (written after)) job files script after
 EndsAs job files script before after status.Limit =
     Stops (λ stop. (status_of stop ≡ status.Limit) × Prints (stop_line job.named stop) before after) job files script
 EndsAs job files script before after status.BadInput =
@@ -85,11 +71,11 @@ abbrev pub LeavesTooMany : Named → Outside → Outside → Type 0
 LeavesTooMany named before after = SHEETS < length named.sheets → IsFolderLeft before after × IsScriptLeft before after
 
 -- ---- words of another form
--- the usage line is printed; or a part of it, where a write failed or memory ran out
+-- the usage line is printed; or a part of it, where its write failed; or nothing, where memory ran out
 abbrev pub SaysUsage : Outside → Outside → Status → Type 0
 SaysUsage before after status.Usage = Prints usage_line before after
 SaysUsage before after status.WriteFault = PrintsSome usage_line before after
-SaysUsage before after status.Memory = PrintsSome usage_line before after
+SaysUsage before after status.Memory = NothingIsSeen before after
 SaysUsage before after _ = ⊥
 
 -- ---- all runs
@@ -106,11 +92,21 @@ IsReadFault before after =
     (Rose before.folder_reads after.folder_reads × IsScriptLeft before after)
     ⊎ ((after.folder_reads ≡ before.folder_reads) × Rose before.script_reads after.script_reads)
 
+-- the ends that leave all files as they were
+abbrev pub SavesNothing : Status → Type 0
+SavesNothing status.Usage = ⊤
+SavesNothing status.ReadFault = ⊤
+SavesNothing status.Limit = ⊤
+SavesNothing status.BadInput = ⊤
+SavesNothing _ = ⊥
+
 -- a fault is the status only where a count of such faults rose, and where it isn't the status, none of these counts did; a fault of
--- a read comes before anything is printed
+-- a read comes before anything is printed; the count of writes that found no memory rises only where want of memory is the status
 pub record IsCounted (before after : Outside) (ends : Status) : Type 0 where
   pub read_fault : ends ≡ status.ReadFault → IsReadFault before after
   pub quiet : ends ≡ status.ReadFault → after.pieces ≡ before.pieces
   pub no_read_fault : ends ≢ status.ReadFault → (after.folder_reads ≡ before.folder_reads) × (after.script_reads ≡ before.script_reads)
   pub write_fault : ends ≡ status.WriteFault → SinkFailed (written before) (written after) ⊎ FolderFailed (written before) (written after)
-  pub no_write_fault : ends ≢ status.WriteFault → NoneFailed (written before) (written after)
+  pub memory : ends ≡ status.Memory → NoneFailed (written before) (written after) ⊎ FolderWantsMemory (written before) (written after)
+  pub no_write_fault : ends ≢ status.WriteFault → ends ≢ status.Memory → NoneFailed (written before) (written after)
+  pub unsaved : SavesNothing ends → after.files ≡ before.files

@@ -19,10 +19,10 @@ abbrev pub status_by : Bool → Status
 status_by true = status.Refused
 status_by false = status.Done
 
--- a line is printed, and the status is this one; or a part of it, where a write failed or memory ran out
+-- a line is printed, and the status is this one; or a part of it, where its write failed; or nothing, where memory ran out
 abbrev pub SaysLine : List ℕ → Status → Outside → Outside → Status → Type 0
 SaysLine line said before after status.WriteFault = PrintsSome line before after
-SaysLine line said before after status.Memory = PrintsSome line before after
+SaysLine line said before after status.Memory = NothingIsSeen before after
 SaysLine line said before after ends = (ends ≡ said) × Prints line before after
 
 -- its sheet is solved with the default budget, by the picker of the deepest node, and the line of the answer is said

@@ -25,6 +25,7 @@ pub(crate) fn open_files<F: Folder>(
     ensures same { F.content folder.new ≡ F.content folder.old }
     ensures cause { EndCause (F.read_faults folder.old) (F.read_faults folder.new) result }
     ensures writes { F.write_faults folder.new ≡ F.write_faults folder.old }
+    ensures wants { F.write_wants folder.new ≡ F.write_wants folder.old }
 {
     if named.sheets.len() > SHEETS {
         return Err(End::Stopped(Stop::TooMuch(Limit::Sheets)));
@@ -50,6 +51,7 @@ fn read_sheets<F: Folder>(alloc: Global, folder: &mut F, words: &[String]) -> Re
     ensures same { F.content folder.new ≡ F.content folder.old }
     ensures cause { EndCause (F.read_faults folder.old) (F.read_faults folder.new) result }
     ensures writes { F.write_faults folder.new ≡ F.write_faults folder.old }
+    ensures wants { F.write_wants folder.new ≡ F.write_wants folder.old }
 {
     let mut files = Vec::new(alloc);
     for (place, word) in words.iter().enumerate() {
@@ -69,6 +71,7 @@ fn read_sheet<F: Folder>(alloc: Global, folder: &mut F, place: u8, word: &str) -
     ensures same { F.content folder.new ≡ F.content folder.old }
     ensures cause { EndCause (F.read_faults folder.old) (F.read_faults folder.new) result }
     ensures writes { F.write_faults folder.new ≡ F.write_faults folder.old }
+    ensures wants { F.write_wants folder.new ≡ F.write_wants folder.old }
 {
     let bytes = read_file(alloc, folder, Input::Sheet(place), word)?;
     let Some(stem) = stem_of(word) else {
@@ -92,6 +95,7 @@ fn read_file<F: Folder>(
     ensures same { F.content folder.new ≡ F.content folder.old }
     ensures cause { EndCause (F.read_faults folder.old) (F.read_faults folder.new) result }
     ensures writes { F.write_faults folder.new ≡ F.write_faults folder.old }
+    ensures wants { F.write_wants folder.new ≡ F.write_wants folder.old }
 {
     let mut bytes = Vec::new(alloc);
     match folder.read(word, FILE_BYTES, &mut bytes) {

@@ -43,13 +43,13 @@ pub fn run<F: Folder, S: Source, K: Sink>(
 ) -> Status
     requires three { map (λ p. rule p) pickers.items ≡ depth_first ∷ best_first ∷ oldest_first ∷ [] }
     ensures headline { RunsAs (asked_of (texts_of words.now))
-        (seen (F.content folder.old) (F.read_faults folder.old) (F.write_faults folder.old) (S.left script.old) (S.faults script.old) (K.pieces out.old) (K.faults out.old))
-        (seen (F.content folder.new) (F.read_faults folder.new) (F.write_faults folder.new) (S.left script.new) (S.faults script.new) (K.pieces out.new) (K.faults out.new))
+        (seen (F.content folder.old) (F.read_faults folder.old) (F.write_faults folder.old) (F.write_wants folder.old) (S.left script.old) (S.faults script.old) (K.pieces out.old) (K.faults out.old))
+        (seen (F.content folder.new) (F.read_faults folder.new) (F.write_faults folder.new) (F.write_wants folder.new) (S.left script.new) (S.faults script.new) (K.pieces out.new) (K.faults out.new))
         result }
     ensures exactly { EndsExactly (asked_of (texts_of words.now)) (F.content folder.old) (S.left script.old) result }
     ensures counts { IsCounted
-        (seen (F.content folder.old) (F.read_faults folder.old) (F.write_faults folder.old) (S.left script.old) (S.faults script.old) (K.pieces out.old) (K.faults out.old))
-        (seen (F.content folder.new) (F.read_faults folder.new) (F.write_faults folder.new) (S.left script.new) (S.faults script.new) (K.pieces out.new) (K.faults out.new))
+        (seen (F.content folder.old) (F.read_faults folder.old) (F.write_faults folder.old) (F.write_wants folder.old) (S.left script.old) (S.faults script.old) (K.pieces out.old) (K.faults out.old))
+        (seen (F.content folder.new) (F.read_faults folder.new) (F.write_faults folder.new) (F.write_wants folder.new) (S.left script.new) (S.faults script.new) (K.pieces out.new) (K.faults out.new))
         result }
 {
     let asked = match asked(alloc, words) {
@@ -96,13 +96,13 @@ fn run_job<F: Folder, S: Source, K: Sink>(
     requires few { job.now.budget ≤ MOST_UNITS }
     requires pick { rule pick.old ≡ rule_of (pick_read job.now.pick) }
     ensures headline { RunsAs (Some (Script (job_read job.now)))
-        (seen (F.content folder.old) (F.read_faults folder.old) (F.write_faults folder.old) (S.left script.old) (S.faults script.old) (K.pieces out.old) (K.faults out.old))
-        (seen (F.content folder.new) (F.read_faults folder.new) (F.write_faults folder.new) (S.left script.new) (S.faults script.new) (K.pieces out.new) (K.faults out.new))
+        (seen (F.content folder.old) (F.read_faults folder.old) (F.write_faults folder.old) (F.write_wants folder.old) (S.left script.old) (S.faults script.old) (K.pieces out.old) (K.faults out.old))
+        (seen (F.content folder.new) (F.read_faults folder.new) (F.write_faults folder.new) (F.write_wants folder.new) (S.left script.new) (S.faults script.new) (K.pieces out.new) (K.faults out.new))
         result }
     ensures exactly { EndsExactly (Some (Script (job_read job.now))) (F.content folder.old) (S.left script.old) result }
     ensures counts { IsCounted
-        (seen (F.content folder.old) (F.read_faults folder.old) (F.write_faults folder.old) (S.left script.old) (S.faults script.old) (K.pieces out.old) (K.faults out.old))
-        (seen (F.content folder.new) (F.read_faults folder.new) (F.write_faults folder.new) (S.left script.new) (S.faults script.new) (K.pieces out.new) (K.faults out.new))
+        (seen (F.content folder.old) (F.read_faults folder.old) (F.write_faults folder.old) (F.write_wants folder.old) (S.left script.old) (S.faults script.old) (K.pieces out.old) (K.faults out.old))
+        (seen (F.content folder.new) (F.read_faults folder.new) (F.write_faults folder.new) (F.write_wants folder.new) (S.left script.new) (S.faults script.new) (K.pieces out.new) (K.faults out.new))
         result }
 {
     match find(alloc, &job.named, folder, script) {
@@ -128,6 +128,7 @@ fn find<F: Folder, S: Source>(
         × (F.read_faults folder.new ≡ F.read_faults folder.old) × IsSourceLeft (S.left script.old) (S.left script.new) (S.faults script.old) (S.faults script.new) }
     ensures folder { F.content folder.new ≡ F.content folder.old }
     ensures writes { F.write_faults folder.new ≡ F.write_faults folder.old }
+    ensures wants { F.write_wants folder.new ≡ F.write_wants folder.old }
     ensures read_fault { result ≡ Err End.Failed → IsFaultOf (F.read_faults folder.old) (F.read_faults folder.new) (S.left script.old) (S.left script.new) (S.faults script.old) (S.faults script.new) }
     ensures no_read_fault { result ≢ Err End.Failed → (F.read_faults folder.new ≡ F.read_faults folder.old) × (S.faults script.new ≡ S.faults script.old) }
 {

@@ -1,5 +1,5 @@
 // The folder over the working directory. It tells no content.
-ghost use Rattle.std.specs.Prelude.{◌≡◌, ◌≢◌, ◌≤◌, ◌↔◌, []};
+ghost use Rattle.std.specs.Prelude.{◌≡◌, ◌≢◌, ◌≤◌, ◌↔◌, [], Err};
 ghost use Rattle.std.specs.IoError.{error_kind};
 ghost use Rattle.solver_io.specs.Bytes.{PutCause};
 ghost use Rattle.solver_io.specs.Files.{LeavesIn, ReadCause};
@@ -49,6 +49,8 @@ impl<R: Runtime> Folder for DirFolder<R> {
 
     ghost write_faults = { λ s. s.failed_writes };
 
+    ghost write_wants = { λ _. 0 };
+
     fn read(&mut self, name: &str, limit: usize, into: &mut Vec<u8>) -> ReadEnd
         requires { into.old.items ≡ [] }
         ensures leaves { LeavesIn limit into.new.items result }
@@ -67,6 +69,7 @@ impl<R: Runtime> Folder for DirFolder<R> {
     fn write(&mut self, name: &str, bytes: &[u8]) -> Result<(), PutEnd>
         ensures later { self.old.failed_writes ≤ self.new.failed_writes }
         ensures cause { PutCause self.old.failed_writes self.new.failed_writes result }
+        ensures sure { result ≢ Err PutEnd.Memory }
         ensures counted { self.new ≡ record self.old { failed_writes = count_after_put self.old.failed_writes result } }
     {
         if write_file(&self.rt, name, bytes).is_err() {

@@ -30,6 +30,7 @@ loop-place-preserved g c =
       same = search rules;
       reads = search rules;
       writes = search rules;
+      wants = search rules;
     }
 
 pub returns-clause-reads : goal.returns-clause-reads

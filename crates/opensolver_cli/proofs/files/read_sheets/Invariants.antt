@@ -14,4 +14,5 @@ invariant-loop-place g l = record {
   same : g.F.Folder.content l.folder ≡ g.F.Folder.content l.fn.folder;
   reads : g.F.Folder.read_faults l.folder ≡ g.F.Folder.read_faults l.fn.folder;
   writes : g.F.Folder.write_faults l.folder ≡ g.F.Folder.write_faults l.fn.folder;
+  wants : g.F.Folder.write_wants l.folder ≡ g.F.Folder.write_wants l.fn.folder;
 }

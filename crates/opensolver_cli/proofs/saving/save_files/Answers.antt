@@ -14,6 +14,7 @@ loop-file-preserved g c =
           next_saved (named_of c.args.named.now) c.args.files.now c.loop-file.file-index c.file-item.result _ _ (g.F.Folder.content c.args.folder.now) (g.F.Folder.content c.loop-file.folder) (g.F.Folder.content c.write.new.self) within c.file-item.is name
           c.bytes.ensures c.loop-file.invariant.saved c.in_ok-write.ensures.puts;
       writes = c.in_ok-write.ensures.cause ∙ c.loop-file.invariant.writes;
+      wants = c.in_ok-write.ensures.want ∙ c.loop-file.invariant.wants;
       reads = c.in_ok-write.ensures.reads ∙ c.loop-file.invariant.reads;
     }
 

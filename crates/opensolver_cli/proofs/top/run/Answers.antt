@@ -1,15 +1,16 @@
 use Rattle.std.proofs.Common.{◌≡◌, Some, refl}
 use Rattle.command_line.specs.Words.{MadeUp, asked_of, texts_of}
 use Rattle.opensolver_cli.specs.Outside.{Outside, seen}
+use Rattle.opensolver_cli.proofs.RunLaws.{memory_counted}
 use Rattle.opensolver_cli.proofs.MadeUpLaws.{asked_size, memory_ends, memory_runs, size_counted, size_exactly, size_runs}
 use Rattle.opensolver_cli.proofs.top.run.Goals as goal
 
 pub returns-in-MadeUp-clause-headline : goal.returns-in-MadeUp-clause-headline
 returns-in-MadeUp-clause-headline g c =
-    let before : Outside = seen (g.F.Folder.content c.args.folder.now) (g.F.Folder.read_faults c.args.folder.now) (g.F.Folder.write_faults c.args.folder.now) (g.S.Source.left c.args.script.now) (g.S.Source.faults c.args.script.now) (g.K.Sink.pieces c.args.out.now) (g.K.Sink.faults c.args.out.now) in
-    let after : Outside = seen (g.F.Folder.content c.args.folder.now) (g.F.Folder.read_faults c.args.folder.now) (g.F.Folder.write_faults c.args.folder.now) (g.S.Source.left c.args.script.now) (g.S.Source.faults c.args.script.now) (g.K.Sink.pieces c.solve_made_up.new.out) (g.K.Sink.faults c.solve_made_up.new.out) in
+    let before : Outside = seen (g.F.Folder.content c.args.folder.now) (g.F.Folder.read_faults c.args.folder.now) (g.F.Folder.write_faults c.args.folder.now) (g.F.Folder.write_wants c.args.folder.now) (g.S.Source.left c.args.script.now) (g.S.Source.faults c.args.script.now) (g.K.Sink.pieces c.args.out.now) (g.K.Sink.faults c.args.out.now) in
+    let after : Outside = seen (g.F.Folder.content c.args.folder.now) (g.F.Folder.read_faults c.args.folder.now) (g.F.Folder.write_faults c.args.folder.now) (g.F.Folder.write_wants c.args.folder.now) (g.S.Source.left c.args.script.now) (g.S.Source.faults c.args.script.now) (g.K.Sink.pieces c.solve_made_up.new.out) (g.K.Sink.faults c.solve_made_up.new.out) in
     let is : Some (MadeUp c.in-MadeUp.size) ≡ asked_of (texts_of c.args.words.now) = asked_size c.in-MadeUp.size c.in-Ok-Some.asked _ _ c.in-Ok-Some.field-0-is c.in-MadeUp.is c.in-Ok-Some.ensures.asked in
-    size_runs c.in-MadeUp.size _ before after c.solve_made_up.result is (record { files = refl; reads = refl; writes = refl }) (record { left = refl; reads = refl }) c.solve_made_up.ensures.solves
+    size_runs c.in-MadeUp.size _ before after c.solve_made_up.result is (record { files = refl; reads = refl; writes = refl; wants = refl }) (record { left = refl; reads = refl }) c.solve_made_up.ensures.solves
 
 pub returns-in-MadeUp-clause-exactly : goal.returns-in-MadeUp-clause-exactly
 returns-in-MadeUp-clause-exactly g c =
@@ -18,14 +19,19 @@ returns-in-MadeUp-clause-exactly g c =
 
 pub returns-in-MadeUp-clause-counts : goal.returns-in-MadeUp-clause-counts
 returns-in-MadeUp-clause-counts g c =
-    let before : Outside = seen (g.F.Folder.content c.args.folder.now) (g.F.Folder.read_faults c.args.folder.now) (g.F.Folder.write_faults c.args.folder.now) (g.S.Source.left c.args.script.now) (g.S.Source.faults c.args.script.now) (g.K.Sink.pieces c.args.out.now) (g.K.Sink.faults c.args.out.now) in
-    let after : Outside = seen (g.F.Folder.content c.args.folder.now) (g.F.Folder.read_faults c.args.folder.now) (g.F.Folder.write_faults c.args.folder.now) (g.S.Source.left c.args.script.now) (g.S.Source.faults c.args.script.now) (g.K.Sink.pieces c.solve_made_up.new.out) (g.K.Sink.faults c.solve_made_up.new.out) in
-    size_counted c.in-MadeUp.size before after c.solve_made_up.result (record { files = refl; reads = refl; writes = refl }) (record { left = refl; reads = refl }) c.solve_made_up.ensures.solves c.solve_made_up.ensures.cause
+    let before : Outside = seen (g.F.Folder.content c.args.folder.now) (g.F.Folder.read_faults c.args.folder.now) (g.F.Folder.write_faults c.args.folder.now) (g.F.Folder.write_wants c.args.folder.now) (g.S.Source.left c.args.script.now) (g.S.Source.faults c.args.script.now) (g.K.Sink.pieces c.args.out.now) (g.K.Sink.faults c.args.out.now) in
+    let after : Outside = seen (g.F.Folder.content c.args.folder.now) (g.F.Folder.read_faults c.args.folder.now) (g.F.Folder.write_faults c.args.folder.now) (g.F.Folder.write_wants c.args.folder.now) (g.S.Source.left c.args.script.now) (g.S.Source.faults c.args.script.now) (g.K.Sink.pieces c.solve_made_up.new.out) (g.K.Sink.faults c.solve_made_up.new.out) in
+    size_counted c.in-MadeUp.size before after c.solve_made_up.result (record { files = refl; reads = refl; writes = refl; wants = refl }) (record { left = refl; reads = refl }) c.solve_made_up.ensures.solves c.solve_made_up.ensures.cause
 
 pub returns-in-Err-clause-headline : goal.returns-in-Err-clause-headline
 returns-in-Err-clause-headline g c =
-    let before : Outside = seen (g.F.Folder.content c.args.folder.now) (g.F.Folder.read_faults c.args.folder.now) (g.F.Folder.write_faults c.args.folder.now) (g.S.Source.left c.args.script.now) (g.S.Source.faults c.args.script.now) (g.K.Sink.pieces c.args.out.now) (g.K.Sink.faults c.args.out.now) in
+    let before : Outside = seen (g.F.Folder.content c.args.folder.now) (g.F.Folder.read_faults c.args.folder.now) (g.F.Folder.write_faults c.args.folder.now) (g.F.Folder.write_wants c.args.folder.now) (g.S.Source.left c.args.script.now) (g.S.Source.faults c.args.script.now) (g.K.Sink.pieces c.args.out.now) (g.K.Sink.faults c.args.out.now) in
     memory_runs (asked_of (texts_of c.args.words.now)) before
 
 pub returns-in-Err-clause-exactly : goal.returns-in-Err-clause-exactly
 returns-in-Err-clause-exactly g c = memory_ends (asked_of (texts_of c.args.words.now)) (g.F.Folder.content c.args.folder.now) (g.S.Source.left c.args.script.now)
+
+pub returns-in-Err-clause-counts : goal.returns-in-Err-clause-counts
+returns-in-Err-clause-counts g c =
+    let before : Outside = seen (g.F.Folder.content c.args.folder.now) (g.F.Folder.read_faults c.args.folder.now) (g.F.Folder.write_faults c.args.folder.now) (g.F.Folder.write_wants c.args.folder.now) (g.S.Source.left c.args.script.now) (g.S.Source.faults c.args.script.now) (g.K.Sink.pieces c.args.out.now) (g.K.Sink.faults c.args.out.now) in
+    memory_counted before before (refl, refl) refl refl refl

@@ -12,14 +12,14 @@ pub returns-in-Ok-clause-headline : goal.returns-in-Ok-clause-headline
 returns-in-Ok-clause-headline g c =
     let named = named_of c.args.job.now.named in
     let job = job_read c.args.job.now in
-    let before : Outside = seen (g.F.Folder.content c.args.folder.now) (g.F.Folder.read_faults c.args.folder.now) (g.F.Folder.write_faults c.args.folder.now) (g.S.Source.left c.args.script.now) (g.S.Source.faults c.args.script.now) (g.K.Sink.pieces c.args.out.now) (g.K.Sink.faults c.args.out.now) in
-    let after : Outside = seen (g.F.Folder.content c.answer_records.new.folder) (g.F.Folder.read_faults c.answer_records.new.folder) (g.F.Folder.write_faults c.answer_records.new.folder) (g.S.Source.left c.find.new.script) (g.S.Source.faults c.find.new.script) (g.K.Sink.pieces c.answer_records.new.out) (g.K.Sink.faults c.answer_records.new.out) in
+    let before : Outside = seen (g.F.Folder.content c.args.folder.now) (g.F.Folder.read_faults c.args.folder.now) (g.F.Folder.write_faults c.args.folder.now) (g.F.Folder.write_wants c.args.folder.now) (g.S.Source.left c.args.script.now) (g.S.Source.faults c.args.script.now) (g.K.Sink.pieces c.args.out.now) (g.K.Sink.faults c.args.out.now) in
+    let after : Outside = seen (g.F.Folder.content c.answer_records.new.folder) (g.F.Folder.read_faults c.answer_records.new.folder) (g.F.Folder.write_faults c.answer_records.new.folder) (g.F.Folder.write_wants c.answer_records.new.folder) (g.S.Source.left c.find.new.script) (g.S.Source.faults c.find.new.script) (g.K.Sink.pieces c.answer_records.new.out) (g.K.Sink.faults c.answer_records.new.out) in
     let is : IsFound named before after = record {
       order = c.in-Ok.ensures.order;
       many = λ big. absurd (cc (c.in-Ok.ensures.many (subst (λ (k : ℕ). SHEETS < k) (length_texts c.args.job.now.named.sheets.items) big)).0);
     } in
     run_answered job before after c.in-Ok.book c.in-Ok.rows c.answer_records.result is c.in-Ok.ensures.finds
-    (answered_over job c.in-Ok.book c.in-Ok.rows (g.F.Folder.content c.find.new.folder) (g.F.Folder.content c.args.folder.now) (g.F.Folder.write_faults c.find.new.folder) (g.F.Folder.write_faults c.args.folder.now) (g.K.Sink.pieces c.args.out.now) (g.K.Sink.faults c.args.out.now) (written after) c.answer_records.result c.in-Ok.ensures.folder c.in-Ok.ensures.writes c.answer_records.ensures.answers)
+    (answered_over job c.in-Ok.book c.in-Ok.rows (g.F.Folder.content c.find.new.folder) (g.F.Folder.content c.args.folder.now) (g.F.Folder.write_faults c.find.new.folder) (g.F.Folder.write_wants c.find.new.folder) (g.F.Folder.write_faults c.args.folder.now) (g.F.Folder.write_wants c.args.folder.now) (g.K.Sink.pieces c.args.out.now) (g.K.Sink.faults c.args.out.now) (written after) c.answer_records.result c.in-Ok.ensures.folder c.in-Ok.ensures.writes c.in-Ok.ensures.wants c.answer_records.ensures.answers)
 
 pub returns-in-Ok-clause-exactly : goal.returns-in-Ok-clause-exactly
 returns-in-Ok-clause-exactly g c =
@@ -29,21 +29,21 @@ pub returns-in-Ok-clause-counts : goal.returns-in-Ok-clause-counts
 returns-in-Ok-clause-counts g c =
     let named = named_of c.args.job.now.named in
     let job = job_read c.args.job.now in
-    let before : Outside = seen (g.F.Folder.content c.args.folder.now) (g.F.Folder.read_faults c.args.folder.now) (g.F.Folder.write_faults c.args.folder.now) (g.S.Source.left c.args.script.now) (g.S.Source.faults c.args.script.now) (g.K.Sink.pieces c.args.out.now) (g.K.Sink.faults c.args.out.now) in
-    let after : Outside = seen (g.F.Folder.content c.answer_records.new.folder) (g.F.Folder.read_faults c.answer_records.new.folder) (g.F.Folder.write_faults c.answer_records.new.folder) (g.S.Source.left c.find.new.script) (g.S.Source.faults c.find.new.script) (g.K.Sink.pieces c.answer_records.new.out) (g.K.Sink.faults c.answer_records.new.out) in
+    let before : Outside = seen (g.F.Folder.content c.args.folder.now) (g.F.Folder.read_faults c.args.folder.now) (g.F.Folder.write_faults c.args.folder.now) (g.F.Folder.write_wants c.args.folder.now) (g.S.Source.left c.args.script.now) (g.S.Source.faults c.args.script.now) (g.K.Sink.pieces c.args.out.now) (g.K.Sink.faults c.args.out.now) in
+    let after : Outside = seen (g.F.Folder.content c.answer_records.new.folder) (g.F.Folder.read_faults c.answer_records.new.folder) (g.F.Folder.write_faults c.answer_records.new.folder) (g.F.Folder.write_wants c.answer_records.new.folder) (g.S.Source.left c.find.new.script) (g.S.Source.faults c.find.new.script) (g.K.Sink.pieces c.answer_records.new.out) (g.K.Sink.faults c.answer_records.new.out) in
     let none = c.in-Ok.ensures.no_read_fault (λ e. cc e) in
     answered_counted before after c.answer_records.result c.answer_records.ensures.ends (c.answer_records.ensures.reads ∙ none.0, none.1)
-    (fault_over (g.F.Folder.content c.find.new.folder) (g.F.Folder.content c.args.folder.now) (g.F.Folder.write_faults c.find.new.folder) (g.F.Folder.write_faults c.args.folder.now) (g.K.Sink.pieces c.args.out.now) (g.K.Sink.faults c.args.out.now) (written after) c.answer_records.result c.in-Ok.ensures.folder c.in-Ok.ensures.writes c.answer_records.ensures.cause)
+    (fault_over (g.F.Folder.content c.find.new.folder) (g.F.Folder.content c.args.folder.now) (g.F.Folder.write_faults c.find.new.folder) (g.F.Folder.write_wants c.find.new.folder) (g.F.Folder.write_faults c.args.folder.now) (g.F.Folder.write_wants c.args.folder.now) (g.K.Sink.pieces c.args.out.now) (g.K.Sink.faults c.args.out.now) (written after) c.answer_records.result c.in-Ok.ensures.folder c.in-Ok.ensures.writes c.in-Ok.ensures.wants c.answer_records.ensures.cause)
 
 pub returns-in-Err-Stopped-clause-headline : goal.returns-in-Err-Stopped-clause-headline
 returns-in-Err-Stopped-clause-headline g c =
     let named = named_of c.args.job.now.named in
     let job = job_read c.args.job.now in
-    let before : Outside = seen (g.F.Folder.content c.args.folder.now) (g.F.Folder.read_faults c.args.folder.now) (g.F.Folder.write_faults c.args.folder.now) (g.S.Source.left c.args.script.now) (g.S.Source.faults c.args.script.now) (g.K.Sink.pieces c.args.out.now) (g.K.Sink.faults c.args.out.now) in
-    let after : Outside = seen (g.F.Folder.content c.find.new.folder) (g.F.Folder.read_faults c.find.new.folder) (g.F.Folder.write_faults c.find.new.folder) (g.S.Source.left c.find.new.script) (g.S.Source.faults c.find.new.script) (g.K.Sink.pieces c.say_stop.new.out) (g.K.Sink.faults c.say_stop.new.out) in
+    let before : Outside = seen (g.F.Folder.content c.args.folder.now) (g.F.Folder.read_faults c.args.folder.now) (g.F.Folder.write_faults c.args.folder.now) (g.F.Folder.write_wants c.args.folder.now) (g.S.Source.left c.args.script.now) (g.S.Source.faults c.args.script.now) (g.K.Sink.pieces c.args.out.now) (g.K.Sink.faults c.args.out.now) in
+    let after : Outside = seen (g.F.Folder.content c.find.new.folder) (g.F.Folder.read_faults c.find.new.folder) (g.F.Folder.write_faults c.find.new.folder) (g.F.Folder.write_wants c.find.new.folder) (g.S.Source.left c.find.new.script) (g.S.Source.faults c.find.new.script) (g.K.Sink.pieces c.say_stop.new.out) (g.K.Sink.faults c.say_stop.new.out) in
     let is : IsFound named before after = record {
       order = c.in-Err-Stopped.ensures.order;
-      many = λ big. let m = c.in-Err-Stopped.ensures.many (subst (λ (k : ℕ). SHEETS < k) (length_texts c.args.job.now.named.sheets.items) big) in (record { files = c.in-Err-Stopped.ensures.folder; reads = m.1; writes = c.in-Err-Stopped.ensures.writes }, m.2);
+      many = λ big. let m = c.in-Err-Stopped.ensures.many (subst (λ (k : ℕ). SHEETS < k) (length_texts c.args.job.now.named.sheets.items) big) in (record { files = c.in-Err-Stopped.ensures.folder; reads = m.1; writes = c.in-Err-Stopped.ensures.writes; wants = c.in-Err-Stopped.ensures.wants }, m.2);
     } in
     run_stopped job before after c.in-Err-Stopped.stop c.say_stop.result is c.in-Err-Stopped.ensures.folder (rw c.in-Err-Stopped.field-0-is at c.in-Err-Stopped.ensures.finds) c.say_stop.ensures.says
 
@@ -56,19 +56,19 @@ pub returns-in-Err-Stopped-clause-counts : goal.returns-in-Err-Stopped-clause-co
 returns-in-Err-Stopped-clause-counts g c =
     let named = named_of c.args.job.now.named in
     let job = job_read c.args.job.now in
-    let before : Outside = seen (g.F.Folder.content c.args.folder.now) (g.F.Folder.read_faults c.args.folder.now) (g.F.Folder.write_faults c.args.folder.now) (g.S.Source.left c.args.script.now) (g.S.Source.faults c.args.script.now) (g.K.Sink.pieces c.args.out.now) (g.K.Sink.faults c.args.out.now) in
-    let after : Outside = seen (g.F.Folder.content c.find.new.folder) (g.F.Folder.read_faults c.find.new.folder) (g.F.Folder.write_faults c.find.new.folder) (g.S.Source.left c.find.new.script) (g.S.Source.faults c.find.new.script) (g.K.Sink.pieces c.say_stop.new.out) (g.K.Sink.faults c.say_stop.new.out) in
-    said_counted c.in-Err-Stopped.stop (stop_line named c.in-Err-Stopped.stop) before after c.say_stop.result c.say_stop.ensures.says (c.in-Err-Stopped.ensures.no_read_fault (λ e. cc e)) c.in-Err-Stopped.ensures.writes c.say_stop.ensures.cause
+    let before : Outside = seen (g.F.Folder.content c.args.folder.now) (g.F.Folder.read_faults c.args.folder.now) (g.F.Folder.write_faults c.args.folder.now) (g.F.Folder.write_wants c.args.folder.now) (g.S.Source.left c.args.script.now) (g.S.Source.faults c.args.script.now) (g.K.Sink.pieces c.args.out.now) (g.K.Sink.faults c.args.out.now) in
+    let after : Outside = seen (g.F.Folder.content c.find.new.folder) (g.F.Folder.read_faults c.find.new.folder) (g.F.Folder.write_faults c.find.new.folder) (g.F.Folder.write_wants c.find.new.folder) (g.S.Source.left c.find.new.script) (g.S.Source.faults c.find.new.script) (g.K.Sink.pieces c.say_stop.new.out) (g.K.Sink.faults c.say_stop.new.out) in
+    said_counted c.in-Err-Stopped.stop (stop_line named c.in-Err-Stopped.stop) before after c.say_stop.result c.say_stop.ensures.says (c.in-Err-Stopped.ensures.no_read_fault (λ e. cc e)) c.in-Err-Stopped.ensures.writes c.in-Err-Stopped.ensures.wants c.say_stop.ensures.cause c.in-Err-Stopped.ensures.folder
 
 pub returns-in-Err-Failed-clause-headline : goal.returns-in-Err-Failed-clause-headline
 returns-in-Err-Failed-clause-headline g c =
     let named = named_of c.args.job.now.named in
     let job = job_read c.args.job.now in
-    let before : Outside = seen (g.F.Folder.content c.args.folder.now) (g.F.Folder.read_faults c.args.folder.now) (g.F.Folder.write_faults c.args.folder.now) (g.S.Source.left c.args.script.now) (g.S.Source.faults c.args.script.now) (g.K.Sink.pieces c.args.out.now) (g.K.Sink.faults c.args.out.now) in
-    let after : Outside = seen (g.F.Folder.content c.find.new.folder) (g.F.Folder.read_faults c.find.new.folder) (g.F.Folder.write_faults c.find.new.folder) (g.S.Source.left c.find.new.script) (g.S.Source.faults c.find.new.script) (g.K.Sink.pieces c.args.out.now) (g.K.Sink.faults c.args.out.now) in
+    let before : Outside = seen (g.F.Folder.content c.args.folder.now) (g.F.Folder.read_faults c.args.folder.now) (g.F.Folder.write_faults c.args.folder.now) (g.F.Folder.write_wants c.args.folder.now) (g.S.Source.left c.args.script.now) (g.S.Source.faults c.args.script.now) (g.K.Sink.pieces c.args.out.now) (g.K.Sink.faults c.args.out.now) in
+    let after : Outside = seen (g.F.Folder.content c.find.new.folder) (g.F.Folder.read_faults c.find.new.folder) (g.F.Folder.write_faults c.find.new.folder) (g.F.Folder.write_wants c.find.new.folder) (g.S.Source.left c.find.new.script) (g.S.Source.faults c.find.new.script) (g.K.Sink.pieces c.args.out.now) (g.K.Sink.faults c.args.out.now) in
     let is : IsFound named before after = record {
       order = c.in-Err-Failed.ensures.order;
-      many = λ big. let m = c.in-Err-Failed.ensures.many (subst (λ (k : ℕ). SHEETS < k) (length_texts c.args.job.now.named.sheets.items) big) in (record { files = c.in-Err-Failed.ensures.folder; reads = m.1; writes = c.in-Err-Failed.ensures.writes }, m.2);
+      many = λ big. let m = c.in-Err-Failed.ensures.many (subst (λ (k : ℕ). SHEETS < k) (length_texts c.args.job.now.named.sheets.items) big) in (record { files = c.in-Err-Failed.ensures.folder; reads = m.1; writes = c.in-Err-Failed.ensures.writes; wants = c.in-Err-Failed.ensures.wants }, m.2);
     } in
     run_unseen job before after _ is c.in-Err-Failed.ensures.folder (inl refl) refl
 
@@ -80,19 +80,19 @@ pub returns-in-Err-Failed-clause-counts : goal.returns-in-Err-Failed-clause-coun
 returns-in-Err-Failed-clause-counts g c =
     let named = named_of c.args.job.now.named in
     let job = job_read c.args.job.now in
-    let before : Outside = seen (g.F.Folder.content c.args.folder.now) (g.F.Folder.read_faults c.args.folder.now) (g.F.Folder.write_faults c.args.folder.now) (g.S.Source.left c.args.script.now) (g.S.Source.faults c.args.script.now) (g.K.Sink.pieces c.args.out.now) (g.K.Sink.faults c.args.out.now) in
-    let after : Outside = seen (g.F.Folder.content c.find.new.folder) (g.F.Folder.read_faults c.find.new.folder) (g.F.Folder.write_faults c.find.new.folder) (g.S.Source.left c.find.new.script) (g.S.Source.faults c.find.new.script) (g.K.Sink.pieces c.args.out.now) (g.K.Sink.faults c.args.out.now) in
-    read_fault_counted before after (c.in-Err-Failed.ensures.read_fault (ap Err c.in-Err-Failed.field-0-is)) c.in-Err-Failed.ensures.writes refl refl
+    let before : Outside = seen (g.F.Folder.content c.args.folder.now) (g.F.Folder.read_faults c.args.folder.now) (g.F.Folder.write_faults c.args.folder.now) (g.F.Folder.write_wants c.args.folder.now) (g.S.Source.left c.args.script.now) (g.S.Source.faults c.args.script.now) (g.K.Sink.pieces c.args.out.now) (g.K.Sink.faults c.args.out.now) in
+    let after : Outside = seen (g.F.Folder.content c.find.new.folder) (g.F.Folder.read_faults c.find.new.folder) (g.F.Folder.write_faults c.find.new.folder) (g.F.Folder.write_wants c.find.new.folder) (g.S.Source.left c.find.new.script) (g.S.Source.faults c.find.new.script) (g.K.Sink.pieces c.args.out.now) (g.K.Sink.faults c.args.out.now) in
+    read_fault_counted before after (c.in-Err-Failed.ensures.read_fault (ap Err c.in-Err-Failed.field-0-is)) c.in-Err-Failed.ensures.writes c.in-Err-Failed.ensures.wants refl refl c.in-Err-Failed.ensures.folder
 
 pub returns-in-Err-Memory-clause-headline : goal.returns-in-Err-Memory-clause-headline
 returns-in-Err-Memory-clause-headline g c =
     let named = named_of c.args.job.now.named in
     let job = job_read c.args.job.now in
-    let before : Outside = seen (g.F.Folder.content c.args.folder.now) (g.F.Folder.read_faults c.args.folder.now) (g.F.Folder.write_faults c.args.folder.now) (g.S.Source.left c.args.script.now) (g.S.Source.faults c.args.script.now) (g.K.Sink.pieces c.args.out.now) (g.K.Sink.faults c.args.out.now) in
-    let after : Outside = seen (g.F.Folder.content c.find.new.folder) (g.F.Folder.read_faults c.find.new.folder) (g.F.Folder.write_faults c.find.new.folder) (g.S.Source.left c.find.new.script) (g.S.Source.faults c.find.new.script) (g.K.Sink.pieces c.args.out.now) (g.K.Sink.faults c.args.out.now) in
+    let before : Outside = seen (g.F.Folder.content c.args.folder.now) (g.F.Folder.read_faults c.args.folder.now) (g.F.Folder.write_faults c.args.folder.now) (g.F.Folder.write_wants c.args.folder.now) (g.S.Source.left c.args.script.now) (g.S.Source.faults c.args.script.now) (g.K.Sink.pieces c.args.out.now) (g.K.Sink.faults c.args.out.now) in
+    let after : Outside = seen (g.F.Folder.content c.find.new.folder) (g.F.Folder.read_faults c.find.new.folder) (g.F.Folder.write_faults c.find.new.folder) (g.F.Folder.write_wants c.find.new.folder) (g.S.Source.left c.find.new.script) (g.S.Source.faults c.find.new.script) (g.K.Sink.pieces c.args.out.now) (g.K.Sink.faults c.args.out.now) in
     let is : IsFound named before after = record {
       order = c.in-Err-Memory.ensures.order;
-      many = λ big. let m = c.in-Err-Memory.ensures.many (subst (λ (k : ℕ). SHEETS < k) (length_texts c.args.job.now.named.sheets.items) big) in (record { files = c.in-Err-Memory.ensures.folder; reads = m.1; writes = c.in-Err-Memory.ensures.writes }, m.2);
+      many = λ big. let m = c.in-Err-Memory.ensures.many (subst (λ (k : ℕ). SHEETS < k) (length_texts c.args.job.now.named.sheets.items) big) in (record { files = c.in-Err-Memory.ensures.folder; reads = m.1; writes = c.in-Err-Memory.ensures.writes; wants = c.in-Err-Memory.ensures.wants }, m.2);
     } in
     run_unseen job before after _ is c.in-Err-Memory.ensures.folder (inr refl) refl
 
@@ -104,6 +104,6 @@ pub returns-in-Err-Memory-clause-counts : goal.returns-in-Err-Memory-clause-coun
 returns-in-Err-Memory-clause-counts g c =
     let named = named_of c.args.job.now.named in
     let job = job_read c.args.job.now in
-    let before : Outside = seen (g.F.Folder.content c.args.folder.now) (g.F.Folder.read_faults c.args.folder.now) (g.F.Folder.write_faults c.args.folder.now) (g.S.Source.left c.args.script.now) (g.S.Source.faults c.args.script.now) (g.K.Sink.pieces c.args.out.now) (g.K.Sink.faults c.args.out.now) in
-    let after : Outside = seen (g.F.Folder.content c.find.new.folder) (g.F.Folder.read_faults c.find.new.folder) (g.F.Folder.write_faults c.find.new.folder) (g.S.Source.left c.find.new.script) (g.S.Source.faults c.find.new.script) (g.K.Sink.pieces c.args.out.now) (g.K.Sink.faults c.args.out.now) in
-    memory_counted before after (c.in-Err-Memory.ensures.no_read_fault (λ e. cc e)) c.in-Err-Memory.ensures.writes refl
+    let before : Outside = seen (g.F.Folder.content c.args.folder.now) (g.F.Folder.read_faults c.args.folder.now) (g.F.Folder.write_faults c.args.folder.now) (g.F.Folder.write_wants c.args.folder.now) (g.S.Source.left c.args.script.now) (g.S.Source.faults c.args.script.now) (g.K.Sink.pieces c.args.out.now) (g.K.Sink.faults c.args.out.now) in
+    let after : Outside = seen (g.F.Folder.content c.find.new.folder) (g.F.Folder.read_faults c.find.new.folder) (g.F.Folder.write_faults c.find.new.folder) (g.F.Folder.write_wants c.find.new.folder) (g.S.Source.left c.find.new.script) (g.S.Source.faults c.find.new.script) (g.K.Sink.pieces c.args.out.now) (g.K.Sink.faults c.args.out.now) in
+    memory_counted before after (c.in-Err-Memory.ensures.no_read_fault (λ e. cc e)) c.in-Err-Memory.ensures.writes c.in-Err-Memory.ensures.wants refl
