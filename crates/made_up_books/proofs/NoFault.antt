@@ -4,6 +4,7 @@ use Rattle.std.specs.Prelude.{◌||◌, if◌then◌else◌, map, nat_le, nat_lt
 use Rattle.std.specs.FinMap.{entries, insert}
 use Rattle.std.proofs.lemmas.Bool.Decides.{nat_tests}
 use Rattle.std.proofs.lemmas.List.{length-map, length_push}
+use Rattle.cell_refs.specs.declared.cell.Cell.{Cell}
 use Rattle.cell_refs.specs.declared.limits.TheConstants.{COLUMNS, FORMULAS, NAMES, ROWS, TEXTS, TEXT_BYTES}
 use Rattle.workbook.specs.declared.fault.EditFault.TheVariants as fault
 use Rattle.workbook.specs.Edits.{set_fault}
@@ -12,12 +13,15 @@ use Rattle.workbook.specs.Naming.{is_there, name_fault, names_after, new_name, w
 use Rattle.workbook.specs.State.{State, formula_count, text_count, with_text}
 use Rattle.workbook.proofs.Filling.{texts_grow}
 use Rattle.workbook.proofs.Gathering.{few_formulas}
-use Rattle.workbook.proofs.Severally.{with_some}
 use Rattle.made_up_books.specs.MadeUp.{at}
 use Rattle.made_up_books.specs.Putting.{HasRoomFor, HasRoomForNames}
 use Rattle.made_up_books.proofs.InTurn.{Contents}
 
 -- ---- a text that is put
+with_some : (contents : Contents) (cell : Cell) (text : List ℕ) → text ≢ [] → with_text contents cell text ≡ insert contents cell text
+with_some contents cell [] some = absurd (some refl)
+with_some contents cell (b ∷ text) some = refl
+
 fewer_formulas : (contents : Contents) → formula_count contents ≤ text_count contents
 fewer_formulas contents = few_formulas (entries contents)
 
