@@ -30,31 +30,49 @@ pub(crate) fn book_shown(alloc: Global, text: &str) -> Result<String, Stop> {
 
 // The workbook of some rows.
 fn opened(alloc: Global, rows: &str) -> Result<Workbook, Stop> {
+    let bytes = bytes_of(alloc, rows)?;
+    opened_as(alloc, "plan", bytes, b"")
+}
+
+// The bytes of a file, where a bar stands between two rows.
+fn bytes_of(alloc: Global, rows: &str) -> Result<Vec<u8>, Stop> {
     let mut bytes = Vec::new(alloc);
     for row in rows.split('|') {
         bytes.extend_from_slice(row.as_bytes())?;
         bytes.push(b'\n')?;
     }
-    if bytes.len() > 1000 {
+    Ok(bytes)
+}
+
+// The workbook of one file and of names.
+fn opened_as(alloc: Global, name: &str, bytes: Vec<u8>, names: &[u8]) -> Result<Workbook, Stop> {
+    if name.is_empty() || bytes.len() > 1000 || names.len() > 1000 {
         return Err(Stop::Unread);
     }
-    let files = [File::new(String::from_str(alloc, "plan")?, bytes)];
-    match Workbook::open(alloc, &files, b"") {
+    let files = [File::new(String::from_str(alloc, name)?, bytes)];
+    match Workbook::open(alloc, &files, names) {
         Ok(workbook) => Ok(workbook),
         Err(_) => Err(Stop::Unread),
     }
 }
 
 // The cells to be decided, between blanks.
-fn decisions(alloc: Global, cells: &str) -> Result<Adj, Stop> {
-    let mut found = IndexSet::new(alloc);
-    for cell in cells.split(' ') {
-        found.insert(cell_in(cell)?)?;
-    }
-    if found.len() > 512 {
+fn decisions(alloc: Global, text: &str) -> Result<Adj, Stop> {
+    let cells = cells_in(alloc, text)?;
+    if cells.len() > 512 {
         return Err(Stop::Unread);
     }
-    Ok(Adj::new(found))
+    Ok(Adj::new(cells))
+}
+
+// Cells between blanks.
+fn cells_in(alloc: Global, text: &str) -> Result<IndexSet<Cell>, Stop> {
+    let mut cells = IndexSet::new(alloc);
+    for address in text.split(' ') {
+        let cell = cell_in(address)?;
+        cells.insert(cell)?;
+    }
+    Ok(cells)
 }
 
 // The forms of the formula cells, with a bar behind each.

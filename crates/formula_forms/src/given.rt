@@ -42,8 +42,8 @@ fn listed_in(alloc: Global, text: &str) -> Result<Listed, Stop> {
     Ok(Listed { cell, form })
 }
 
-// The form of a cell, where it has one.
-fn form_in(alloc: Global, text: &str) -> Result<Option<Abs>, Stop> {
+/// The form of a cell, where it has one.
+pub(crate) fn form_in(alloc: Global, text: &str) -> Result<Option<Abs>, Stop> {
     if text == "none" {
         return Ok(None);
     }
