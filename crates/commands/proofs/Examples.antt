@@ -10,7 +10,7 @@ use Rattle.workbook.specs.declared.place.Place.TheVariants as place
 use Rattle.form_needs.specs.declared.refusal.FormRefusal.TheVariants as form
 use Rattle.commands.specs.declared.answer.Answer.TheVariants as answer
 use Rattle.commands.specs.declared.answer.Answer.{Answer}
-use Rattle.commands.specs.Addresses.{Address, address_in}
+use Rattle.commands.specs.Addresses.{Address, marked_address}
 use Rattle.commands.specs.Commands.{Budget, Model, Name, Save, Set, Show, Unknown, Unname, command_of}
 use Rattle.commands.specs.Lines.{answer_text}
 use Rattle.commands.specs.Refusals.{pivot_text}
@@ -55,21 +55,21 @@ no_field = refl
 at : List ℕ → ℕ → ℕ → Address
 at name column row = record { name = name; column = column; row = row }
 
-a_word : address_in (codes "$plan.$AA$02") ≡ Some (at (codes "plan") 27 2)
+a_word : marked_address (codes "$plan.$AA$02") ≡ Some (at (codes "plan") 27 2)
 unfolding at
 a_word = refl
 
-a_quoted_name : address_in (codes "'Bob''s'!z10") ≡ Some (at (codes "Bob's") 26 10)
+a_quoted_name : marked_address (codes "'Bob''s'!z10") ≡ Some (at (codes "Bob's") 26 10)
 unfolding at
 a_quoted_name = refl
 
-no_sheet : address_in (codes "A1") ≡ None
+no_sheet : marked_address (codes "A1") ≡ None
 no_sheet = refl
 
-no_letters : address_in (codes "plan!1A") ≡ None
+no_letters : marked_address (codes "plan!1A") ≡ None
 no_letters = refl
 
-no_closing_quote : address_in (codes "'plan!A1") ≡ None
+no_closing_quote : marked_address (codes "'plan!A1") ≡ None
 no_closing_quote = refl
 
 -- ---- cells

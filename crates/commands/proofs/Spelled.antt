@@ -11,8 +11,8 @@ use Rattle.std.proofs.lemmas.Option.{cond_some, none-some, option_and_then_some,
 use Rattle.cell_refs.specs.Address.{behind_letters, letter_count_of, letters_of, without_dollar}
 use Rattle.cell_refs.specs.Sheets.{SpellsSheet, sheet_in}
 use Rattle.cell_refs.proofs.SheetReading.{sheets_are_spelled}
-use Rattle.commands.specs.Addresses.{Address, address_in, address_of, at_last_mark, is_mark, is_number, is_place, placed, with_byte}
-use Rattle.commands.specs.Spelling.{IsDollar, Spells}
+use Rattle.commands.specs.Addresses.{Address, marked_address, address_of, at_last_mark, is_mark, is_number, is_place, placed, with_byte}
+use Rattle.commands.specs.Spelling.{IsDollar, SpellsMarked}
 
 pub both : (a b : Bool) → (a && b) ≡ true → (a ≡ true) × (b ≡ true)
 both true b h = (refl, h)
@@ -62,7 +62,7 @@ cond_then : {A : Type 0} (b : Bool) (o : Option A) (y : A) → cond b o None ≡
 cond_then true o y h = (refl, h)
 cond_then false o y h = absurd (none-some y h)
 
-pub spelled : (text : List ℕ) (a : Address) → address_in text ≡ Some a → Spells text a
+pub spelled : (text : List ℕ) (a : Address) → marked_address text ≡ Some a → SpellsMarked text a
 spelled text a e = option_and_then_some address_of (at_last_mark text) a e (λ p at is.
     let m = parted text p at in
     let split = cond_then (is_place p.1) (option_map (placed p.1) (sheet_in p.0)) a is in

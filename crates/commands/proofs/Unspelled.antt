@@ -11,8 +11,8 @@ use Rattle.std.proofs.Math.Seq.{take-append_seam, drop-append_seam}
 use Rattle.cell_refs.specs.Address.{behind_letters, column_number, letter_count_of, letters_of, without_dollar}
 use Rattle.cell_refs.specs.Sheets.{sheet_in}
 use Rattle.cell_refs.proofs.SheetReading.{sheets_are_spelled}
-use Rattle.commands.specs.Addresses.{Address, address_in, address_of, at_last_mark, is_mark, is_number, is_place, placed, with_byte}
-use Rattle.commands.specs.Spelling.{IsDollar, Spells}
+use Rattle.commands.specs.Addresses.{Address, marked_address, address_of, at_last_mark, is_mark, is_number, is_place, placed, with_byte}
+use Rattle.commands.specs.Spelling.{IsDollar, SpellsMarked}
 use Rattle.commands.proofs.Marks.{all_digits, last_at}
 use Rattle.commands.proofs.Spelled.{both}
 
@@ -72,7 +72,7 @@ no_letters_behind d digits (inr e) h = ap (λ l. prefix_len is_ascii_alphabetic 
 abbrev with_numbers : List ℕ → ℕ → ℕ → Address
 with_numbers name column row = record { name = name; column = column; row = row }
 
-pub read : (text : List ℕ) (a : Address) → Spells text a → address_in text ≡ Some a
+pub read : (text : List ℕ) (a : Address) → SpellsMarked text a → marked_address text ≡ Some a
 read text a s =
     let tail = s.between ++ s.digits in
     let place = s.before ++ (s.letters ++ tail) in

@@ -8,7 +8,7 @@ use Rattle.workbook.specs.Files.{sheet_in}
 use Rattle.commands.specs.declared.answer.Answer.{Answer}
 use Rattle.commands.specs.declared.answer.Answer.TheVariants as answer
 use Rattle.commands.specs.declared.units.TheConstants.{MOST_UNITS}
-use Rattle.commands.specs.Addresses.{Address, address_in, is_number}
+use Rattle.commands.specs.Addresses.{Address, marked_address, is_number}
 
 -- ---- cells
 -- its row and its column are those of a sheet
@@ -26,7 +26,7 @@ cell_at sheets (Some a) = cell_on a (place_in sheets a.name)
 
 -- the cell that a text names, or the first cause why it names none
 abbrev pub cell_named : List (List ℕ) → List ℕ → Result Cell Answer
-cell_named sheets text = cell_at sheets (address_in text)
+cell_named sheets text = cell_at sheets (marked_address text)
 
 -- ---- sheets
 abbrev pub or_unknown : {A : Type 0} → Option A → Result A Answer

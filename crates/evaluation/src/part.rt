@@ -44,8 +44,8 @@ impl Part {
     }
 
     /// What it leaves in a cell.
-    pub fn into_value(self, alloc: Global) -> Result<Option<Value>, Memory>
-        ensures { IfOk result (λ value. value ≡ option_map cell_value self.outcome) }
+    pub fn to_value(&self, alloc: Global) -> Result<Option<Value>, Memory>
+        ensures { IfOk result (λ value. value ≡ option_map cell_value self.now.outcome) }
     {
         match &self.outcome {
             Some(arg) => Ok(Some(cell_value(alloc, arg)?)),

@@ -8,7 +8,7 @@ use Rattle.frac128.specs.Numeral.{Numeral}
 use Rattle.frac128.specs.NumeralReading.{reading}
 use Rattle.cell_refs.specs.declared.cell.Cell.{Cell}
 use Rattle.formula_ast.specs.Tree.{Tree}
-use Rattle.formula_grammar.specs.Words.{logical_in}
+use Rattle.formula_grammar.specs.Words.{logical_word}
 use Rattle.sheet_model.specs.declared.value.Value.TheVariants as value
 use Rattle.sheet_funcs.specs.Numerals.{narrow_value}
 use Rattle.recalculation.specs.Entries.{Entry, Constant, Formula, Malformed, entry}
@@ -82,7 +82,7 @@ plain_narrow text None h = absurd cc
 
 plain_number : (text : List ℕ) (o : Option Numeral) → kind_of (Some (number_or_other text o)) ≡ kind.Plain → number_or_other text o ≡ Constant (value.Text text)
 plain_number text (Some n) h = plain_narrow text (narrow_value n) h
-plain_number text None h = plain_logical text (logical_in text) h
+plain_number text None h = plain_logical text (logical_word text) h
 
 plain_formula : (text : List ℕ) (o : Option Tree) → kind_of (Some (option_map_or Formula o Malformed)) ≡ kind.Plain → option_map_or Formula o Malformed ≡ Constant (value.Text text)
 plain_formula text (Some t) h = absurd cc

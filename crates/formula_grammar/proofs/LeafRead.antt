@@ -8,7 +8,7 @@ use Rattle.formula_grammar.specs.declared.symbol.Sign.{Sign}
 use Rattle.formula_grammar.specs.declared.symbol.Sign.TheVariants as sign
 use Rattle.formula_grammar.specs.declared.symbol.Symbol.{Symbol}
 use Rattle.formula_grammar.specs.Symbols.{Setting, bytes_of, from_to, place_of}
-use Rattle.formula_grammar.specs.Words.{Given, Own, Named, Corner, corner_on, sheet_by, sheet_of, number_tree, negative_tree, logical_in}
+use Rattle.formula_grammar.specs.Words.{Given, Own, Named, Corner, corner_on, sheet_by, sheet_of, number_tree, negative_tree, logical_word}
 use Rattle.formula_grammar.specs.WordReading.{unless_logical, split_corner, word_corner}
 use Rattle.frac128.proofs.Spelling.{reading-complete}
 use Rattle.formula_grammar.proofs.WordCorners.{split_read, word_none, word_read}
@@ -295,13 +295,13 @@ module _ (S : Setting) where
   unfolding leaf_at
   corner_front (word {c = c} s is h) rest = ap (λ g. leaf_by S g s rest) is ∙ by (starts_with is_sheet_mark rest)
     where
-      by : (b : Bool) → cond b (references_at S (s ∷ rest)) (lone_word S s rest (logical_in (bytes_of S s)) (word_corner S (bytes_of S s))) ≡ references_at S (s ∷ rest)
+      by : (b : Bool) → cond b (references_at S (s ∷ rest)) (lone_word S s rest (logical_word (bytes_of S s)) (word_corner S (bytes_of S s))) ≡ references_at S (s ∷ rest)
       by true = refl
-      by false = ap (λ l. lone_word S s rest l (word_corner S (bytes_of S s))) (no_logical (logical_in (bytes_of S s)) _ c (word_read S (bytes_of S s) h)) ∙ ap (lone_word S s rest None) (word_read S (bytes_of S s) h)
+      by false = ap (λ l. lone_word S s rest l (word_corner S (bytes_of S s))) (no_logical (logical_word (bytes_of S s)) _ c (word_read S (bytes_of S s) h)) ∙ ap (lone_word S s rest None) (word_read S (bytes_of S s) h)
   corner_front (on_sheet {name = name} s t u sheet mark is h) rest = by s.sign sheet
     where
       by : (g : Sign) → sheet_by S g s ≡ Some name → leaf_by S g s (t ∷ u ∷ rest) ≡ references_at S (s ∷ t ∷ u ∷ rest)
-      by sign.Word e = ap (λ b. cond b (references_at S (s ∷ t ∷ u ∷ rest)) (lone_word S s (t ∷ u ∷ rest) (logical_in (bytes_of S s)) (word_corner S (bytes_of S s)))) (mark_passes t.sign mark)
+      by sign.Word e = ap (λ b. cond b (references_at S (s ∷ t ∷ u ∷ rest)) (lone_word S s (t ∷ u ∷ rest) (logical_word (bytes_of S s)) (word_corner S (bytes_of S s)))) (mark_passes t.sign mark)
       by sign.Quoted e = refl
       by _ e = absurd cc
 
@@ -316,11 +316,11 @@ module _ (S : Setting) where
   union_front (one p) rest = reference_front p rest
   union_front (joined {a = a} {b = b} s tilde p q) rest = subst (λ c. leaf_at S c ≡ references_at S c) (sym (append_assoc a (s ∷ b) rest)) (union_front p (s ∷ (b ++ rest)))
 
-  word_there : (s : Symbol) (rest : List Symbol) → s.sign ≡ sign.Word → 0 < ahead rest → leaf_at S (s ∷ rest) ≡ lone_word S s rest (logical_in (bytes_of S s)) (word_corner S (bytes_of S s))
+  word_there : (s : Symbol) (rest : List Symbol) → s.sign ≡ sign.Word → 0 < ahead rest → leaf_at S (s ∷ rest) ≡ lone_word S s rest (logical_word (bytes_of S s)) (word_corner S (bytes_of S s))
   unfolding leaf_at
   word_there s rest is h =
       ap (λ g. leaf_by S g s rest) is
-      ∙ ap (λ b. cond b (references_at S (s ∷ rest)) (lone_word S s rest (logical_in (bytes_of S s)) (word_corner S (bytes_of S s)))) (loose_ends rest h).no_mark
+      ∙ ap (λ b. cond b (references_at S (s ∷ rest)) (lone_word S s rest (logical_word (bytes_of S s)) (word_corner S (bytes_of S s)))) (loose_ends rest h).no_mark
 
   array_read : {a : List Symbol} {r c : ℕ} {xs : List Tree} (s t : Symbol) → t.sign ≡ sign.CloseBrace → SpellsRows S a r c xs → (rest : List Symbol) → array_at S s ((a ++ t ∷ []) ++ rest) ≡ Some (Array (from_to s.span t.span) r c (trees xs), rest)
   array_read {a = a} {r = r} {c = c} {xs = xs} s t right p rest =

@@ -13,7 +13,7 @@ use Rattle.formula_grammar.specs.declared.symbol.Sign.{Sign}
 use Rattle.formula_grammar.specs.declared.symbol.Sign.TheVariants as sign
 use Rattle.formula_grammar.specs.declared.symbol.Symbol.{Symbol}
 use Rattle.formula_grammar.specs.Symbols.{Setting, bytes_of, from_to, place_of}
-use Rattle.formula_grammar.specs.Words.{Given, Own, Named, Corner, corner_on, sheet_of, number_tree, negative_tree, quoted_text, error_in, logical_in}
+use Rattle.formula_grammar.specs.Words.{Given, Own, Named, Corner, corner_on, sheet_of, number_tree, negative_tree, quoted_text, error_in, logical_word}
 use Rattle.formula_grammar.specs.WordReading.{split_corner, word_corner}
 use Rattle.formula_grammar.specs.References.{SpellsCorner, word, on_sheet, SpellsInner, own, after_sheet, joined_word, SpellsReference, cell, area, inner_cell, inner_area, SpellsUnion, one, joined, area_between}
 use Rattle.formula_grammar.specs.Arrays.{SpellsItem, number, positive, negative, text, logical, SpellsRow, first, next, SpellsRows, first_row, next_row}
@@ -301,7 +301,7 @@ module _ (S : Setting) where
       by sign.Plus is h = signed_read s ss found (inl is) h
       by sign.Minus is h = signed_read s ss found (inr is) h
       by sign.Text is h = alone (SpellsItem S) s ss (Text s.span (quoted_text (bytes_of S s))) found (text s is) h
-      by sign.Word is h = let b = bind_some (logical_in (bytes_of S s)) (λ b. Some (Logical s.span b, ss)) found h in alone (SpellsItem S) s ss (Logical s.span b.0) found (logical s is b.1) b.2
+      by sign.Word is h = let b = bind_some (logical_word (bytes_of S s)) (λ b. Some (Logical s.span b, ss)) found h in alone (SpellsItem S) s ss (Logical s.span b.0) found (logical s is b.1) b.2
       by _ is h = absurd cc
 
   row_keeps : KeepsTurn (SpellsRow S) (row_turn S)
@@ -377,14 +377,14 @@ module _ (S : Setting) where
   word_sound : (s : Symbol) → s.sign ≡ sign.Word → (ss : List Symbol) (found : Tree × List Symbol) → word_leaf S s ss ≡ Some found → Reads (SpellsLeaf S) (s ∷ ss) found
   word_sound s is ss found e = by (starts_with is_sheet_mark ss) e
     where
-      lone : (b : Option Bool) (c : Option Corner) → logical_in (bytes_of S s) ≡ b → word_corner S (bytes_of S s) ≡ c → lone_word S s ss b c ≡ Some found → Reads (SpellsLeaf S) (s ∷ ss) found
+      lone : (b : Option Bool) (c : Option Corner) → logical_word (bytes_of S s) ≡ b → word_corner S (bytes_of S s) ≡ c → lone_word S s ss b c ≡ Some found → Reads (SpellsLeaf S) (s ∷ ss) found
       lone (Some b) c is_logical is_corner h = alone (SpellsLeaf S) s ss (Logical s.span b) found (leaf.logical s is is_logical) h
       lone None (Some c) is_logical is_corner h = references_sound (s ∷ ss) found h
       lone None None is_logical is_corner h = alone (SpellsLeaf S) s ss (Name s.span (bytes_of S s)) found (leaf.name s is is_logical (no_word S (bytes_of S s) is_corner)) h
 
-      by : (b : Bool) → cond b (references_at S (s ∷ ss)) (lone_word S s ss (logical_in (bytes_of S s)) (word_corner S (bytes_of S s))) ≡ Some found → Reads (SpellsLeaf S) (s ∷ ss) found
+      by : (b : Bool) → cond b (references_at S (s ∷ ss)) (lone_word S s ss (logical_word (bytes_of S s)) (word_corner S (bytes_of S s))) ≡ Some found → Reads (SpellsLeaf S) (s ∷ ss) found
       by true h = references_sound (s ∷ ss) found h
-      by false h = lone (logical_in (bytes_of S s)) (word_corner S (bytes_of S s)) refl refl h
+      by false h = lone (logical_word (bytes_of S s)) (word_corner S (bytes_of S s)) refl refl h
 
   -- what is read is spelled so
   pub leaf_spelled : Sound (SpellsLeaf S) (leaf_at S)

@@ -14,7 +14,7 @@ use Rattle.cell_refs.specs.declared.limits.TheConstants.{COLUMNS, ROWS}
 use Rattle.cell_refs.proofs.AddressReading.{told}
 use Rattle.cell_refs.proofs.SheetReading.{sheets_are_spelled}
 use Rattle.formula_grammar.specs.Symbols.{Setting}
-use Rattle.formula_grammar.specs.Words.{Corner, Given, Named, Own, corner_on, has_point, logical_in}
+use Rattle.formula_grammar.specs.Words.{Corner, Given, Named, Own, corner_on, has_point, logical_word}
 use Rattle.formula_grammar.specs.WordReading.{at_last_point, if_listed, or_else, split_corner, unless_logical, with_byte, word_corner}
 use Rattle.formula_grammar.specs.References.{SpellsJoined, SpellsWord, address, with_sheet}
 use Rattle.formula_grammar.proofs.Turns.{bind_some, some_is}
@@ -176,9 +176,9 @@ module _ (S : Setting) (bytes : List ℕ) where
       ∙ ap (option_map (λ _. corner (Named name) row column)) there
 
   pub word_spelled : (c : Corner) → word_corner S bytes ≡ Some c → SpellsWord S bytes c
-  word_spelled c e = by (logical_in bytes) refl e
+  word_spelled c e = by (logical_word bytes) refl e
     where
-      with_name : logical_in bytes ≡ None → address_in bytes ≡ None → listed (split_corner bytes) ≡ Some c → SpellsWord S bytes c
+      with_name : logical_word bytes ≡ None → address_in bytes ≡ None → listed (split_corner bytes) ≡ Some c → SpellsWord S bytes c
       with_name other none h =
           let d = bind_some (split_corner bytes) (λ (d : Corner). if_listed S.sheets d.sheet d) c h in
           let j = split bytes d.0 d.1 in
@@ -186,11 +186,11 @@ module _ (S : Setting) (bytes : List ℕ) where
           let no : (r k : ℕ) → IsAddress bytes r k → ⊥ = λ r k a. let both = sym none ∙ address_read bytes r k a in cc in
           subst (SpellsWord S bytes) (sym j.is ∙ there.2) (with_sheet other no j.spelled there.1)
 
-      by_place : logical_in bytes ≡ None → (o : Option (ℕ × ℕ)) → address_in bytes ≡ o → by_address o ≡ Some c → SpellsWord S bytes c
+      by_place : logical_word bytes ≡ None → (o : Option (ℕ × ℕ)) → address_in bytes ≡ o → by_address o ≡ Some c → SpellsWord S bytes c
       by_place other (Some a) is h = subst (SpellsWord S bytes) (some_is (corner Own a.0 a.1) c h) (address other (address_spelled bytes a is))
       by_place other None is h = with_name other is h
 
-      by : (o : Option Bool) → logical_in bytes ≡ o → unless_logical o (by_address (address_in bytes)) ≡ Some c → SpellsWord S bytes c
+      by : (o : Option Bool) → logical_word bytes ≡ o → unless_logical o (by_address (address_in bytes)) ≡ Some c → SpellsWord S bytes c
       by (Some b) is h = absurd cc
       by None is h = by_place is (address_in bytes) refl h
 

@@ -3,7 +3,7 @@ use Rattle.std.specs.Prelude.{◌≡◌, ℕ, suc, Bool, List, [], ◌∷◌, �
 use Rattle.frac128.specs.Numeral.{Numeral, Spells}
 use Rattle.formula_ast.specs.Tree.{Tree, Text, Logical}
 use Rattle.formula_grammar.specs.Symbols.{Setting, bytes_of, from_to}
-use Rattle.formula_grammar.specs.Words.{number_tree, negative_tree, quoted_text, logical_in}
+use Rattle.formula_grammar.specs.Words.{number_tree, negative_tree, quoted_text, logical_word}
 use Rattle.formula_grammar.specs.declared.symbol.Sign.TheVariants as sign
 use Rattle.formula_grammar.specs.declared.symbol.Symbol.{Symbol}
 
@@ -15,7 +15,7 @@ pub data SpellsItem (S : Setting) : List Symbol → Tree → Type 0 where
   negative : {n : Numeral} (s t : Symbol) → s.sign ≡ sign.Minus → t.sign ≡ sign.Number → Spells (bytes_of S t) n
       → SpellsItem S (s ∷ t ∷ []) (negative_tree (from_to s.span t.span) n)
   text : (s : Symbol) → s.sign ≡ sign.Text → SpellsItem S (s ∷ []) (Text s.span (quoted_text (bytes_of S s)))
-  logical : {b : Bool} (s : Symbol) → s.sign ≡ sign.Word → logical_in (bytes_of S s) ≡ Some b → SpellsItem S (s ∷ []) (Logical s.span b)
+  logical : {b : Bool} (s : Symbol) → s.sign ≡ sign.Word → logical_word (bytes_of S s) ≡ Some b → SpellsItem S (s ∷ []) (Logical s.span b)
 
 -- a row: items with ; between
 pub data SpellsRow (S : Setting) : List Symbol → List Tree → Type 0 where

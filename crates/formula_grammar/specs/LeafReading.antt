@@ -6,7 +6,7 @@ use Rattle.cell_refs.specs.declared.span.Span.{Span}
 use Rattle.cell_refs.specs.Address.{address_in}
 use Rattle.formula_ast.specs.Tree.{Tree, Text, Logical, Fault, Array, Reference, Name, Referred, trees}
 use Rattle.formula_grammar.specs.Symbols.{Setting, bytes_of, from_to, place_of}
-use Rattle.formula_grammar.specs.Words.{Given, Own, Named, Corner, corner_on, sheet_of, number_tree, negative_tree, quoted_text, error_in, logical_in}
+use Rattle.formula_grammar.specs.Words.{Given, Own, Named, Corner, corner_on, sheet_of, number_tree, negative_tree, quoted_text, error_in, logical_word}
 use Rattle.formula_grammar.specs.WordReading.{split_corner, word_corner}
 use Rattle.formula_grammar.specs.References.{area_between}
 use Rattle.formula_grammar.specs.Loops.{Found, Reader, Turn, Stop, Fail, Go, go_on, all_turns, ◌>>=◌}
@@ -165,7 +165,7 @@ item_by S sign.Number s ss = option_and_then (λ n. Some (number_tree s.span n, 
 item_by S sign.Plus s ss = signed_number_at S s ss
 item_by S sign.Minus s ss = signed_number_at S s ss
 item_by S sign.Text s ss = Some (Text s.span (quoted_text (bytes_of S s)), ss)
-item_by S sign.Word s ss = option_and_then (λ b. Some (Logical s.span b, ss)) (logical_in (bytes_of S s))
+item_by S sign.Word s ss = option_and_then (λ b. Some (Logical s.span b, ss)) (logical_word (bytes_of S s))
 item_by S _ s ss = None
 
 unfoldable pub item_at : Setting → Reader Tree
@@ -216,7 +216,7 @@ lone_word S s ss None None = Some (Name s.span (bytes_of S s), ss)
 abbrev pub word_leaf : Setting → Symbol → List Symbol → Found Tree
 word_leaf S s ss =
     if starts_with is_sheet_mark ss then references_at S (s ∷ ss)
-    else lone_word S s ss (logical_in (bytes_of S s)) (word_corner S (bytes_of S s))
+    else lone_word S s ss (logical_word (bytes_of S s)) (word_corner S (bytes_of S s))
 
 abbrev pub leaf_by : Setting → Sign → Symbol → List Symbol → Found Tree
 leaf_by S sign.Number s ss = option_and_then (λ n. Some (number_tree s.span n, ss)) (reading (bytes_of S s))

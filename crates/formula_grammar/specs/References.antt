@@ -8,7 +8,7 @@ use Rattle.cell_refs.specs.Sheets.{SpellsSheet}
 use Rattle.cell_refs.specs.declared.cell.Cell.{Cell}
 use Rattle.formula_ast.specs.Tree.{Referred, Listed, Unlisted}
 use Rattle.formula_grammar.specs.Symbols.{Setting, bytes_of}
-use Rattle.formula_grammar.specs.Words.{Given, Own, Named, Corner, corner_on, has_point, logical_in, sheet_of}
+use Rattle.formula_grammar.specs.Words.{Given, Own, Named, Corner, corner_on, has_point, logical_word, sheet_of}
 use Rattle.formula_grammar.specs.declared.symbol.Sign.TheVariants as sign
 use Rattle.formula_grammar.specs.declared.symbol.Symbol.{Symbol}
 
@@ -60,9 +60,9 @@ pub record SpellsJoined (bytes name : List ℕ) (row column : ℕ) : Type 0 wher
 -- the corner that a word outside brackets is, unless it is TRUE or FALSE: an address; or else a listed sheet's name and an
 -- address
 pub data SpellsWord (S : Setting) (bytes : List ℕ) : Corner → Type 0 where
-  address : {row column : ℕ} → logical_in bytes ≡ None → IsAddress bytes row column
+  address : {row column : ℕ} → logical_word bytes ≡ None → IsAddress bytes row column
       → SpellsWord S bytes (record { sheet = Own; row = row; column = column })
-  with_sheet : {name : List ℕ} {row column id : ℕ} → logical_in bytes ≡ None → ((r c : ℕ) → IsAddress bytes r c → ⊥)
+  with_sheet : {name : List ℕ} {row column id : ℕ} → logical_word bytes ≡ None → ((r c : ℕ) → IsAddress bytes r c → ⊥)
       → SpellsJoined bytes name row column → place_in S.sheets name ≡ Some id
       → SpellsWord S bytes (record { sheet = Named name; row = row; column = column })
 

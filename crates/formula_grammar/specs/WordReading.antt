@@ -5,7 +5,7 @@ use Rattle.cell_refs.specs.Address.{address_in}
 use Rattle.cell_refs.specs.Names.{place_in}
 use Rattle.cell_refs.specs.Sheets.{sheet_in}
 use Rattle.formula_grammar.specs.Symbols.{Setting}
-use Rattle.formula_grammar.specs.Words.{Given, Own, Named, Corner, corner_on, logical_in}
+use Rattle.formula_grammar.specs.Words.{Given, Own, Named, Corner, corner_on, logical_word}
 
 -- what stands before and behind the last point
 abbrev pub with_byte : ℕ → Option (List ℕ × List ℕ) → List ℕ → Option (List ℕ × List ℕ)
@@ -37,5 +37,5 @@ unless_logical None corner = corner
 -- joined by a point
 abbrev pub word_corner : Setting → List ℕ → Option Corner
 word_corner S bytes =
-    unless_logical (logical_in bytes)
+    unless_logical (logical_word bytes)
     (or_else (corner_on Own (address_in bytes)) (option_and_then (λ c. if_listed S.sheets c.sheet c) (split_corner bytes)))

@@ -48,8 +48,8 @@ error_in bytes =
     else None
 
 -- TRUE or FALSE, in any case of letters
-abbrev pub logical_in : List ℕ → Option Bool
-logical_in bytes = if same_letters bytes (codes "TRUE") then Some true else if same_letters bytes (codes "FALSE") then Some false else None
+abbrev pub logical_word : List ℕ → Option Bool
+logical_word bytes = if same_letters bytes (codes "TRUE") then Some true else if same_letters bytes (codes "FALSE") then Some false else None
 
 -- whether a point stands in a word
 abbrev pub has_point : List ℕ → Bool

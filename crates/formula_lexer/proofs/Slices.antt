@@ -4,7 +4,7 @@ use Rattle.std.specs.Prelude.{◌&&◌, ◌||◌, not, nat_eq, take_while}
 use Rattle.std.specs.Option.{option_map}
 use Rattle.std.specs.List.{prefix_len}
 use Rattle.std.proofs.lemmas.List.{drop-drop, length-take}
-use Rattle.formula_lexer.specs.Front.{Front, begins_with, digits, exponent, fault_len, first, fraction, front, front_of, goes_on_word, is_digit, is_mark, is_pair, mantissa, number_len, of_kind, opens_name, quoted_len, sign, starts_number, starts_word, word_rest}
+use Rattle.formula_lexer.specs.Front.{Front, begins_with, digits, exponent, fault_len, first, fraction, front, front_of, continues_word, is_digit, is_mark, is_pair, mantissa, number_len, of_kind, opens_name, quoted_len, sign, starts_number, starts_word, word_rest}
 use Rattle.formula_lexer.specs.Tokens.{AreSlices, Tokens, ends, blank, begins}
 use Rattle.formula_lexer.specs.declared.token.TokenKind.TheVariants as token
 use Rattle.cell_refs.specs.ErrorText.{error_text}
@@ -19,7 +19,7 @@ taken_within test bytes = omega (arith, length-take (prefix_len test bytes) byte
 
 word_within : (bytes : List ℕ) → word_rest bytes ≤ length bytes
 word_within [] = omega arith
-word_within (b ∷ bytes) = by (goes_on_word b && not (opens_name b (first bytes))) (word_within bytes)
+word_within (b ∷ bytes) = by (continues_word b && not (opens_name b (first bytes))) (word_within bytes)
   where
     by : (t : Bool) → word_rest bytes ≤ length bytes → (if t then suc (word_rest bytes) else 0) ≤ suc (length bytes)
     by true h = omega (arith, h)

@@ -27,8 +27,8 @@ abbrev pub starts_word : ℕ → Bool
 starts_word b = is_letter b || nat_eq b 95 || nat_eq b 36
 
 -- what it goes on with: the same, a digit or a point
-abbrev pub goes_on_word : ℕ → Bool
-goes_on_word b = starts_word b || is_digit b || nat_eq b 46
+abbrev pub continues_word : ℕ → Bool
+continues_word b = starts_word b || is_digit b || nat_eq b 46
 
 -- a dollar sign right before a single quote, which belongs to the name in quotes
 abbrev pub opens_name : ℕ → ℕ → Bool
@@ -37,7 +37,7 @@ opens_name b c = nat_eq b 36 && nat_eq c 39
 -- how far a word goes on
 abbrev pub word_rest : List ℕ → ℕ
 word_rest [] = 0
-word_rest (b ∷ bytes) = if goes_on_word b && not (opens_name b (first bytes)) then suc (word_rest bytes) else 0
+word_rest (b ∷ bytes) = if continues_word b && not (opens_name b (first bytes)) then suc (word_rest bytes) else 0
 
 abbrev pub digits : List ℕ → ℕ
 digits bytes = length (take_while is_digit bytes)

@@ -2,7 +2,7 @@
 ghost use Rattle.std.specs.Prelude.{◌≡◌, ℕ, ◌+◌, ◌<◌, ◌≤◌, IfSome, IsTrue, drop, length};
 ghost use Rattle.cell_refs.specs.ErrorText.{error_text};
 ghost use Rattle.formula_lexer.specs.declared.token.TokenKind.TheVariants as token;
-ghost use Rattle.formula_lexer.specs.Front.{is_blank, is_digit, is_letter, starts_word, goes_on_word, opens_name, word_rest, digits, fraction, mantissa, exponent, sign, number_len, quoted_len, starts_number, begins_with, fault_len, first, is_pair, is_mark, of_kind, front};
+ghost use Rattle.formula_lexer.specs.Front.{is_blank, is_digit, is_letter, starts_word, continues_word, opens_name, word_rest, digits, fraction, mantissa, exponent, sign, number_len, quoted_len, starts_number, begins_with, fault_len, first, is_pair, is_mark, of_kind, front};
 
 use crate::token::TokenKind;
 use cell_refs::ErrorKind;
@@ -25,8 +25,8 @@ fn starts_word(b: u8) -> bool
     (b >= b'A' && b <= b'Z') || (b >= b'a' && b <= b'z') || b >= 128 || b == b'_' || b == b'$'
 }
 
-fn goes_on_word(b: u8) -> bool
-    ensures { result ≡ goes_on_word b }
+fn continues_word(b: u8) -> bool
+    ensures { result ≡ continues_word b }
 {
     starts_word(b) || is_digit(b) || b == b'.'
 }
@@ -51,7 +51,7 @@ fn word_rest(bytes: &[u8]) -> usize
     ensures within { result ≤ length bytes.now }
 {
     for (at, b) in bytes.iter().enumerate() {
-        if !goes_on_word(*b) || opens_name(*b, first(&bytes[at + 1..])) {
+        if !continues_word(*b) || opens_name(*b, first(&bytes[at + 1..])) {
             return at;
         }
     }

@@ -1,5 +1,6 @@
 // The tokens of a text.
 ghost use Rattle.std.specs.Prelude.{◌≡◌, ◌+◌, ◌≤◌, ℕ, List, length};
+ghost use Rattle.cell_refs.specs.declared.limits.TheConstants.{TEXT_BYTES};
 ghost use Rattle.formula_lexer.specs.Tokens.{AreSlices, LexAnswers, NoToken, Tokens, token};
 ghost use Rattle.formula_lexer.specs.declared.token.Token.{Token};
 
@@ -9,7 +10,7 @@ use cell_refs::Span;
 use std::alloc::Global;
 
 fn token(kind: TokenKind, at: usize, len: usize) -> Token
-    requires { at + len ≤ 8193 }
+    requires { at + len ≤ TEXT_BYTES + 1 }
     ensures { result ≡ token kind at len }
 {
     Token {
@@ -23,7 +24,7 @@ fn token(kind: TokenKind, at: usize, len: usize) -> Token
 
 /// The tokens of a text, with blanks, tabs and line ends between them or not (OpenDocument 1.2 part 2, section 5).
 pub fn tokens(alloc: Global, text: &str) -> Result<Vec<Token>, LexFault>
-    requires { length text.now ≤ 8193 }
+    requires { length text.now ≤ TEXT_BYTES + 1 }
     ensures { LexAnswers text.now result }
 {
     cut(alloc, text.as_bytes())
@@ -31,7 +32,7 @@ pub fn tokens(alloc: Global, text: &str) -> Result<Vec<Token>, LexFault>
 
 // The tokens of a text's bytes.
 fn cut(alloc: Global, text: &[u8]) -> Result<Vec<Token>, LexFault>
-    requires { length text.now ≤ 8193 }
+    requires { length text.now ≤ TEXT_BYTES + 1 }
     ensures { LexAnswers text.now result }
 {
     let mut tokens = Vec::new(alloc);

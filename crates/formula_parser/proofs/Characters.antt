@@ -14,7 +14,7 @@ use Rattle.cell_refs.specs.declared.error_kind.ErrorKind.TheVariants as kind
 use Rattle.formula_lexer.specs.declared.token.Token.{Token}
 use Rattle.formula_lexer.specs.declared.token.TokenKind.{TokenKind}
 use Rattle.formula_lexer.specs.declared.token.TokenKind.TheVariants as token
-use Rattle.formula_lexer.specs.Front.{Front, begins_with, digits, exponent, fault_len, first, fraction, front, front_of, goes_on_word, is_blank, is_digit, is_mark, is_pair, mantissa, number_len, of_kind, opens_name, quoted_len, sign, starts_number, starts_word, word_rest}
+use Rattle.formula_lexer.specs.Front.{Front, begins_with, digits, exponent, fault_len, first, fraction, front, front_of, continues_word, is_blank, is_digit, is_mark, is_pair, mantissa, number_len, of_kind, opens_name, quoted_len, sign, starts_number, starts_word, word_rest}
 use Rattle.formula_lexer.specs.Tokens.{Tokens, ends, blank, begins}
 use Rattle.formula_lexer.proofs.Slices.{front_fits}
 use Rattle.std.specs.Prelude.{All}
@@ -206,7 +206,7 @@ faults_cut bytes n h = by (begins_with (error_text kind.Div0) bytes) (begins_wit
     by false false false false false f g i j k h = cc h
 
 -- a word ends before a byte of ASCII, or at the end
-other_ascii : (b : ℕ) → goes_on_word b ≡ false → b < 128
+other_ascii : (b : ℕ) → continues_word b ≡ false → b < 128
 other_ascii b h = grind (arith, nat_tests)
 
 opens_ascii : (b c : ℕ) → opens_name b c ≡ true → b < 128
@@ -217,9 +217,9 @@ WordEnds bytes n = ((n < length bytes) × (get_or bytes n 0 < 128)) ⊎ (n ≡ l
 
 word_ends : (bytes : List ℕ) → WordEnds bytes (word_rest bytes)
 word_ends [] = inr refl
-word_ends (b ∷ bytes) = by (goes_on_word b) (opens_name b (first bytes)) refl refl (word_ends bytes)
+word_ends (b ∷ bytes) = by (continues_word b) (opens_name b (first bytes)) refl refl (word_ends bytes)
   where
-    by : (t u : Bool) → goes_on_word b ≡ t → opens_name b (first bytes) ≡ u → WordEnds bytes (word_rest bytes) → WordEnds (b ∷ bytes) (if t && not u then suc (word_rest bytes) else 0)
+    by : (t u : Bool) → continues_word b ≡ t → opens_name b (first bytes) ≡ u → WordEnds bytes (word_rest bytes) → WordEnds (b ∷ bytes) (if t && not u then suc (word_rest bytes) else 0)
     by true false e f (inl h) = inl (omega (arith, h.0), h.1)
     by true false e f (inr h) = inr (ap suc h)
     by true true e f h = inl (omega arith, opens_ascii b (first bytes) f)

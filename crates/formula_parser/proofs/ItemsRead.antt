@@ -10,7 +10,7 @@ use Rattle.formula_grammar.specs.declared.symbol.Sign.{Sign}
 use Rattle.formula_grammar.specs.declared.symbol.Sign.TheVariants as sign
 use Rattle.formula_grammar.specs.declared.symbol.Symbol.{Symbol}
 use Rattle.formula_grammar.specs.Symbols.{Setting, bytes_of, from_to}
-use Rattle.formula_grammar.specs.Words.{logical_in, negative_tree, number_tree}
+use Rattle.formula_grammar.specs.Words.{logical_word, negative_tree, number_tree}
 use Rattle.formula_grammar.specs.LeafReading.{is_number, item_at, item_by, one_at, signed_by, signed_number_at}
 use Rattle.formula_parser.specs.declared.stop.Stop.{Stop}
 use Rattle.formula_parser.specs.declared.stop.Stop.TheVariants as stops
@@ -76,7 +76,7 @@ module _ (S : Setting) where
       by_sign sign.Plus a b c = absurd (b refl)
       by_sign sign.Minus a b c = absurd (c refl)
       by_sign sign.Text a b c = refl
-      by_sign sign.Word a b c = logical_case (logical_in (bytes_of S s))
+      by_sign sign.Word a b c = logical_case (logical_word (bytes_of S s))
       by_sign _ a b c = refl
 
   -- what is kept of a number behind its sign

@@ -13,7 +13,7 @@ use Rattle.formula_grammar.specs.declared.symbol.Sign.TheVariants as sign
 use Rattle.formula_grammar.specs.declared.symbol.Symbol.{Symbol}
 use Rattle.formula_grammar.specs.Symbols.{Setting, bytes_of, last_end, place_of}
 use Rattle.cell_refs.specs.Address.{address_in}
-use Rattle.formula_grammar.specs.Words.{Corner, Own, corner_on, error_in, logical_in, number_tree, quoted_text}
+use Rattle.formula_grammar.specs.Words.{Corner, Own, corner_on, error_in, logical_word, number_tree, quoted_text}
 use Rattle.formula_grammar.specs.WordReading.{if_listed, or_else, split_corner, unless_logical, word_corner}
 use Rattle.formula_grammar.specs.Loops.{Found}
 use Rattle.formula_grammar.specs.LeafReading.{array_at, is_sheet_mark, leaf_at, leaf_by, lone_word, references_at, starts_with, word_leaf}
@@ -97,7 +97,7 @@ module _ (S : Setting) (s : Symbol) where
       by_sign sign.Number e = looked_up number_tree (λ n. number_place n (is_narrow_numeral n)) (reading (bytes_of S s)) t e
       by_sign sign.Text e = ap span_of (sym (some_is (Text s.span (quoted_text (bytes_of S s))) t e))
       by_sign sign.Fault e = looked_up Fault (λ k. refl) (error_in (bytes_of S s)) t e
-      by_sign sign.Word e = ap span_of (sym (some_is (option_map_or (Logical s.span) (logical_in (bytes_of S s)) (Name s.span (bytes_of S s))) t e)) ∙ word_place (logical_in (bytes_of S s))
+      by_sign sign.Word e = ap span_of (sym (some_is (option_map_or (Logical s.span) (logical_word (bytes_of S s)) (Name s.span (bytes_of S s))) t e)) ∙ word_place (logical_word (bytes_of S s))
       by_sign _ e = absurd cc
 
   -- a single symbol stands in front of the rest
@@ -130,7 +130,7 @@ single_fails stops.Syntax rest o h = ap (single_before rest) h
 
 module _ (S : Setting) (s : Symbol) (rest : List Symbol) where
   -- a logical is no corner
-  lone_corner : (b : Option Bool) (c : Option Corner) → logical_in (bytes_of S s) ≡ b → word_corner S (bytes_of S s) ≡ c → is_some c ≡ true → lone_word S s rest b c ≡ references_at S (s ∷ rest)
+  lone_corner : (b : Option Bool) (c : Option Corner) → logical_word (bytes_of S s) ≡ b → word_corner S (bytes_of S s) ≡ c → is_some c ≡ true → lone_word S s rest b c ≡ references_at S (s ∷ rest)
   lone_corner b None is corner h = absurd cc
   lone_corner None (Some c) is corner h = refl
   lone_corner (Some b) (Some c) is corner h = absurd (let k : None ≡ Some c = sym (ap unless is) ∙ corner in cc)
@@ -142,9 +142,9 @@ module _ (S : Setting) (s : Symbol) (rest : List Symbol) where
   pub word_references : (starts_with is_sheet_mark rest || is_some (word_corner S (bytes_of S s))) ≡ true → word_leaf S s rest ≡ references_at S (s ∷ rest)
   word_references h = by_mark (starts_with is_sheet_mark rest) h
     where
-      by_mark : (b : Bool) → (b || is_some (word_corner S (bytes_of S s))) ≡ true → cond b (references_at S (s ∷ rest)) (lone_word S s rest (logical_in (bytes_of S s)) (word_corner S (bytes_of S s))) ≡ references_at S (s ∷ rest)
+      by_mark : (b : Bool) → (b || is_some (word_corner S (bytes_of S s))) ≡ true → cond b (references_at S (s ∷ rest)) (lone_word S s rest (logical_word (bytes_of S s)) (word_corner S (bytes_of S s))) ≡ references_at S (s ∷ rest)
       by_mark true h = refl
-      by_mark false h = lone_corner (logical_in (bytes_of S s)) (word_corner S (bytes_of S s)) refl refl h
+      by_mark false h = lone_corner (logical_word (bytes_of S s)) (word_corner S (bytes_of S s)) refl refl h
 
   -- what a word is alone
   pub word_alone : s.sign ≡ sign.Word → (starts_with is_sheet_mark rest || is_some (word_corner S (bytes_of S s))) ≡ false → leaf_found (word_leaf S s rest) ≡ single_before rest (option_map leaf_part (single_in S s))
@@ -154,10 +154,10 @@ module _ (S : Setting) (s : Symbol) (rest : List Symbol) where
       by_logical None = refl
       by_logical (Some b) = refl
 
-      by_mark : (b : Bool) (c : Option Corner) → (b || is_some c) ≡ false → leaf_found (cond b (references_at S (s ∷ rest)) (lone_word S s rest (logical_in (bytes_of S s)) c)) ≡ Some (leaf_part (option_map_or (Logical s.span) (logical_in (bytes_of S s)) (Name s.span (bytes_of S s))), rest)
+      by_mark : (b : Bool) (c : Option Corner) → (b || is_some c) ≡ false → leaf_found (cond b (references_at S (s ∷ rest)) (lone_word S s rest (logical_word (bytes_of S s)) c)) ≡ Some (leaf_part (option_map_or (Logical s.span) (logical_word (bytes_of S s)) (Name s.span (bytes_of S s))), rest)
       by_mark true c h = absurd cc
       by_mark false (Some c) h = absurd cc
-      by_mark false None h = by_logical (logical_in (bytes_of S s))
+      by_mark false None h = by_logical (logical_word (bytes_of S s))
 
 -- ---- leaves
 

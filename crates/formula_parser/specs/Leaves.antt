@@ -16,7 +16,7 @@ use Rattle.formula_grammar.specs.Faults.{some_unlisted, is_wide}
 use Rattle.formula_grammar.specs.LeafReading.{RowsRead, reference_at, row_at, rows_turn}
 use Rattle.formula_grammar.specs.Loops.{Found, Reader, all_turns}
 use Rattle.formula_grammar.specs.Words as grammar
-use Rattle.formula_grammar.specs.Words.{Own, Named, number_tree, negative_tree, quoted_text, error_in, logical_in}
+use Rattle.formula_grammar.specs.Words.{Own, Named, number_tree, negative_tree, quoted_text, error_in, logical_word}
 use Rattle.formula_parser.specs.Built.{branch_of}
 use Rattle.formula_parser.specs.declared.branch.Part.{Part}
 use Rattle.formula_parser.specs.declared.reference.Given.{Given}
@@ -113,7 +113,7 @@ signed_number is_negative at n = if is_negative then negative_tree at n else num
 
 abbrev pub constant_by : Setting → Symbol → Sign → Option Tree
 constant_by S s sign.Text = Some (Text s.span (quoted_text (bytes_of S s)))
-constant_by S s sign.Word = option_map (Logical s.span) (logical_in (bytes_of S s))
+constant_by S s sign.Word = option_map (Logical s.span) (logical_word (bytes_of S s))
 constant_by S s _ = None
 
 -- a text, or TRUE or FALSE
@@ -144,7 +144,7 @@ abbrev pub single_by : Setting → Symbol → Sign → Option Tree
 single_by S s sign.Number = option_map (number_tree s.span) (reading (bytes_of S s))
 single_by S s sign.Text = Some (Text s.span (quoted_text (bytes_of S s)))
 single_by S s sign.Fault = option_map (Fault s.span) (error_in (bytes_of S s))
-single_by S s sign.Word = Some (option_map_or (Logical s.span) (logical_in (bytes_of S s)) (Name s.span (bytes_of S s)))
+single_by S s sign.Word = Some (option_map_or (Logical s.span) (logical_word (bytes_of S s)) (Name s.span (bytes_of S s)))
 single_by S s _ = None
 
 -- what a symbol says that stands alone and is no reference

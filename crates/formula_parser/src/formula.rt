@@ -1,5 +1,6 @@
 // The tree of a formula's text.
-ghost use Rattle.std.specs.Prelude.{◌≡◌, ◌<◌, ◌≤◌, IfOk, IfSome, length, option_map};
+ghost use Rattle.std.specs.Prelude.{◌≡◌, ◌+◌, ◌<◌, ◌≤◌, IfOk, IfSome, length, option_map};
+ghost use Rattle.cell_refs.specs.declared.limits.TheConstants.{TEXT_BYTES};
 ghost use Rattle.formula_ast.specs.Sound.{IsSound};
 ghost use Rattle.formula_parser.specs.Answers.{Answers, Settles, SymbolAnswers, behind_equals, behind_mark, is_of};
 ghost use Rattle.formula_parser.specs.Placed.{AreSymbols, IsInText};
@@ -121,7 +122,7 @@ pub fn parse(
     home: SheetId,
     sheets: &SheetNames,
 ) -> Result<Expr, ParseFault>
-    requires length { length text.now ≤ 8193 }
+    requires length { length text.now ≤ TEXT_BYTES + 1 }
     requires listed { home.0 < length sheets.now }
     ensures answer { Answers (record { text = text.now; home = home.0; sheets = sheets.now }) result }
     ensures tree { IsTreeIn (record { text = text.now; home = home.0; sheets = sheets.now }) result }

@@ -1,6 +1,7 @@
 // The reference that a name stands for.
-ghost use Rattle.std.specs.Prelude.{◌≡◌, ◌<◌, ◌≤◌, IfOk, IfSome, length};
+ghost use Rattle.std.specs.Prelude.{◌≡◌, ◌+◌, ◌<◌, ◌≤◌, IfOk, IfSome, length};
 ghost use Rattle.std.specs.Option.{option_and_then};
+ghost use Rattle.cell_refs.specs.declared.limits.TheConstants.{TEXT_BYTES};
 ghost use Rattle.cell_refs.specs.Areas.{IsOnSheet};
 ghost use Rattle.formula_grammar.specs.LeafReading.{reference_at};
 ghost use Rattle.formula_parser.specs.Leaves.{area_of};
@@ -25,7 +26,7 @@ pub fn parse_reference(
     home: SheetId,
     sheets: &SheetNames,
 ) -> Result<Option<Area>, Memory>
-    requires length { length text.now ≤ 8193 }
+    requires length { length text.now ≤ TEXT_BYTES + 1 }
     requires listed { home.0 < length sheets.now }
     ensures area { IfOk result (λ area. area ≡ area_in (record { text = text.now; home = home.0; sheets = sheets.now })) }
     ensures on_sheet { IfOk result (λ area. IfSome area IsOnSheet) }

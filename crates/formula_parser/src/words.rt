@@ -1,6 +1,6 @@
 // What single symbols say.
 ghost use Rattle.std.specs.Prelude.{◌≡◌, ◌<◌, IfOk, option_map, string_bytes};
-ghost use Rattle.formula_grammar.specs.Words.{error_in, inside, logical_in, quoted_text, sheet_of};
+ghost use Rattle.formula_grammar.specs.Words.{error_in, inside, logical_word, quoted_text, sheet_of};
 ghost use Rattle.formula_grammar.specs.WordReading.{at_last_point};
 ghost use Rattle.cell_refs.specs.Names.{same_letters};
 ghost use Rattle.formula_parser.specs.Placed.{IsInText};
@@ -20,7 +20,7 @@ pub fn is_same(text: &str, name: &str) -> bool
 
 /// TRUE or FALSE, in any case of letters.
 pub fn logical(word: &str) -> Option<bool>
-    ensures { result ≡ logical_in word.now }
+    ensures { result ≡ logical_word word.now }
 {
     if is_same(word, "TRUE") {
         Some(true)

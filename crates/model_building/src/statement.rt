@@ -1,6 +1,7 @@
 // The conditions of a sheet's statement: all but the forms of its places.
 ghost use Rattle.std.specs.Prelude.{◌≡◌, ◌≤◌, IfOk, length, map};
 ghost use Rattle.std.specs.Option.{option_map};
+ghost use Rattle.workbook.specs.declared.adj.TheConstants.{DECISIONS};
 ghost use Rattle.lin_model.specs.Kinds.{goal_of};
 ghost use Rattle.sheet_problems.specs.Forms.{condition_of, conditions_of};
 ghost use Rattle.solver_names.specs.Answers.{row_of, statement_of};
@@ -34,7 +35,7 @@ fn goal_wanted(of: &Statement) -> Option<Goal>
 
 /// The conditions that a statement makes with the forms of its objective and of its rows' sides.
 pub fn conditions(alloc: Global, of: &Statement) -> Result<Conditions, Memory>
-    requires few { length of.now.adj ≤ 512 }
+    requires few { length of.now.adj ≤ DECISIONS }
     ensures { IfOk result (λ c. c ≡ conditions_of (statement_of of.now)) }
 {
     let decisions = of.adj.cells().len() as u16;

@@ -9,7 +9,7 @@ use Rattle.cell_refs.specs.declared.error_kind.ErrorKind.{ErrorKind}
 use Rattle.cell_refs.specs.declared.error_kind.ErrorKind.TheVariants as error
 use Rattle.cell_refs.specs.ErrorText.{error_text}
 use Rattle.frac128.specs.Numeral.{point_first, absent}
-use Rattle.formula_lexer.specs.Front.{Front, first, front, goes_on_word, is_digit, is_mark, is_pair, number_len, of_kind, quoted_len, starts_number, starts_word, word_rest}
+use Rattle.formula_lexer.specs.Front.{Front, first, front, continues_word, is_digit, is_mark, is_pair, number_len, of_kind, quoted_len, starts_number, starts_word, word_rest}
 use Rattle.formula_lexer.specs.declared.token.TokenKind.{TokenKind}
 use Rattle.formula_lexer.specs.declared.token.TokenKind.TheVariants as kind
 use Rattle.reader_laws.specs.FrontTokens.{IsToken, IsLongest, IsNumber, IsQuoted, LongestIsCut, NoneIsCut, begins, ends, fault, has_name, quoted, number, text, name, dollar_name, word, pair, mark}
@@ -88,7 +88,7 @@ fault_is_cut error.Malformed behind h = absurd cc
 no_number : (b : ℕ) (bytes : List ℕ) → is_digit b ≡ false → eqb b 46 ≡ false → starts_number b bytes ≡ false
 no_number b bytes e f = ap (λ t. t || (eqb b 46 && is_digit (first bytes))) e ∙ ap (λ t. t && is_digit (first bytes)) f
 
-word_is_cut : (b : ℕ) (others behind : List ℕ) → starts_word b ≡ true → list_all goes_on_word others ≡ true → (ends 36 (b ∷ others) && begins 39 behind) ≡ false
+word_is_cut : (b : ℕ) (others behind : List ℕ) → starts_word b ≡ true → list_all continues_word others ≡ true → (ends 36 (b ∷ others) && begins 39 behind) ≡ false
     → IsCut kind.Word (suc (length others)) (b ∷ (others ++ behind))
 word_is_cut b others behind is all ended =
     let w = begins_word b is in

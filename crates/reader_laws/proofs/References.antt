@@ -10,7 +10,7 @@ use Rattle.formula_grammar.specs.declared.symbol.Sign.{Sign}
 use Rattle.formula_grammar.specs.declared.symbol.Sign.TheVariants as sign
 use Rattle.formula_grammar.specs.declared.symbol.Symbol.{Symbol}
 use Rattle.formula_grammar.specs.Symbols.{Setting, bytes_of, from_to, place_of}
-use Rattle.formula_grammar.specs.Words.{Corner, error_in, logical_in, number_tree, quoted_text}
+use Rattle.formula_grammar.specs.Words.{Corner, error_in, logical_word, number_tree, quoted_text}
 use Rattle.formula_grammar.specs.WordReading.{word_corner}
 use Rattle.formula_grammar.specs.References.{SpellsReference, one}
 use Rattle.formula_grammar.specs.Leaves as leaf
@@ -102,9 +102,9 @@ module _ (S : Setting) where
       lone None (Some c) h = h
       lone None None h = absurd (apart (Name s.span (bytes_of S s)) ss rest place rs refl h)
 
-      worded : (t : Bool) → cond t (references_at S (s ∷ ss)) (lone_word S s ss (logical_in (bytes_of S s)) (word_corner S (bytes_of S s))) ≡ Some (Reference place rs, rest) → references_at S (s ∷ ss) ≡ Some (Reference place rs, rest)
+      worded : (t : Bool) → cond t (references_at S (s ∷ ss)) (lone_word S s ss (logical_word (bytes_of S s)) (word_corner S (bytes_of S s))) ≡ Some (Reference place rs, rest) → references_at S (s ∷ ss) ≡ Some (Reference place rs, rest)
       worded true h = h
-      worded false h = lone (logical_in (bytes_of S s)) (word_corner S (bytes_of S s)) h
+      worded false h = lone (logical_word (bytes_of S s)) (word_corner S (bytes_of S s)) h
 
       numbered : (o : Option Numeral) → option_and_then {U = Tree × List Symbol} (λ n. Some (number_tree s.span n, ss)) o ≡ Some (Reference place rs, rest) → ⊥
       numbered None h = cc h

@@ -8,7 +8,7 @@ use Rattle.cell_refs.specs.ErrorText.{error_text}
 use Rattle.formula_lexer.specs.declared.token.TokenKind.{TokenKind}
 use Rattle.formula_lexer.specs.declared.token.TokenKind.TheVariants as kind
 use Rattle.formula_lexer.specs.declared.token.Token.{Token}
-use Rattle.formula_lexer.specs.Front.{front, is_blank, starts_word, goes_on_word, is_pair, is_mark}
+use Rattle.formula_lexer.specs.Front.{front, is_blank, starts_word, continues_word, is_pair, is_mark}
 use Rattle.formula_lexer.specs.Tokens.{Tokens, token}
 
 -- a number without sign and %: a mantissa, and an exponent or none
@@ -55,7 +55,7 @@ pub data IsToken : TokenKind → List ℕ → List ℕ → Type 0 where
   name : {token behind : List ℕ} → IsQuoted 39 token → begins 39 behind ≡ false → IsToken kind.Quoted token behind
   dollar_name : {token behind : List ℕ} → IsQuoted 39 token → begins 39 behind ≡ false → IsToken kind.Quoted (36 ∷ token) behind
   fault : {behind : List ℕ} (k : ErrorKind) → has_name k ≡ true → IsToken kind.Fault (error_text k) behind
-  word : {b : ℕ} {others behind : List ℕ} → starts_word b ≡ true → list_all goes_on_word others ≡ true
+  word : {b : ℕ} {others behind : List ℕ} → starts_word b ≡ true → list_all continues_word others ≡ true
       → (ends 36 (b ∷ others) && begins 39 behind) ≡ false → IsToken kind.Word (b ∷ others) behind
   pair : {b c : ℕ} {behind : List ℕ} → is_pair b c ≡ true → IsToken kind.Mark (b ∷ c ∷ []) behind
   mark : {b : ℕ} {behind : List ℕ} → is_mark b ≡ true → IsToken kind.Mark (b ∷ []) behind

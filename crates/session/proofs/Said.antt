@@ -3,7 +3,7 @@ use Rattle.std.proofs.Common.{◌≡◌, ℕ, Bool, if◌then◌else◌, true, f
 use Rattle.std.specs.Prelude.{Result, Ok, Err, IfOk}
 use Rattle.cell_refs.specs.declared.cell.Cell.{Cell}
 use Rattle.cell_refs.specs.Names.{place_in}
-use Rattle.commands.specs.Addresses.{Address, address_in}
+use Rattle.commands.specs.Addresses.{Address, marked_address}
 use Rattle.commands.specs.Lines.{CanBeSaid}
 use Rattle.commands.specs.Locating.{cell_at, cell_named, cell_on, is_inside}
 use Rattle.commands.specs.declared.answer.Answer.{Answer}
@@ -27,7 +27,7 @@ at_said sheets None = tt
 at_said sheets (Some a) = on_said sheets a (place_in sheets a.name)
 
 pub named_said : (sheets : List (List ℕ)) (text : List ℕ) (a : Answer) → Err a ≡ cell_named sheets text → CanBeSaid sheets a
-named_said sheets text a e = subst (SaidIfErr sheets) (sym e) (at_said sheets (address_in text))
+named_said sheets text a e = subst (SaidIfErr sheets) (sym e) (at_said sheets (marked_address text))
 
 -- what is answered, where more of it is known
 pub if_ok_map : {A E : Type 0} (r : Result A E) (P Q : A → Type 0) → ((a : A) → P a → Q a) → IfOk r P → IfOk r Q

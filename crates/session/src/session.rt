@@ -23,7 +23,7 @@ use cell_refs::{Cell, SheetId, SheetNames};
 use commands::{Answer, Command, MOST_UNITS, Memory, locate};
 use dep_table::Deps;
 use node_pick::Picker;
-use recalc::{Shown, value};
+use cell_values::{Shown, value};
 use sheet_models::Prepared;
 use sheet_solving::{Solved, solve};
 use std::alloc::Global;

@@ -1,6 +1,7 @@
 -- What inner contracts cite.
 use Rattle.std.specs.Prelude.{◌≡◌, ◌<◌, ◌≤◌, ℕ, Bool, true, false, List, [], ◌∷◌, length, Option, Some, None, Result, Ok, Err, is_some, ⊤}
 use Rattle.std.specs.Option.{option_and_then}
+use Rattle.workbook.specs.declared.adj.TheConstants.{DECISIONS}
 use Rattle.fractions.specs.Rational.{zero_ℚ}
 use Rattle.affine_forms.specs.Forms.{AffineForm, constant_form, decision_form}
 use Rattle.cell_refs.specs.declared.cell.Cell.{Cell}
@@ -35,7 +36,7 @@ use Rattle.sheet_models.specs.declared.prepared.NoModel.TheVariants as none
 pub record IsStatement (book : State) (s : Statement) : Type 0 where
   pub listed : s.sheet < length book.sheets
   pub stated : statement_in book s.sheet ≡ Ok s
-  pub few : length s.decisions ≤ 512
+  pub few : length s.decisions ≤ DECISIONS
   pub whole : IsWhole book s
 
 -- the forms of its sides and of all formulas over its decision cells are kept

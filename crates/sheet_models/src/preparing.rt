@@ -1,5 +1,6 @@
 // The linear model of a sheet.
 ghost use Rattle.std.specs.Prelude.{◌≤◌, ◌<◌, IfErr, IfOk, length};
+ghost use Rattle.workbook.specs.declared.adj.TheConstants.{DECISIONS};
 ghost use Rattle.linear_models.specs.Agreement.{Fits};
 ghost use Rattle.linear_models.specs.Conditions as conditions;
 ghost use Rattle.sheet_models.specs.Answers.{MakesFew, Prepares, StopIsListed};
@@ -31,7 +32,7 @@ fn linear_model(
     objective: &Form,
     sides: &[(Form, Form)],
 ) -> Result<LinModel, NoModel>
-    requires few { length of.now.adj ≤ 512 }
+    requires few { length of.now.adj ≤ DECISIONS }
     requires fits { Fits (conditions_of (statement_of of.now)) objective.now sides.now }
     ensures { IsModelled (rows_of (statement_of of.now) objective.now sides.now) result }
 {

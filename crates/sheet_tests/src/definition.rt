@@ -4,7 +4,7 @@ use crate::books::opened;
 use cell_refs::{Cell, SheetId};
 use dep_table::Deps;
 use frac128::Frac;
-use recalc::known_in_rounds;
+use cell_values::known_in_rounds;
 use sheet_model::Value;
 use std::alloc::Global;
 use std::test::Fail;

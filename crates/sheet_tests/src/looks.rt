@@ -206,7 +206,7 @@ fn cells_at_which_formulas_look(rt: HostRuntime) -> Result<(), Fail> {
         let part = part(rt.alloc(), text)?;
         assert!(rt; part.looks() == looks, "{text}");
         assert!(rt;
-            part.into_value(rt.alloc())?.is_some() == is_known,
+            part.to_value(rt.alloc())?.is_some() == is_known,
             "{text}"
         );
     }

@@ -5,6 +5,7 @@ use Rattle.std.specs.List.{range_with_len}
 use Rattle.cell_refs.specs.Areas.{Area, area_len, cell_at}
 use Rattle.cell_refs.specs.declared.cell.Cell.{Cell}
 use Rattle.workbook.specs.declared.place.Place.{Place}
+use Rattle.solver_names.specs.declared.limits.TheConstants.{MOST_DECISIONS, MOST_ROWS}
 use Rattle.solver_names.specs.declared.name.Name.TheVariants as name
 use Rattle.solver_names.specs.declared.faults.Fault.{Fault}
 use Rattle.solver_names.specs.declared.faults.Fault.TheVariants as fault
@@ -23,10 +24,10 @@ use Rattle.solver_names.specs.Read.{Read}
 
 -- how many decision cells and how many expanded rows there may be
 abbrev pub most_decisions : ℕ
-most_decisions = 256
+most_decisions = MOST_DECISIONS
 
 abbrev pub most_rows : ℕ
-most_rows = 256
+most_rows = MOST_ROWS
 
 abbrev pub where_so : Bool → Fault → List Fault
 where_so b f = if b then f ∷ [] else []

@@ -3,6 +3,7 @@ use Rattle.std.specs.Prelude.{ℕ, List}
 use Rattle.fractions.specs.Rational.{ℚ}
 use Rattle.cell_refs.specs.declared.cell.Cell.{Cell}
 use Rattle.workbook.specs.State.{State}
+use Rattle.solver_names.specs.declared.limits.TheConstants.{MOST_CONSTRAINTS}
 use Rattle.solver_names.specs.declared.name.Name.TheVariants as name
 use Rattle.solver_names.specs.declared.names.Names.{Names}
 use Rattle.solver_names.specs.declared.said.Said.{Said}
@@ -20,7 +21,7 @@ pub record Read : Type 0 where
   pub constraints : List Constraint
 
 abbrev pub count_said : State → ℕ → Said ℕ
-count_said book sheet = said_by (whole_in 0 256) (named book sheet name.Count)
+count_said book sheet = said_by (whole_in 0 MOST_CONSTRAINTS) (named book sheet name.Count)
 
 -- there are as many constraints as are said, and none where nothing is said
 abbrev pub read_in : State → ℕ → Read

@@ -1,5 +1,6 @@
 // Cells, each once.
 ghost use Rattle.std.specs.Prelude.{◌≡◌, ◌≤◌, ◌<◌, [], OnOk, IfOk, fold, length};
+ghost use Rattle.workbook.specs.declared.adj.TheConstants.{DECISIONS};
 ghost use Rattle.cell_refs.specs.Areas.{cells_of};
 ghost use Rattle.solver_names.specs.Constraints.{is_among};
 ghost use Rattle.solver_names.specs.Texts.{with_cell};
@@ -67,7 +68,7 @@ impl Cells {
 
     /// The cells, as those to be decided.
     pub(crate) fn into_adj(self) -> Adj
-        requires { length self ≤ 512 }
+        requires { length self ≤ DECISIONS }
         ensures { result ≡ self }
     {
         Adj::new(self.cells)

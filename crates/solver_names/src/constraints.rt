@@ -1,8 +1,10 @@
 // The constraints of a sheet's names.
 ghost use Rattle.std.specs.Prelude.{◌≡◌, ◌≤◌, ◌<◌, IfOk, length, string_bytes};
+ghost use Rattle.cell_refs.specs.declared.limits.TheConstants.{TEXT_BYTES};
 ghost use Rattle.solver_names.specs.Constraints as said;
 ghost use Rattle.solver_names.specs.Constraints.{code_in, code_of, code_said, left_said, right_said};
 ghost use Rattle.solver_names.specs.Texts.{as_formula, side_in};
+ghost use Rattle.solver_names.specs.declared.limits.TheConstants.{MOST_CONSTRAINTS};
 
 use crate::name::Name;
 use crate::said::Said;
@@ -81,7 +83,7 @@ fn side_in(
     sheet: SheetId,
     text: &str,
 ) -> Result<Option<Side>, Memory>
-    requires length { length text.now ≤ 8192 }
+    requires length { length text.now ≤ TEXT_BYTES }
     requires listed { sheet.0 < length book.now.sheets }
     ensures { IfOk result (λ side. side ≡ side_in book.now sheet.0 text.now) }
 {
@@ -165,7 +167,7 @@ pub(crate) fn constraints(
     count: u16,
 ) -> Result<Vec<Constraint>, Memory>
     requires listed { sheet.0 < length book.now.sheets }
-    requires few { count ≤ 256 }
+    requires few { count ≤ MOST_CONSTRAINTS }
     ensures { IfOk result (λ v. v.items ≡ said.constraints book.now sheet.0 count) }
 {
     let mut all = Vec::new(alloc);

@@ -7,12 +7,14 @@ ghost use Rattle.solver_names.specs.Faults as found;
 ghost use Rattle.solver_names.specs.Faults.{all_by, bad_code, bad_options, faults, first, found_by, mismatch, missing, no_decision, of_constraints, sides_unformed, too_many};
 ghost use Rattle.solver_names.specs.Read.{read_of};
 ghost use Rattle.solver_names.specs.Texts.{named};
+ghost use Rattle.solver_names.specs.declared.limits.TheConstants.{MOST_CONSTRAINTS};
 ghost use Rattle.solver_names.specs.declared.name.Name.TheVariants as name;
 ghost use Rattle.solver_names.specs.declared.said.Said.TheVariants.{Says};
 
 use crate::cells::Cells;
 use crate::constraints::{Code, Constraint, Side};
 use crate::fault::NamesFault;
+use crate::limits::{MOST_DECISIONS, MOST_ROWS};
 use crate::name::Name;
 use crate::names::Names;
 use crate::rows::row_count;
@@ -21,12 +23,6 @@ use cell_refs::{Area, Cell, SheetId};
 use memory::Memory;
 use std::alloc::Global;
 use workbook::Workbook;
-
-/// How many cells may be decided.
-const MOST_DECISIONS: usize = 256;
-
-/// How many expanded rows there may be.
-const MOST_ROWS: usize = 256;
 
 /// A fault in what the names of a sheet say.
 #[derive(Clone, Copy)]
@@ -226,7 +222,7 @@ fn option_fault(names: &Names) -> Option<Fault>
 
 // Too many cells to be decided, or rows.
 fn count_fault(decisions: &Cells, constraints: &[Constraint]) -> Option<Fault>
-    requires { length constraints.now ≤ 256 }
+    requires { length constraints.now ≤ MOST_CONSTRAINTS }
     ensures { result ≡ first (too_many decisions.now constraints.now) }
 {
     let cells = decisions.len();
@@ -243,7 +239,7 @@ fn count_fault(decisions: &Cells, constraints: &[Constraint]) -> Option<Fault>
 // The first fault where the cells to be decided are of their form.
 fn fault_with(names: &Names, decisions: &Cells) -> Option<Fault>
     requires said { names.now.decisions ≡ Says decisions.now }
-    requires few { length names.now.constraints.items ≤ 256 }
+    requires few { length names.now.constraints.items ≤ MOST_CONSTRAINTS }
     ensures { result ≡ first (faults (read_of names.now)) }
 {
     if names.objective.is_unformed() {
@@ -260,7 +256,7 @@ fn fault_with(names: &Names, decisions: &Cells) -> Option<Fault>
 
 /// The first fault, or none.
 pub(crate) fn first_fault(names: &Names) -> Option<Fault>
-    requires { length names.now.constraints.items ≤ 256 }
+    requires { length names.now.constraints.items ≤ MOST_CONSTRAINTS }
     ensures { result ≡ first (faults (read_of names.now)) }
 {
     match &names.decisions {
@@ -292,7 +288,7 @@ pub(crate) fn told(
     }
 }
 
-// How many cells or rows there are: 32 sheets have far fewer cells than 2^32, and so have 256 constraints rows.
+// How many cells or rows there are: 32 sheets have far fewer cells than 2^32, and so have the rows of 256 constraints.
 fn counted(count: usize) -> Result<u32, Memory>
     ensures { IfOk result (λ many. many ≡ count) }
 {

@@ -5,6 +5,7 @@ mod cells;
 mod constraints;
 mod fault;
 mod faults;
+mod limits;
 mod name;
 mod names;
 mod rows;
@@ -15,6 +16,7 @@ mod statements;
 mod texts;
 
 pub use fault::NamesFault;
+pub use limits::{MOST_CONSTRAINTS, MOST_DECISIONS, MOST_ROWS};
 pub use sides::side_trees;
 pub use stated::statement;
 pub use statements::{RowOf, Statement};

@@ -1,6 +1,7 @@
 // The names of the Solver.
 ghost use Rattle.std.specs.Prelude.{◌≡◌, ◌≤◌, ◌<◌, ◌++◌, IfOk, IfSome, OnOk, length, option_map, string_bytes};
 ghost use Rattle.std.specs.Fmt.{decimal};
+ghost use Rattle.cell_refs.specs.declared.limits.TheConstants.{TEXT_BYTES};
 ghost use Rattle.solver_names.specs.Texts.{name_text, named};
 
 use cell_refs::SheetId;
@@ -49,7 +50,7 @@ impl Name {
         sheet: SheetId,
     ) -> Result<Option<&str>, Memory>
         ensures text { IfOk result (λ text. option_map (λ t. t.now) text ≡ named book.now sheet.0 self) }
-        ensures short { IfOk result (λ text. IfSome text (λ t. length t.now ≤ 8192)) }
+        ensures short { IfOk result (λ text. IfSome text (λ t. length t.now ≤ TEXT_BYTES)) }
     {
         let name = self.text(alloc)?;
         book.named(alloc, Some(sheet), name.as_str())

@@ -3,10 +3,12 @@ ghost use Rattle.std.specs.Prelude.{◌≡◌, ◌≤◌, ◌<◌, IfOk, length}
 ghost use Rattle.solver_names.specs.Read.{read_in, read_of};
 ghost use Rattle.solver_names.specs.Constraints as said;
 ghost use Rattle.solver_names.specs.Texts.{cell_in, cells_in, named, number_in, or_else, said_by, whole_in};
+ghost use Rattle.solver_names.specs.declared.limits.TheConstants.{MOST_CONSTRAINTS};
 ghost use Rattle.solver_names.specs.declared.name.Name.TheVariants as name;
 
 use crate::cells::Cells;
 use crate::constraints::{Constraint, constraints};
+use crate::limits::MOST_CONSTRAINTS;
 use crate::name::Name;
 use crate::said::Said;
 use crate::texts::{cell_in, cells_in, number_in, whole_in};
@@ -82,14 +84,14 @@ fn value_said(alloc: Global, book: &Workbook, sheet: SheetId) -> Result<Said<Fra
 pub(crate) fn names_of(alloc: Global, book: &Workbook, sheet: SheetId) -> Result<Names, Memory>
     requires listed { sheet.0 < length book.now.sheets }
     ensures read { IfOk result (λ names. read_of names ≡ read_in book.now sheet.0) }
-    ensures few { IfOk result (λ names. length names.constraints.items ≤ 256) }
+    ensures few { IfOk result (λ names. length names.constraints.items ≤ MOST_CONSTRAINTS) }
 {
     let decisions = decisions_said(alloc, book, sheet)?;
     let objective = objective_said(alloc, book, sheet)?;
     let goal = whole_said(alloc, book, sheet, Name::Goal, 1, 3)?;
     let value = value_said(alloc, book, sheet)?;
     let negative = whole_said(alloc, book, sheet, Name::Negative, 1, 2)?;
-    let count = whole_said(alloc, book, sheet, Name::Count, 0, 256)?;
+    let count = whole_said(alloc, book, sheet, Name::Count, 0, MOST_CONSTRAINTS)?;
     let constraints = all_constraints(alloc, book, sheet, &count)?;
     Ok(Names {
         decisions,
@@ -110,7 +112,7 @@ fn all_constraints(
     count: &Said<u16>,
 ) -> Result<Vec<Constraint>, Memory>
     requires listed { sheet.0 < length book.now.sheets }
-    requires few { or_else count.now 0 ≤ 256 }
+    requires few { or_else count.now 0 ≤ MOST_CONSTRAINTS }
     ensures { IfOk result (λ v. v.items ≡ said.constraints book.now sheet.0 (or_else count.now 0)) }
 {
     match count {

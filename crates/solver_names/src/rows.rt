@@ -7,6 +7,7 @@ ghost use Rattle.solver_names.specs.Constraints as said;
 ghost use Rattle.solver_names.specs.Faults as found;
 ghost use Rattle.solver_names.specs.Fitting.{IsFitting, PlaceFits};
 ghost use Rattle.solver_names.specs.Stated.{numbered};
+ghost use Rattle.solver_names.specs.declared.limits.TheConstants.{MOST_CONSTRAINTS, MOST_ROWS};
 
 use crate::constraints::{Code, Constraint, Side};
 use crate::said::Said;
@@ -33,7 +34,7 @@ fn rows_in(constraint: &Constraint) -> u32
 
 /// How many rows there are.
 pub(crate) fn row_count(constraints: &[Constraint]) -> usize
-    requires { length constraints.now ≤ 256 }
+    requires { length constraints.now ≤ MOST_CONSTRAINTS }
     ensures { result ≡ length (found.all_rows constraints.now) }
 {
     let mut count = 0;
@@ -105,7 +106,7 @@ fn all_rows(
 /// All rows, numbered from 1 on.
 pub(crate) fn rows_of(alloc: Global, constraints: &[Constraint]) -> Result<Vec<RowOf>, Memory>
     requires fit { All IsFitting constraints.now }
-    requires few { length (found.all_rows constraints.now) ≤ 256 }
+    requires few { length (found.all_rows constraints.now) ≤ MOST_ROWS }
     ensures { IfOk result (λ v. map row_of v.items ≡ numbered 1 (found.all_rows constraints.now)) }
 {
     let mut numbered = Vec::new(alloc);

@@ -1,5 +1,6 @@
 // The statement of a sheet's names.
 ghost use Rattle.std.specs.Prelude.{◌≡◌, ◌≤◌, ◌<◌, ◌==◌, ◌||◌, [], IfOk, None, OnOk, length};
+ghost use Rattle.workbook.specs.declared.adj.TheConstants.{DECISIONS};
 ghost use Rattle.fractions.specs.Rational.{zero_ℚ};
 ghost use Rattle.cell_refs.specs.declared.cell.Cell.{Cell};
 ghost use Rattle.lin_model.specs.Kinds as kinds;
@@ -88,7 +89,7 @@ fn left_cells(alloc: Global, code: Code, constraints: &[Constraint]) -> Result<C
 
 // The numbers of the cells that are among some others.
 fn numbers_among(alloc: Global, others: &Cells, cells: &[Cell]) -> Result<Vec<u16>, Memory>
-    requires { length cells.now ≤ 512 }
+    requires { length cells.now ≤ DECISIONS }
     ensures { IfOk result (λ v. v.items ≡ numbers_from 0 (is_among others.now) cells.now) }
 {
     let mut numbers = Vec::new(alloc);
@@ -107,7 +108,7 @@ fn marked(
     constraints: &[Constraint],
     cells: &[Cell],
 ) -> Result<Vec<u16>, Memory>
-    requires { length cells.now ≤ 512 }
+    requires { length cells.now ≤ DECISIONS }
     ensures { IfOk result (λ v. v.items ≡ told.marked code constraints.now cells.now) }
 {
     let left = left_cells(alloc, code, constraints)?;

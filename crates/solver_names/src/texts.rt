@@ -1,5 +1,6 @@
 // The forms of the texts of names.
 ghost use Rattle.std.specs.Prelude.{◌≡◌, ◌≤◌, ◌<◌, ◌==◌, ◌&&◌, if◌then◌else◌, IfOk, IfSome, false, length, map, not, string_bytes};
+ghost use Rattle.cell_refs.specs.declared.limits.TheConstants.{TEXT_BYTES};
 ghost use Rattle.solver_names.specs.Texts.{cell_in, cells_in, is_mark, number_in, only_cell, parts_from, reference_in, whole_between, whole_in};
 
 use crate::cells::Cells;
@@ -50,7 +51,7 @@ pub(crate) fn reference_in(
     sheet: SheetId,
     text: &str,
 ) -> Result<Option<Area>, Memory>
-    requires length { length text.now ≤ 8192 }
+    requires length { length text.now ≤ TEXT_BYTES }
     requires listed { sheet.0 < length book.now.sheets }
     ensures { IfOk result (λ area. area ≡ reference_in book.now sheet.0 text.now) }
 {
@@ -64,7 +65,7 @@ pub(crate) fn cell_in(
     sheet: SheetId,
     text: &str,
 ) -> Result<Option<Cell>, Memory>
-    requires length { length text.now ≤ 8192 }
+    requires length { length text.now ≤ TEXT_BYTES }
     requires listed { sheet.0 < length book.now.sheets }
     ensures { IfOk result (λ cell. cell ≡ cell_in book.now sheet.0 text.now) }
 {
@@ -132,7 +133,7 @@ pub(crate) fn cells_in(
     sheet: SheetId,
     text: &str,
 ) -> Result<Option<Cells>, Memory>
-    requires length { length text.now ≤ 8192 }
+    requires length { length text.now ≤ TEXT_BYTES }
     requires listed { sheet.0 < length book.now.sheets }
     ensures { IfOk result (λ cells. cells ≡ cells_in book.now sheet.0 text.now) }
 {

@@ -2,9 +2,15 @@
 #![tactic(auto)]
 
 ghost use Rattle.statement_laws.specs.Laws.{FaultsAreListed, StatementsAreWhole};
+ghost use Rattle.statement_laws.specs.Limits.{LimitsOfNamesAre};
 
 /// Each cell that a statement names lies on one of the sheets, each to be decided once, and each side is there.
 pub fn statement_laws()
     ensures whole { StatementsAreWhole }
     ensures faults { FaultsAreListed }
+{}
+
+/// The limits of what the names of a sheet state are these numbers.
+pub fn limits_of_names_are()
+    ensures { LimitsOfNamesAre }
 {}

@@ -11,7 +11,7 @@ use Rattle.cell_refs.specs.Areas.{Area}
 use Rattle.cell_refs.specs.declared.cell.Cell.{Cell}
 use Rattle.formula_ast.specs.Tree.{Tree}
 use Rattle.formula_grammar.specs.Symbols.{Setting}
-use Rattle.formula_grammar.specs.Words.{logical_in}
+use Rattle.formula_grammar.specs.Words.{logical_word}
 use Rattle.formula_grammar.proofs.Turns.{bind_some}
 use Rattle.formula_parser.specs.TextTrees.{area_in, tree_in}
 use Rattle.formula_parser.proofs.TextTrees.{trees_are_spelled}
@@ -130,12 +130,12 @@ module _ (test : NumeralTest) where
     says_numeral is n e true w = number is (reading-sound text n e) ((test n).0 w)
     says_numeral is n e false w = too_wide is (reading-sound text n e) (λ narrow. let z : true ≡ false = sym ((test n).1 narrow) ∙ w in cc)
 
-    says_other : is_formula_text text ≡ false → reading text ≡ None → (o : Option Bool) → logical_in text ≡ o → Says sheets names cell text (logical_or_text text o)
+    says_other : is_formula_text text ≡ false → reading text ≡ None → (o : Option Bool) → logical_word text ≡ o → Says sheets names cell text (logical_or_text text o)
     says_other is e None b = plain is (none_spelled text e) b
     says_other is e (Some t) b = logical is (none_spelled text e) b
 
     says_text : is_formula_text text ≡ false → (o : Option Numeral) → reading text ≡ o → Says sheets names cell text (number_or_other text o)
-    says_text is None e = says_other is e (logical_in text) refl
+    says_text is None e = says_other is e (logical_word text) refl
     says_text is (Some n) e = says_numeral is n e (is_narrow_numeral n) refl
 
     says_itself : (t : Bool) → is_formula_text text ≡ t → Says sheets names cell text (in_formula t)

@@ -7,7 +7,7 @@ use Rattle.cell_refs.specs.declared.cell.Cell.{Cell}
 use Rattle.formula_ast.specs.Tree.{Tree}
 use Rattle.formula_grammar.specs.Formula.{IsTooDeep, SpellsText}
 use Rattle.formula_grammar.specs.Symbols.{Setting}
-use Rattle.formula_grammar.specs.Words.{logical_in}
+use Rattle.formula_grammar.specs.Words.{logical_word}
 use Rattle.formula_parser.specs.Answers.{fault_of}
 use Rattle.sheet_model.specs.declared.value.Value.TheVariants as value
 use Rattle.recalculation.specs.Entries.{Entry, Constant, Formula, Malformed}
@@ -44,8 +44,8 @@ pub data Says (sheets : List (List ℕ)) (names : List Name) (cell : Cell) (text
       → ((t : Tree) → IsTreeOf (record { text = text; home = cell.sheet.0; sheets = sheets }) (meant sheets names cell.sheet.0) t → ⊥) → Says sheets names cell text Malformed
   number : {n : Numeral} → is_formula_text text ≡ false → Spells text n → IsNarrowNumeral n → Says sheets names cell text (Constant (value.Number (numeral.value n)))
   too_wide : {n : Numeral} → is_formula_text text ≡ false → Spells text n → (IsNarrowNumeral n → ⊥) → Says sheets names cell text Malformed
-  logical : {b : Bool} → is_formula_text text ≡ false → ((n : Numeral) → Spells text n → ⊥) → logical_in text ≡ Some b → Says sheets names cell text (Constant (value.Logical b))
-  plain : is_formula_text text ≡ false → ((n : Numeral) → Spells text n → ⊥) → logical_in text ≡ None → Says sheets names cell text (Constant (value.Text text))
+  logical : {b : Bool} → is_formula_text text ≡ false → ((n : Numeral) → Spells text n → ⊥) → logical_word text ≡ Some b → Says sheets names cell text (Constant (value.Logical b))
+  plain : is_formula_text text ≡ false → ((n : Numeral) → Spells text n → ⊥) → logical_word text ≡ None → Says sheets names cell text (Constant (value.Text text))
 
 -- a text says that one thing
 abbrev pub TextsSay : Type 0

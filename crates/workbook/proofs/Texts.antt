@@ -9,7 +9,7 @@ use Rattle.frac128.specs.NumeralReading.{reading}
 use Rattle.frac128.proofs.NarrowNumerals.{narrow_passes, wide_fails}
 use Rattle.frac128.proofs.Spelling.{reading-sound, reading-complete}
 use Rattle.cell_refs.specs.Names.{same_letters}
-use Rattle.formula_grammar.specs.Words.{logical_in}
+use Rattle.formula_grammar.specs.Words.{logical_word}
 use Rattle.sheet_funcs.specs.Numerals.{narrow_value}
 use Rattle.sheet_model.specs.declared.value.Value.TheVariants as sheet_value
 use Rattle.recalculation.specs.Entries.{Entry, Constant, Malformed}
@@ -34,7 +34,7 @@ says_wide text (n, (spelled, wide)) =
     sym (ap (number_or_other text) (reading-complete text n spelled) ∙ ap number_entry (wide_has_none n wide))
 
 -- another text is a logical or a plain one
-pub says_other : (text : List ℕ) (o : Option Bool) → ((n : Numeral) → Spells text n → ⊥) → o ≡ logical_in text → logical_or_text text o ≡ number_or_other text (reading text)
+pub says_other : (text : List ℕ) (o : Option Bool) → ((n : Numeral) → Spells text n → ⊥) → o ≡ logical_word text → logical_or_text text o ≡ number_or_other text (reading text)
 says_other text o none is = by_case (reading text) refl
   where
     by_case : (r : Option Numeral) → reading text ≡ r → logical_or_text text o ≡ number_or_other text (reading text)
@@ -42,15 +42,15 @@ says_other text o none is = by_case (reading text) refl
     by_case (Some n) e = absurd (none n (reading-sound text n e))
 
 -- ---- words
-pub first_word : (text : List ℕ) → true ≡ same_letters text (codes "TRUE") → Some true ≡ logical_in text
+pub first_word : (text : List ℕ) → true ≡ same_letters text (codes "TRUE") → Some true ≡ logical_word text
 first_word text e = ap (λ b. if b then Some true else if same_letters text (codes "FALSE") then Some false else None) e
 
-pub second_word : (text : List ℕ) → false ≡ same_letters text (codes "TRUE") → true ≡ same_letters text (codes "FALSE") → Some false ≡ logical_in text
+pub second_word : (text : List ℕ) → false ≡ same_letters text (codes "TRUE") → true ≡ same_letters text (codes "FALSE") → Some false ≡ logical_word text
 second_word text e f =
     ap (λ b. if b then Some false else None) f
     ∙ ap (λ b. if b then Some true else if same_letters text (codes "FALSE") then Some false else None) e
 
-pub no_word : (text : List ℕ) → false ≡ same_letters text (codes "TRUE") → false ≡ same_letters text (codes "FALSE") → None ≡ logical_in text
+pub no_word : (text : List ℕ) → false ≡ same_letters text (codes "TRUE") → false ≡ same_letters text (codes "FALSE") → None ≡ logical_word text
 no_word text e f =
     ap (λ b. if b then Some false else None) f
     ∙ ap (λ b. if b then Some true else if same_letters text (codes "FALSE") then Some false else None) e

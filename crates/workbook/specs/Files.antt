@@ -7,7 +7,7 @@ use Rattle.sheet_csv.specs.Sheet.{Record, sheet_records}
 use Rattle.cell_refs.specs.declared.cell.Cell.{Cell}
 use Rattle.cell_refs.specs.Address.{address_in}
 use Rattle.cell_refs.specs.Names.{begins_word, goes_on_word, place_in}
-use Rattle.formula_grammar.specs.Words.{logical_in}
+use Rattle.formula_grammar.specs.Words.{logical_word}
 use Rattle.workbook.specs.State.{Name, State, is_called}
 
 -- a sheet's file: the sheet's name and the bytes
@@ -43,7 +43,7 @@ is_word (b ∷ rest) = begins_word b && list_all goes_on_name rest
 
 -- a name is a word that is no address and neither TRUE nor FALSE
 abbrev pub is_name : List ℕ → Bool
-is_name text = is_word text && (is_none (address_in text) && is_none (logical_in text))
+is_name text = is_word text && (is_none (address_in text) && is_none (logical_word text))
 
 -- the sheet of a names record: the whole workbook where it is empty; none where there is no such sheet
 abbrev pub sheet_in : List (List ℕ) → List ℕ → Option (Option ℕ)

@@ -2,7 +2,7 @@
 use Rattle.std.specs.Prelude.{◌≢◌, ◌<◌, ◌≤◌, ℕ, suc, List, [], ◌∷◌, ◌++◌, length, map, All, ⊤}
 use Rattle.cell_refs.specs.declared.cell.Cell.{Cell}
 use Rattle.sheet_csv.specs.Sheet.{Record, sheet_records}
-use Rattle.cell_refs.specs.declared.limits.TheConstants.{TEXTS}
+use Rattle.cell_refs.specs.declared.limits.TheConstants.{COLUMNS, ROWS, TEXTS, TEXT_BYTES}
 use Rattle.workbook.specs.declared.gather.Stop.{Stop}
 use Rattle.workbook.specs.declared.gather.Stop.TheVariants as stop
 use Rattle.workbook.specs.Files.{SheetFile, texts_in_records}
@@ -19,8 +19,8 @@ records_of files = map (λ (f : SheetFile). sheet_records f.bytes) files
 
 -- not more rows than a sheet has, nor more fields
 pub record FitsSheet (rows : List Record) : Type 0 where
-  pub few : length rows ≤ 4096
-  pub narrow : All (λ (row : Record). length row ≤ 256) rows
+  pub few : length rows ≤ ROWS
+  pub narrow : All (λ (row : Record). length row ≤ COLUMNS) rows
 
 -- why not all of some texts are put together
 abbrev pub IsStop : List (Cell × List ℕ) → Stop → Type 0
@@ -30,5 +30,5 @@ IsStop texts stop.Memory = ⊤
 -- a text that a file gives a cell: it is not empty, no longer than a field, and on a sheet
 pub record IsFieldText (sheets : List (List ℕ)) (e : Cell × List ℕ) : Type 0 where
   pub some : e.1 ≢ []
-  pub short : length e.1 ≤ 8192
+  pub short : length e.1 ≤ TEXT_BYTES
   pub listed : IsListed sheets e.0

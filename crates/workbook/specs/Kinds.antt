@@ -10,7 +10,7 @@ use Rattle.cell_refs.specs.Areas.{Area}
 use Rattle.cell_refs.specs.declared.cell.Cell.{Cell}
 use Rattle.formula_ast.specs.Tree.{Tree, Trees, none, more, Listed}
 use Rattle.formula_ast.specs.Tree as tree
-use Rattle.formula_grammar.specs.Words.{logical_in}
+use Rattle.formula_grammar.specs.Words.{logical_word}
 use Rattle.formula_parser.specs.TextTrees.{tree_in, area_in}
 use Rattle.sheet_model.specs.declared.value.Value.TheVariants as value
 use Rattle.sheet_funcs.specs.Numerals.{narrow_value, number_spelled}
@@ -80,7 +80,7 @@ logical_or_text text None = Constant (value.Text text)
 -- a numeral that isn't narrow isn't allowed
 abbrev pub number_or_other : List ℕ → Option Numeral → Entry
 number_or_other text (Some n) = option_map_or (λ x. Constant (value.Number x)) (narrow_value n) Malformed
-number_or_other text None = logical_or_text text (logical_in text)
+number_or_other text None = logical_or_text text (logical_word text)
 
 -- what the text of a cell says
 abbrev pub says : List (List ℕ) → List Name → Cell → List ℕ → Entry

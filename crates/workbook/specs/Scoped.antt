@@ -1,5 +1,6 @@
 -- What stands for names in formulas, as it is held.
 use Rattle.std.specs.Prelude.{◌≤◌, ℕ, List, length, Option, Some, None}
+use Rattle.cell_refs.specs.declared.limits.TheConstants.{TEXT_BYTES}
 use Rattle.cell_refs.specs.Areas.{IsOnSheet}
 use Rattle.workbook.specs.Kinds.{Meant, Amount, Cells, first_of}
 use Rattle.workbook.specs.State.{Name, text_of}
@@ -17,7 +18,7 @@ IsMeantOnSheet (meant.Cells area) = IsOnSheet area
 
 -- the text of a name is no longer than a field
 abbrev pub IsShort : Name → Type 0
-IsShort n = length n.text ≤ 8192
+IsShort n = length n.text ≤ TEXT_BYTES
 
 -- the text of a name for a sheet, or else for the whole workbook
 abbrev pub text_for : List Name → ℕ → List ℕ → Option (List ℕ)

@@ -1,5 +1,6 @@
 // The texts of the sheets' records.
 ghost use Rattle.std.specs.Prelude.{◌≡◌, ◌≤◌, ◌<◌, ◌++◌, All, MatchResult, OnOk, length};
+ghost use Rattle.cell_refs.specs.declared.limits.TheConstants.{COLUMNS};
 ghost use Rattle.sheet_csv.specs.Sheet.{Record};
 ghost use Rattle.workbook.specs.Files.{texts_in_record, texts_in_records};
 ghost use Rattle.workbook.specs.Gathered.{FitsSheet, IsStop, texts_in_sheets};
@@ -63,7 +64,7 @@ fn add_record(
     row: u16,
     fields: &Record,
 ) -> Result<(), Memory>
-    requires columns { length fields.now ≤ 256 }
+    requires columns { length fields.now ≤ COLUMNS }
     ensures { OnOk result (texts.new.items ≡ texts.old.items ++ texts_in_record sheet.0 row 0 fields.now) }
 {
     for column in 0..fields.len() {

@@ -1,5 +1,6 @@
 // What names in formulas stand for.
 ghost use Rattle.std.specs.Prelude.{◌≡◌, ◌≤◌, ◌<◌, All, IfOk, IfSome, length, option_map};
+ghost use Rattle.cell_refs.specs.declared.limits.TheConstants.{TEXT_BYTES};
 ghost use Rattle.cell_refs.specs.Areas.{IsOnSheet};
 ghost use Rattle.formula_ast.specs.Sound.{IsForward};
 ghost use Rattle.workbook.specs.Kinds.{Amount, Cells, meant, meant_by, put_at};
@@ -36,7 +37,7 @@ fn spelled(
     home: SheetId,
     text: &str,
 ) -> Result<Option<Meant>, Memory>
-    requires length { length text.now ≤ 8192 }
+    requires length { length text.now ≤ TEXT_BYTES }
     requires listed { home.0 < length sheets.now }
     ensures meant { IfOk result (λ m. option_map meant_of m ≡ meant_by sheets.now home.0 text.now) }
     ensures on_sheet { IfOk result (λ m. IfSome m IsMeantOnSheet) }

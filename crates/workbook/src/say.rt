@@ -1,6 +1,7 @@
 // What texts say.
-ghost use Rattle.std.specs.Prelude.{◌≡◌, ◌≢◌, ◌<◌, ◌≤◌, ℕ, true, List, [], All, IfOk, length};
+ghost use Rattle.std.specs.Prelude.{◌≡◌, ◌+◌, ◌≢◌, ◌<◌, ◌≤◌, ℕ, true, List, [], All, IfOk, length};
 ghost use Rattle.std.specs.Option.{option_map_or};
+ghost use Rattle.cell_refs.specs.declared.limits.TheConstants.{TEXT_BYTES};
 ghost use Rattle.recalculation.specs.Entries.{Formula, Malformed};
 ghost use Rattle.workbook.specs.Held.{IsHeld, IsSoundly, SaysSpelled, entry_of};
 ghost use Rattle.workbook.specs.Listed.{IsListed};
@@ -28,7 +29,7 @@ pub(crate) fn hold(alloc: Global, scope: &Scope, cell: Cell, text: Text) -> Resu
     requires listed { IsListed scope.now.sheets.now cell }
     requires short { All IsShort scope.now.names.now }
     requires some { text ≢ [] }
-    requires length { length text ≤ 8192 }
+    requires length { length text ≤ TEXT_BYTES }
     ensures text { IfOk result (λ held. held.text ≡ text) }
     ensures held { IfOk result (λ held. IsHeld scope.now.sheets.now scope.now.names.now cell held) }
 {
@@ -50,7 +51,7 @@ fn say(
     requires home { scope.now.home ≡ cell.sheet }
     requires listed { scope.now.home.0 < length scope.now.sheets.now }
     requires short { All IsShort scope.now.names.now }
-    requires length { length text.now ≤ 8192 }
+    requires length { length text.now ≤ TEXT_BYTES }
     ensures { IfOk result (SaysSpelled scope.now.sheets.now scope.now.names.now cell text.now) }
 {
     if is_formula(text) {
@@ -69,7 +70,7 @@ fn formula(
     requires home { scope.now.home ≡ cell.sheet }
     requires listed { scope.now.home.0 < length scope.now.sheets.now }
     requires short { All IsShort scope.now.names.now }
-    requires length { length text.now ≤ 8192 }
+    requires length { length text.now ≤ TEXT_BYTES }
     requires begins { is_formula_text text.now ≡ true }
     ensures { IfOk result (SaysSpelled scope.now.sheets.now scope.now.names.now cell text.now) }
 {
@@ -103,7 +104,7 @@ pub(crate) fn said_of(tree: Option<Expr>) -> Said
 pub(crate) fn tree(alloc: Global, scope: &Scope, text: &str) -> Result<Option<Expr>, Memory>
     requires listed { scope.now.home.0 < length scope.now.sheets.now }
     requires short { All IsShort scope.now.names.now }
-    requires length { length text.now ≤ 8193 }
+    requires length { length text.now ≤ TEXT_BYTES + 1 }
     ensures { IfOk result (λ tree. tree
         ≡ formula_tree scope.now.sheets.now scope.now.names.now scope.now.home.0 text.now) }
 {

@@ -2,7 +2,7 @@
 ghost use Rattle.std.specs.Prelude.{◌≡◌, if◌then◌else◌};
 ghost use Rattle.std.specs.List.{list_all};
 ghost use Rattle.cell_refs.specs.Names.{begins_word};
-ghost use Rattle.formula_grammar.specs.Words.{logical_in};
+ghost use Rattle.formula_grammar.specs.Words.{logical_word};
 ghost use Rattle.sheet_funcs.specs.Numerals.{number_spelled};
 ghost use Rattle.workbook.specs.Files.{goes_on_name, is_name, is_word};
 ghost use Rattle.workbook.specs.Kinds.{behind_equals};
@@ -44,7 +44,7 @@ pub(crate) fn number(text: &str) -> Option<Frac>
 
 /// TRUE or FALSE, in any case of letters.
 pub(crate) fn logical(text: &str) -> Option<bool>
-    ensures { result ≡ logical_in text.now }
+    ensures { result ≡ logical_word text.now }
 {
     if text.eq_ignore_ascii_case("TRUE") {
         Some(true)

@@ -1,6 +1,7 @@
 // A workbook.
 ghost use Rattle.std.specs.Prelude.{◌≡◌, ◌&&◌, ◌<◌, ◌≤◌, ◌≢◌, [], All, IfOk, MatchOption, None, OnErr, OnOk, Some, false, length, map, nat_le, nat_lt, not, option_map};
 ghost use Rattle.std.specs.FinMap as finmap;
+ghost use Rattle.cell_refs.specs.declared.limits.TheConstants.{TEXT_BYTES};
 ghost use Rattle.workbook.specs.Contents.{IsLast, IsNext, content_of, kind_of, tree_of};
 ghost use Rattle.recalculation.specs.Entries.{entry};
 ghost use Rattle.workbook.specs.Edits.{Sets, after_set, is_outside, set_fault};
@@ -153,7 +154,7 @@ impl Workbook {
     pub(crate) fn put(&mut self, cell: Cell, text: Text) -> Result<(), Memory>
         requires listed { IsListed self.old.sheets cell }
         requires some { text ≢ [] }
-        requires short { length text ≤ 8192 }
+        requires short { length text ≤ TEXT_BYTES }
         requires room { HasRoom self.old.contents cell text }
         ensures ok { OnOk result (self.new ≡ record self.old { contents = finmap.insert self.old.contents cell text }) }
         ensures err { OnErr result (self.new ≡ self.old) }
