@@ -2,7 +2,7 @@
 #![tactic(auto)]
 
 ghost use Rattle.std.specs.Prelude.{◌≡◌, ◌<◌, IfOk, OnOk, length};
-ghost use Rattle.saved_sheets.specs.Laws.{ReadsBack};
+ghost use Rattle.saved_sheets.specs.Laws.{NamesReadBack, ReadsBack};
 ghost use Rattle.saved_sheets.specs.Saving.{name_bytes, saved_rows, sheet_bytes};
 
 mod fields;
@@ -32,6 +32,7 @@ pub fn sheet_file(alloc: Global, book: &Workbook, sheet: SheetId) -> Result<Vec<
 /// The bytes of the file of names.
 pub fn names_file(alloc: Global, book: &Workbook) -> Result<Vec<u8>, Memory>
     ensures bytes { IfOk result (λ bytes. bytes.items ≡ name_bytes book.now) }
+    ensures reads_back { OnOk result (NamesReadBack book.now) }
 {
     let rows = book.name_rows(alloc)?;
     let mut bytes = Vec::new(alloc);
