@@ -1,5 +1,5 @@
 // Runs over files and scripts with as much as there may be, and with one more.
-use crate::run_tests::{NEVER, ran};
+use crate::runs::{NEVER, ran};
 use opensolver_cli::Status;
 use std::alloc::Global;
 use std::test::Fail;

@@ -9,11 +9,17 @@ fn main(rt: HostRuntime) -> ExitCode {
 }
 
 #[cfg(test)]
+mod cut_tests;
+#[cfg(test)]
 mod limit_tests;
 #[cfg(test)]
 mod option_tests;
 #[cfg(test)]
+mod run_cases;
+#[cfg(test)]
 mod run_tests;
+#[cfg(test)]
+mod runs;
 #[cfg(test)]
 mod save_tests;
 #[cfg(test)]

@@ -1,5 +1,5 @@
 // Runs with options. The answers follow from the rules by hand.
-use crate::run_tests::{Case, Files, NAMES, NEVER, ONE, OPTIMAL, PLANNED, SOLVE, USAGE, ran};
+use crate::runs::{Case, Files, NAMES, NEVER, ONE, OPTIMAL, PLANNED, SOLVE, USAGE, ran};
 use opensolver_cli::Status;
 use std::test::Fail;
 

@@ -1,5 +1,5 @@
 // Runs that save. The answers and the files follow from the rules by hand.
-use crate::run_tests::{Fails, Files, NEVER, PLANNED, folder, ran_over};
+use crate::runs::{Fails, Files, NEVER, PLANNED, folder, ran_over};
 use opensolver_cli::Status;
 use solver_io::MemFolder;
 use std::test::Fail;
