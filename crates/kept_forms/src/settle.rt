@@ -1,14 +1,11 @@
 // The forms of stale places: each cell after those to which it refers, and then the sides.
 ghost use Rattle.std.specs.Prelude.{◌≡◌, ◌<◌, ◌≤◌, ◌+◌, IfOk, None, OnOk, IsSome, Some, ℕ, ⊤, false, slice_get, true};
 ghost use Rattle.std.specs.FinSet as set;
-ghost use Rattle.std.specs.List.{list_any};
-ghost use Rattle.cell_refs.specs.Areas.{within};
 ghost use Rattle.cell_refs.specs.declared.cell.Cell.{Cell};
 ghost use Rattle.dep_table.specs.Order.{HasFree, IsOrder};
 ghost use Rattle.dep_table.specs.References.{AreReferencesOf};
 ghost use Rattle.extract.specs.Places.{HasForms, is_in_circle};
 ghost use Rattle.extract.specs.Tables.{form_at};
-ghost use Rattle.form_extraction.specs.Looked.{refers_to_circle};
 ghost use Rattle.form_extraction.specs.Places.{numbered_in};
 ghost use Rattle.formula_ast.specs.Tree.{Tree};
 ghost use Rattle.kept_forms.specs.Keeping.{AllAreKept, AreKept, HaveOwnNumbers, IsStale, is_circular_place};
@@ -20,7 +17,8 @@ ghost use Rattle.sheet_problems.specs.Places.{tree_of};
 ghost use Rattle.workbook.specs.Kinds.{book_of};
 ghost use Rattle.workbook.specs.declared.place.Place.TheVariants as place;
 
-use cell_refs::{Area, Cell};
+use crate::circles::refers_to_circle;
+use cell_refs::Cell;
 use dep_table::{CellSet, Deps};
 use extract::{FormTable, Steps, form_of};
 use form_extraction::CellForm;
@@ -285,35 +283,6 @@ fn settle_side<L: Ledger>(
         return keep(book, adj, sides, place, CellForm::Circular, table);
     }
     extract_stale(alloc, book, adj, sides, place, tree, table, steps)
-}
-
-// Whether a tree refers to one of the circular cells.
-fn refers_to_circle(
-    alloc: Global,
-    book: &Workbook,
-    adj: &Adj,
-    tree: &Expr,
-    circular: &[Cell],
-) -> Result<bool, Memory>
-    requires { AreCircular (book_of book.now) adj.now circular.now }
-    ensures { IfOk result (λ found. found ≡ refers_to_circle (book_of book.now) (leaf_in adj.now) tree.now) }
-{
-    let areas = tree.references(alloc)?;
-    Ok(is_any_within(areas.as_slice(), circular))
-}
-
-// Whether one of some cells is within one of some areas.
-fn is_any_within(areas: &[Area], cells: &[Cell]) -> bool
-    ensures { result ≡ list_any (λ b. list_any (λ area. within area b) areas.now) cells.now }
-{
-    cells.iter().any(|cell| is_within(areas, *cell))
-}
-
-// Whether a cell is within one of some areas.
-fn is_within(areas: &[Area], cell: Cell) -> bool
-    ensures { result ≡ list_any (λ area. within area cell) areas.now }
-{
-    areas.iter().any(|area| area.has(cell))
 }
 
 // Makes and keeps the form of a stale place that isn't circular.

@@ -3,7 +3,7 @@ use Rattle.std.specs.List.{list_any}
 use Rattle.cell_refs.specs.Areas.{Area, within}
 use Rattle.workbook.specs.Kinds.{book_of}
 use Rattle.kept_forms.proofs.Settling.{same_circle}
-use Rattle.kept_forms.proofs.settle.refers_to_circle.Goals as goal
+use Rattle.kept_forms.proofs.circles.refers_to_circle.Goals as goal
 
 pub returns : goal.returns
 returns c =
