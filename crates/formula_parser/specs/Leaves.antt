@@ -19,9 +19,9 @@ use Rattle.formula_grammar.specs.Words as grammar
 use Rattle.formula_grammar.specs.Words.{Own, Named, number_tree, negative_tree, quoted_text, error_in, logical_word}
 use Rattle.formula_parser.specs.Built.{branch_of}
 use Rattle.formula_parser.specs.declared.branch.Part.{Part}
-use Rattle.formula_parser.specs.declared.reference.Given.{Given}
-use Rattle.formula_parser.specs.declared.reference.Given.TheVariants as given
-use Rattle.formula_parser.specs.declared.reference.Corner.{Corner}
+use Rattle.formula_parser.specs.declared.corner.Given.{Given}
+use Rattle.formula_parser.specs.declared.corner.Given.TheVariants as given
+use Rattle.formula_parser.specs.declared.corner.Corner.{Corner}
 use Rattle.formula_parser.specs.declared.array.Items.{Items}
 use Rattle.formula_parser.specs.declared.array.Rows.{Rows}
 

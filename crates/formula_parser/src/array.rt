@@ -1,25 +1,22 @@
 // Arrays of constants.
-ghost use Rattle.std.specs.Prelude.{◌≡◌, ◌∷◌, ◌+◌, ◌++◌, ◌<◌, ◌≤◌, ◌^◌, IfOk, IfSome, Some, [], false, if◌then◌else◌, is_none, option_map};
-ghost use Rattle.fractions.specs.Rational.{neg_ℚ};
-ghost use Rattle.frac128.specs.NumeralReading.{reading};
+ghost use Rattle.std.specs.Prelude.{◌≡◌, ◌∷◌, ◌+◌, ◌++◌, ◌<◌, ◌≤◌, ◌^◌, IfOk, IfSome, Some, [], false, is_none, option_map};
 ghost use Rattle.formula_ast.specs.Sound.{AreSoundWithin, IsRectangular};
 ghost use Rattle.formula_ast.specs.Tree.{Array, trees};
-ghost use Rattle.formula_grammar.specs.LeafReading.{array_at, is_bar, is_close_brace, is_semicolon, item_at, row_at, signed_number_at};
-ghost use Rattle.formula_grammar.specs.Symbols.{bytes_of, from_to};
+ghost use Rattle.formula_grammar.specs.LeafReading.{array_at, is_bar, is_close_brace, is_semicolon, item_at, row_at};
+ghost use Rattle.formula_grammar.specs.Symbols.{from_to};
 ghost use Rattle.formula_parser.specs.Built.{branch};
 ghost use Rattle.formula_parser.specs.Given.{Gives, next_where};
-ghost use Rattle.formula_parser.specs.Leaves.{behind_where, constant_in, is_negative, item_found, item_of, leaf_found, read_items, read_rows, row_behind, row_found, rows_at, rows_found, signed_number, with_item, with_items};
+ghost use Rattle.formula_parser.specs.Leaves.{behind_where, constant_in, item_found, leaf_found, read_items, read_rows, row_behind, row_found, rows_at, rows_found, with_item, with_items};
 ghost use Rattle.formula_parser.specs.Placed.{AreSymbols, InOrder, IsInFront, IsInText};
 ghost use Rattle.formula_parser.specs.Settings.{seen};
 
 use crate::branch::{Branch, Part, from_to};
+use crate::number::{number, signed_number};
 use crate::setting::Setting;
 use crate::stop::Stop;
 use crate::words::{logical, quoted_text};
-use cell_refs::Span;
 use formula_ast::{Expr, Node};
 use formula_grammar::{Sign, Symbol};
-use frac128::{Frac, NumeralFault};
 use std::alloc::{AllocError, Global};
 
 /// Items that were read: how many, and their trees, where none has a number that is too wide.
@@ -144,73 +141,6 @@ impl Rows {
             branch: Branch::array(expr),
             place,
         }
-    }
-}
-
-// The number with its sign turned, where a minus stands before it.
-fn signed(number: Frac, is_negative: bool) -> Frac
-    ensures { result ≡ (if is_negative then neg_ℚ number else number) }
-{
-    if is_negative { number.neg() } else { number }
-}
-
-/// The tree of a number; none where it is too wide.
-pub fn number(
-    setting: &Setting,
-    symbol: Symbol,
-    at: Span,
-    is_negative: bool,
-) -> Result<Option<Expr>, Stop>
-    requires symbol { IsInText setting.now.text.now symbol }
-    requires forward { at.start ≤ at.end }
-    ensures { Gives (λ x. x) result (option_map (λ n. item_of (signed_number is_negative at n)) (reading (bytes_of (seen setting.now) symbol))) }
-{
-    match Frac::read(setting.slice(symbol)) {
-        Ok(number) => {
-            let number = signed(number, is_negative);
-            Ok(Some(Expr {
-                span: at,
-                node: Node::Number(number),
-            }))
-        }
-        Err(NumeralFault::TooWide) => Ok(None),
-        Err(NumeralFault::NotNumeral) => Err(Stop::Syntax),
-    }
-}
-
-// Whether the number behind the sign is turned.
-fn is_negative(sign: Sign) -> bool
-    ensures { result ≡ is_negative sign }
-{
-    match sign {
-        Sign::Plus => false,
-        _ => true,
-    }
-}
-
-// A number behind its sign.
-#[tactic(auto, unfolding(formula_grammar::specs::LeafReading::signed_number_at, formula_grammar::specs::LeafReading::one_at))]
-fn signed_number<'a>(
-    setting: &Setting,
-    sign: Symbol,
-    symbols: &'a [Symbol],
-) -> Result<(Option<Expr>, &'a [Symbol]), Stop>
-    requires sign { IsInText setting.now.text.now sign }
-    requires symbols { AreSymbols setting.now.text.now symbols.now }
-    requires order { InOrder sign.span.end symbols.now }
-    ensures gives { Gives (λ x. (x.0, x.1.now)) result (item_found (signed_number_at (seen setting.now) sign symbols.now)) }
-    ensures rest { IfOk result (λ x. AreSymbols setting.now.text.now x.1.now) }
-{
-    match symbols {
-        [] => Err(Stop::Syntax),
-        [symbol, rest @ ..] => match symbol.sign {
-            Sign::Number => {
-                let at = from_to(sign.span, symbol.span);
-                let expr = number(setting, *symbol, at, is_negative(sign.sign))?;
-                Ok((expr, rest))
-            }
-            _ => Err(Stop::Syntax),
-        },
     }
 }
 

@@ -12,11 +12,13 @@ ghost use Rattle.formula_parser.specs.Leaves.{leaf_found, leaf_part, single_in};
 ghost use Rattle.formula_parser.specs.Placed.{AreSymbols, IsInFront, IsInText};
 ghost use Rattle.formula_parser.specs.Settings.{seen};
 
-use crate::array::{array, number};
+use crate::array::array;
 use crate::branch::{Branch, Part};
-use crate::reference::{references, starts_with_mark, word_as_corner};
+use crate::corner::{starts_with_mark, word_as_corner};
+use crate::number::number;
 use crate::setting::Setting;
 use crate::stop::Stop;
+use crate::union::references;
 use crate::words::{error, logical, quoted_text};
 use cell_refs::Span;
 use formula_ast::{Expr, Node};

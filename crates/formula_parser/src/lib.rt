@@ -3,17 +3,21 @@
 
 mod array;
 mod branch;
+mod call;
+mod corner;
 mod fault;
 mod formula;
 mod laws;
 mod leaf;
 mod name;
+mod number;
 mod reading;
 mod reference;
 mod setting;
 mod signs;
 mod stop;
 mod symbols;
+mod union;
 mod words;
 
 pub use fault::ParseFault;

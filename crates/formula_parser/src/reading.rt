@@ -6,7 +6,8 @@ ghost use Rattle.formula_parser.specs.Given.{Gives, formulas, hundredths, primar
 ghost use Rattle.formula_parser.specs.Placed.{AreBefore, AreSymbols, InOrder, IsInFront, IsInText};
 ghost use Rattle.formula_parser.specs.Settings.{seen};
 
-use crate::branch::{Branch, Part, called};
+use crate::branch::{Branch, Part};
+use crate::call::called;
 use crate::leaf::leaf;
 use crate::setting::Setting;
 use crate::signs::{

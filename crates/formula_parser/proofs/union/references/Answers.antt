@@ -5,7 +5,7 @@ use Rattle.std.proofs.lemmas.Result.{err_from_is_err_and}
 use Rattle.cell_refs.specs.Areas.{IsOnSheet}
 use Rattle.formula_parser.specs.Settings.{seen}
 use Rattle.formula_parser.proofs.JoinedAreas.{added_first, union_done, union_fails, union_fails_first, union_goes, union_less}
-use Rattle.formula_parser.proofs.reference.references.Goals as goal
+use Rattle.formula_parser.proofs.union.references.Goals as goal
 
 pub returns-in_err-rest-clause-gives : goal.returns-in_err-rest-clause-gives
 returns-in_err-rest-clause-gives c =

@@ -4,7 +4,7 @@ use Rattle.formula_parser.specs.declared.branch.Part.{Part}
 use Rattle.formula_parser.specs.declared.branch.Branch.{Branch}
 use Rattle.formula_parser.specs.Built.{any_faults, miscounts, most_of, refuses, taller}
 use Rattle.formula_parser.proofs.Branches.{all_within, call_made}
-use Rattle.formula_parser.proofs.branch.part_of_call.Goals as goal
+use Rattle.formula_parser.proofs.call.part_of_call.Goals as goal
 
 pub call_of-requires-clause-within : goal.call_of-requires-clause-within
 call_of-requires-clause-within c = all_within (λ v. v.items) c.args.place c.args.args.items c.in_ok-args.args c.requires.within c.in_ok-args.ensures.trees c.in_ok-args.ensures.sound

@@ -5,7 +5,7 @@ use Rattle.formula_ast.specs.Tree.{Number}
 use Rattle.frac128.specs.NumeralReading.{reading}
 use Rattle.formula_parser.specs.Leaves.{item_of, signed_number}
 use Rattle.formula_parser.proofs.Numerals.{narrow_read, wide_read, none_read}
-use Rattle.formula_parser.proofs.array.number.Goals as goal
+use Rattle.formula_parser.proofs.number.number.Goals as goal
 
 pub returns-in-Ok : goal.returns-in-Ok
 returns-in-Ok c =

@@ -2,7 +2,7 @@ use Rattle.std.proofs.Common.{ap, string_bytes}
 use Rattle.formula_grammar.specs.LeafReading.{is_point}
 use Rattle.formula_parser.specs.Settings.{seen}
 use Rattle.formula_parser.proofs.Corners.{gives_as, mark_none, mark_some, no_point, one_none, one_other, one_such, sheet_none}
-use Rattle.formula_parser.proofs.reference.behind_sheet.Goals as goal
+use Rattle.formula_parser.proofs.corner.behind_sheet.Goals as goal
 
 pub returns-in_default-clause-gives : goal.returns-in_default-clause-gives
 returns-in_default-clause-gives c = sheet_none (seen c.args.setting.now) is_point c.args.sheet c.args.symbols.now (rw c.in_default.is at c.in_ok-name.ensures)

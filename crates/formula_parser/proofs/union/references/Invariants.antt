@@ -4,7 +4,7 @@ use Rattle.cell_refs.specs.Areas.{IsOnSheet}
 use Rattle.formula_parser.specs.Placed.{AreSymbols}
 use Rattle.formula_parser.specs.Settings.{seen}
 use Rattle.formula_parser.proofs.JoinedAreas.{IsJoined}
-use Rattle.formula_parser.proofs.reference.references.Given as goal
+use Rattle.formula_parser.proofs.union.references.Given as goal
 
 abbrev pub invariant-loop-behind : goal.invariant-loop-behind
 invariant-loop-behind l = record {

@@ -5,7 +5,7 @@ use Rattle.std.proofs.lemmas.List.Elements.{All-nil, All-push}
 use Rattle.formula_ast.specs.Sound.{IsSound}
 use Rattle.formula_parser.specs.Built.{all_trees}
 use Rattle.formula_parser.proofs.Branches.{behind, none_behind, one_behind, lost_behind, all_behind}
-use Rattle.formula_parser.proofs.branch.all_exprs.Goals as goal
+use Rattle.formula_parser.proofs.call.all_exprs.Goals as goal
 
 pub loop-arg-init : goal.loop-arg-init
 loop-arg-init c = record {

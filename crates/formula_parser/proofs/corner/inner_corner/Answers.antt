@@ -1,7 +1,7 @@
 use Rattle.formula_grammar.specs.declared.symbol.Sign.TheVariants as sign
 use Rattle.formula_parser.specs.Settings.{seen}
 use Rattle.formula_parser.proofs.Corners.{gives_as, inner_none, inner_of, inner_other}
-use Rattle.formula_parser.proofs.reference.inner_corner.Goals as goal
+use Rattle.formula_parser.proofs.corner.inner_corner.Goals as goal
 
 pub returns-in_default-clause-gives : goal.returns-in_default-clause-gives
 returns-in_default-clause-gives c = inner_none (seen c.args.setting.now) c.args.symbols.now c.in_default.ensures.front

@@ -1,7 +1,7 @@
 use Rattle.formula_grammar.specs.declared.symbol.Sign.TheVariants as sign
 use Rattle.formula_parser.specs.Settings.{seen}
 use Rattle.formula_parser.proofs.Corners.{corner_none, corner_of_word, corner_other, gives_as}
-use Rattle.formula_parser.proofs.reference.plain_corner.Goals as goal
+use Rattle.formula_parser.proofs.corner.plain_corner.Goals as goal
 
 pub returns-in_default-clause-gives : goal.returns-in_default-clause-gives
 returns-in_default-clause-gives c = corner_none (seen c.args.setting.now) c.args.symbols.now c.in_default.ensures.front

@@ -4,7 +4,7 @@ use Rattle.std.specs.Prelude.{All}
 use Rattle.formula_ast.specs.Sound.{IsSound}
 use Rattle.formula_parser.specs.Built.{all_trees}
 use Rattle.formula_parser.proofs.Branches.{behind}
-use Rattle.formula_parser.proofs.branch.all_exprs.Given as goal
+use Rattle.formula_parser.proofs.call.all_exprs.Given as goal
 
 abbrev pub invariant-loop-arg : goal.invariant-loop-arg
 invariant-loop-arg l = record {

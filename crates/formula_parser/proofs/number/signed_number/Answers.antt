@@ -6,7 +6,7 @@ use Rattle.formula_grammar.specs.declared.symbol.Symbol.{Symbol}
 use Rattle.formula_parser.specs.Settings.{seen}
 use Rattle.formula_parser.proofs.Order.{tail_are}
 use Rattle.formula_parser.proofs.ItemsRead.{first_others, signed_fails, signed_found}
-use Rattle.formula_parser.proofs.array.signed_number.Goals as goal
+use Rattle.formula_parser.proofs.number.signed_number.Goals as goal
 
 -- any symbol
 none : Symbol

@@ -1,7 +1,7 @@
 use Rattle.formula_parser.specs.Leaves.{corner_of, given_of}
 use Rattle.formula_parser.specs.Settings.{seen}
 use Rattle.formula_parser.proofs.Corners.{address_none, address_other, address_bad, address_good}
-use Rattle.formula_parser.proofs.reference.address.Goals as goal
+use Rattle.formula_parser.proofs.corner.address.Goals as goal
 
 pub returns-in_default-clause-gives : goal.returns-in_default-clause-gives
 returns-in_default-clause-gives c = address_none (seen c.args.setting.now) (given_of c.args.sheet) c.args.symbols.now c.in_default.ensures.front
