@@ -14,7 +14,7 @@ use Rattle.recalculation.specs.Entries.{Contents}
 use Rattle.workbook.specs.declared.held.Held.{Held}
 use Rattle.workbook.specs.Edits.{is_outside}
 use Rattle.workbook.specs.Exchanging.{IsExchange}
-use Rattle.workbook.specs.Held.{IsHeld, IsKept, contents_of, held_at, put_all, text_entry}
+use Rattle.workbook.specs.Held.{IsHeld, IsKept, contents_of, held_at, put_all, spelled_tree, text_entry}
 use Rattle.workbook.specs.Listed.{IsListed, TextsAreListed}
 use Rattle.workbook.specs.Replacing.{CanReplace}
 use Rattle.workbook.specs.Room.{HasRoom}
@@ -74,6 +74,7 @@ module _ (s : State) (all rest : List (Cell × Held)) (e : Cell × Held) (last :
     has = ap is_some (get-insert cells_total s.contents e.0 e.1.text d.0) ∙ still_some (eq_by_cmp cell_cmp d.0 e.0) e.1.text (get s.contents d.0) x.has;
     held = x.held;
     plain = x.plain;
+    nameless = x.nameless;
   }
 
   pub fits_others : (t : State) → t ≡ record s { contents = insert s.contents e.0 e.1.text } → All (IsExchange t) rest
@@ -91,5 +92,6 @@ pub same_length : (es fs : HeldCells) (k : Cell) → IsSome (held_at es k) → l
 same_length es fs k some same = let e : ◌≡◌ {A = ℕ} (cond (is_some (held_at es k)) 0 1) 0 = ap (λ b. cond b 0 1) some in omega (arith, e)
 
 -- ---- what is said of a text, in place of what the cell has
-pub exchanged : (s : State) (k : Cell) (text : List ℕ) (h : Held) → CanReplace s.contents (k, text) → h.text ≡ text → IsHeld s.sheets s.names k h → IsExchange s (k, h)
-exchanged s k text h can same held = record { has = can.has; held = held; plain = ap is_formula_text same ∙ can.plain }
+pub exchanged : (s : State) (k : Cell) (text : List ℕ) (h : Held) → CanReplace s.contents (k, text) → h.text ≡ text → IsHeld s.sheets s.names k h
+    → (is_formula_text text ≡ false → spelled_tree h ≡ None) → IsExchange s (k, h)
+exchanged s k text h can same held free = record { has = can.has; held = held; plain = ap is_formula_text same ∙ can.plain; nameless = free can.plain }

@@ -72,12 +72,12 @@ some_is : (o : Option Held) → is_some (text_held o) ≡ is_some o
 some_is None = refl
 some_is (Some h) = refl
 
-equal_of : (r : Ordering) → is_eq r ≡ true → r ≡ Equal
+pub equal_of : (r : Ordering) → is_eq r ≡ true → r ≡ Equal
 equal_of Less e = absurd cc
 equal_of Equal e = refl
 equal_of Greater e = absurd cc
 
-same_held : (a b : Held) → Some a ≡ Some b → a ≡ b
+pub same_held : (a b : Held) → Some a ≡ Some b → a ≡ b
 same_held a b e = ap (λ o. unwrap_or o a) e
 
 -- whether the cell has a text

@@ -1,7 +1,7 @@
 -- What is said of the cells, one after the other.
 use Rattle.std.proofs.Common.{◌≡◌, ◌≢◌, ◌<◌, ℕ, zero, suc, Bool, true, false, cond, List, [], ◌∷◌, ◌++◌, length, get_or, Option, Some, None, refl, sym, ap, subst, ◌∙◌, append-nil, append_assoc, arith}
-use Rattle.std.specs.Prelude.{All, Contains, ◌↔◌, if◌then◌else◌, is_some, option_map, unwrap_or}
-use Rattle.std.specs.List.{AllByRecursion}
+use Rattle.std.specs.Prelude.{◌||◌, All, Contains, ◌↔◌, if◌then◌else◌, is_some, option_map, unwrap_or}
+use Rattle.std.specs.List.{AllByRecursion, list_any}
 use Rattle.std.specs.List.Sorted.{IsStrictlySortedBy}
 use Rattle.std.specs.Map.{keys_of}
 use Rattle.std.specs.BTreeMap.{is_at}
@@ -14,16 +14,21 @@ use Rattle.std.proofs.lemmas.List.Elements.{Contains-append_right}
 use Rattle.cell_refs.specs.declared.cell.Cell.{Cell}
 use Rattle.cell_refs.specs.Cells.{cell_cmp}
 use Rattle.cell_refs.proofs.Order.{cells_total, exact_cells}
+use Rattle.formula_ast.specs.Tree.{Tree}
 use Rattle.recalculation.specs.Entries.{Entry, entry}
 use Rattle.workbook.specs.declared.held.Held.{Held}
 use Rattle.workbook.specs.declared.held.Said.{Said}
-use Rattle.workbook.specs.Held.{IsHeld, IsKept, contents_of, held_at}
+use Rattle.workbook.specs.declared.users.Users.{Users}
+use Rattle.workbook.specs.Held.{AllAreHeld, IsHeld, IsKept, contents_of, held_at, spelled_tree}
 use Rattle.workbook.specs.Kinds.{book_of, says}
 use Rattle.workbook.specs.Naming.{SayOtherwise}
-use Rattle.workbook.specs.Renamed.{AreResaid, Resaid, of_cell, resaid, said_at}
+use Rattle.workbook.specs.Renamed.{AreResaid, OthersStay, Resaid, ResaidAt, of_cell, resaid, said_at}
 use Rattle.workbook.specs.Scoped.{IsShort}
 use Rattle.workbook.specs.State.{Name, formula_count, text_count}
+use Rattle.workbook.specs.Users.{AllAreCovered, IsCovered, KnowsUses, knows}
+use Rattle.workbook.specs.Uses.{is_wanted, some_use}
 use Rattle.workbook.proofs.Keeping.{HeldCells, get_text, text_held, the_state}
+use Rattle.workbook.proofs.NewMeanings.{says_alike, unused_alike}
 
 abbrev pub Resayings : Type 0
 Resayings = List (Cell × Said)
@@ -34,23 +39,23 @@ added cell None said = said
 added cell (Some s) said = (cell, s) ∷ said
 
 -- each cell's answer, in the order of the cells
-abbrev pub Chain : (Cell → Held → Option Said → Type 0) → HeldCells → Resayings → Type 0
+abbrev pub Chain : (Cell → Option Said → Type 0) → List Cell → Resayings → Type 0
 Chain P [] said = said ≡ []
-Chain P (e ∷ es) said = (o : Option Said) × (rest : Resayings) × P e.0 e.1 o × (said ≡ added e.0 o rest) × Chain P es rest
+Chain P (k ∷ ks) said = (o : Option Said) × (rest : Resayings) × P k o × (said ≡ added k o rest) × Chain P ks rest
 
 -- ---- the loop over the cells: what has been said goes before what is still to be said
-abbrev pub GoesBefore : (Cell → Held → Option Said → Type 0) → HeldCells → HeldCells → Resayings → Type 0
+abbrev pub GoesBefore : (Cell → Option Said → Type 0) → List Cell → List Cell → Resayings → Type 0
 GoesBefore P all left said = (rest : Resayings) → Chain P left rest → Chain P all (said ++ rest)
 
-pub goes_on : (P : Cell → Held → Option Said → Type 0) (all left : HeldCells) (e : Cell × Held) (said more : Resayings) (o : Option Said) → GoesBefore P all (e ∷ left) said → P e.0 e.1 o
-    → more ≡ said ++ of_cell e.0 o → GoesBefore P all left more
-goes_on P all left e said more None so_far p pushed rest chain =
+pub goes_on : (P : Cell → Option Said → Type 0) (all left : List Cell) (k : Cell) (said more : Resayings) (o : Option Said) → GoesBefore P all (k ∷ left) said → P k o
+    → more ≡ said ++ of_cell k o → GoesBefore P all left more
+goes_on P all left k said more None so_far p pushed rest chain =
     subst (Chain P all) (ap (λ l. l ++ rest) (sym (append-nil said) ∙ sym pushed)) (so_far rest (None, rest, p, refl, chain))
-goes_on P all left e said more (Some s) so_far p pushed rest chain =
-    subst (Chain P all) (sym (append_assoc said ((e.0, s) ∷ []) rest) ∙ ap (λ l. l ++ rest) (sym pushed))
-    (so_far ((e.0, s) ∷ rest) (Some s, rest, p, refl, chain))
+goes_on P all left k said more (Some s) so_far p pushed rest chain =
+    subst (Chain P all) (sym (append_assoc said ((k, s) ∷ []) rest) ∙ ap (λ l. l ++ rest) (sym pushed))
+    (so_far ((k, s) ∷ rest) (Some s, rest, p, refl, chain))
 
-pub gone_through : (P : Cell → Held → Option Said → Type 0) (all : HeldCells) (said : Resayings) → GoesBefore P all [] said → Chain P all said
+pub gone_through : (P : Cell → Option Said → Type 0) (all : List Cell) (said : Resayings) → GoesBefore P all [] said → Chain P all said
 gone_through P all said so_far = subst (Chain P all) (append-nil said) (so_far [] refl)
 
 -- ---- each cell is said something else of at most once
@@ -88,23 +93,23 @@ sorted_cons : (k : Cell) (cells : List Cell) → Above k cells → IsStrictlySor
 unfolding IsStrictlySortedBy
 sorted_cons k cells a h = (a, h)
 
-module _ (P : Cell → Held → Option Said → Type 0) where
-  above : (k : Cell) (es : HeldCells) (said : Resayings) → Above k (keys_of es) → Chain P es said → Above k (keys_of said)
+module _ (P : Cell → Option Said → Type 0) where
+  above : (k : Cell) (ks : List Cell) (said : Resayings) → Above k ks → Chain P ks said → Above k (keys_of said)
   above k [] said a chain = subst (λ l. Above k (keys_of l)) (sym chain) tt
-  above k (e ∷ es) said a chain = subst (λ l. Above k (keys_of l)) (sym chain.3) (by chain.0 (above k es chain.1 a.1 chain.4))
+  above k (x ∷ ks) said a chain = subst (λ l. Above k (keys_of l)) (sym chain.3) (by chain.0 (above k ks chain.1 a.1 chain.4))
     where
-      by : (o : Option Said) → Above k (keys_of chain.1) → Above k (keys_of (added e.0 o chain.1))
+      by : (o : Option Said) → Above k (keys_of chain.1) → Above k (keys_of (added x o chain.1))
       by None ih = ih
       by (Some s) ih = (a.0, ih)
 
-  in_order : (es : HeldCells) (said : Resayings) → IsStrictlySortedBy cell_cmp (keys_of es) → Chain P es said → IsStrictlySortedBy cell_cmp (keys_of said)
+  in_order : (ks : List Cell) (said : Resayings) → IsStrictlySortedBy cell_cmp ks → Chain P ks said → IsStrictlySortedBy cell_cmp (keys_of said)
   in_order [] said h chain = subst (λ l. IsStrictlySortedBy cell_cmp (keys_of l)) (sym chain) sorted_nil
-  in_order (e ∷ es) said h chain =
-      subst (λ l. IsStrictlySortedBy cell_cmp (keys_of l)) (sym chain.3) (by chain.0 (in_order es chain.1 (tail_of e.0 (keys_of es) h) chain.4))
+  in_order (x ∷ ks) said h chain =
+      subst (λ l. IsStrictlySortedBy cell_cmp (keys_of l)) (sym chain.3) (by chain.0 (in_order ks chain.1 (tail_of x ks h) chain.4))
     where
-      by : (o : Option Said) → IsStrictlySortedBy cell_cmp (keys_of chain.1) → IsStrictlySortedBy cell_cmp (keys_of (added e.0 o chain.1))
+      by : (o : Option Said) → IsStrictlySortedBy cell_cmp (keys_of chain.1) → IsStrictlySortedBy cell_cmp (keys_of (added x o chain.1))
       by None rest = rest
-      by (Some s) rest = sorted_cons e.0 (keys_of chain.1) (above e.0 es chain.1 (head_of e.0 (keys_of es) h) chain.4) rest
+      by (Some s) rest = sorted_cons x (keys_of chain.1) (above x ks chain.1 (head_of x ks h) chain.4) rest
 
   beside : (q k : Cell) (o : Option Said) (said : Resayings) → is_at (cell_cmp q) k ≡ false → said_at (added k o said) q ≡ said_at said q
   beside q k None said e = refl
@@ -114,35 +119,67 @@ module _ (P : Cell → Held → Option Said → Type 0) where
   here k None said e = e
   here k (Some s) said e = ap (λ b. cond b (Some s) (said_at said k)) ((eq_by_cmp_equiv cells_total).refl k)
 
-  not_held : (es : HeldCells) (said : Resayings) (q : Cell) → Chain P es said → held_at es q ≡ None → said_at said q ≡ None
-  not_held [] said q chain none = ap (λ l. said_at l q) chain
-  not_held (e ∷ es) said q chain none = by (is_at (cell_cmp q) e.0) refl none (not_held es chain.1 q chain.4)
+  not_among : (ks : List Cell) (said : Resayings) (q : Cell) → Chain P ks said → list_any (is_at (cell_cmp q)) ks ≡ false → said_at said q ≡ None
+  not_among [] said q chain none = ap (λ l. said_at l q) chain
+  not_among (x ∷ ks) said q chain none = by (is_at (cell_cmp q) x) refl none (not_among ks chain.1 q chain.4)
     where
-      by : (b : Bool) → is_at (cell_cmp q) e.0 ≡ b → cond b (Some e.1) (held_at es q) ≡ None → (held_at es q ≡ None → said_at chain.1 q ≡ None) → said_at said q ≡ None
+      by : (b : Bool) → is_at (cell_cmp q) x ≡ b → (b || list_any (is_at (cell_cmp q)) ks) ≡ false → (list_any (is_at (cell_cmp q)) ks ≡ false → said_at chain.1 q ≡ None) → said_at said q ≡ None
       by true t n ih = absurd cc
-      by false t n ih = ap (λ l. said_at l q) chain.3 ∙ beside q e.0 chain.0 chain.1 t ∙ ih n
+      by false t n ih = ap (λ l. said_at l q) chain.3 ∙ beside q x chain.0 chain.1 t ∙ ih n
 
-  its_own : (es : HeldCells) (said : Resayings) (q : Cell) (h : Held) → IsStrictlySortedBy cell_cmp (keys_of es) → Chain P es said → held_at es q ≡ Some h → P q h (said_at said q)
-  its_own [] said q h sorted chain some = absurd cc
-  its_own (e ∷ es) said q h sorted chain some = by (is_at (cell_cmp q) e.0) refl some (its_own es chain.1 q h (tail_of e.0 (keys_of es) sorted) chain.4)
+  its_own : (ks : List Cell) (said : Resayings) (q : Cell) → IsStrictlySortedBy cell_cmp ks → Chain P ks said → list_any (is_at (cell_cmp q)) ks ≡ true → P q (said_at said q)
+  its_own [] said q sorted chain any = absurd cc
+  its_own (x ∷ ks) said q sorted chain any = by (is_at (cell_cmp q) x) refl any (its_own ks chain.1 q (tail_of x ks sorted) chain.4)
     where
-      by : (b : Bool) → is_at (cell_cmp q) e.0 ≡ b → cond b (Some e.1) (held_at es q) ≡ Some h → (held_at es q ≡ Some h → P q h (said_at chain.1 q)) → P q h (said_at said q)
+      by : (b : Bool) → is_at (cell_cmp q) x ≡ b → (b || list_any (is_at (cell_cmp q)) ks) ≡ true → (list_any (is_at (cell_cmp q)) ks ≡ true → P q (said_at chain.1 q)) → P q (said_at said q)
       by true t n ih =
-          let same : q ≡ e.0 = exact_cells q e.0 (equal_of (cell_cmp q e.0) t) in
-          let none : said_at chain.1 e.0 ≡ None = none_above e.0 chain.1 (above e.0 es chain.1 (head_of e.0 (keys_of es) sorted) chain.4) in
-          let is : said_at said e.0 ≡ chain.0 = ap (λ l. said_at l e.0) chain.3 ∙ here e.0 chain.0 chain.1 none in
-          subst (λ k. P k h (said_at said k)) (sym same)
-          (subst (λ g. P e.0 g (said_at said e.0)) (one_held e.1 h n) (subst (P e.0 e.1) (sym is) chain.2))
-      by false t n ih = subst (P q h) (sym (ap (λ l. said_at l q) chain.3 ∙ beside q e.0 chain.0 chain.1 t)) (ih n)
+          let same : q ≡ x = exact_cells q x (equal_of (cell_cmp q x) t) in
+          let none : said_at chain.1 x ≡ None = none_above x chain.1 (above x ks chain.1 (head_of x ks sorted) chain.4) in
+          let is : said_at said x ≡ chain.0 = ap (λ l. said_at l x) chain.3 ∙ here x chain.0 chain.1 none in
+          subst (λ k. P k (said_at said k)) (sym same) (subst (P x) (sym is) chain.2)
+      by false t n ih = subst (P q) (sym (ap (λ l. said_at l q) chain.3 ∙ beside q x chain.0 chain.1 t)) (ih n)
 
--- so exactly the cells that say something else are told
-pub all_resaid : (sheets : List (List ℕ)) (before after : List Name) (es : HeldCells) (said : Resayings) → IsStrictlySortedBy cell_cmp (keys_of es)
-    → Chain (Resaid sheets before after) es said → AreResaid sheets before after es said
-all_resaid sheets before after es said sorted chain = record {
-  each = λ q h some. its_own (Resaid sheets before after) es said q h sorted chain some;
-  within = λ q none. not_held (Resaid sheets before after) es said q chain none;
-  sorted = in_order (Resaid sheets before after) es said sorted chain;
-}
+-- ---- the cells of a name are all that say something else
+abbrev pub AnswersAt : List (List ℕ) → List Name → List Name → HeldCells → Cell → Option Said → Type 0
+AnswersAt sheets before after es q o = ResaidAt sheets before after q (held_at es q) o
+
+module _ (sheets : List (List ℕ)) (before after : List Name) (name : List ℕ) (others : OthersStay name before after) (es : HeldCells) (held : AllAreHeld sheets before es)
+    (users : Users) (covered : AllAreCovered users es) where
+  -- a text says the same whose cell isn't among those of the name
+  unaffected : (q : Cell) (h : Held) → held_at es q ≡ Some h → knows users name q ≡ false → says sheets after q h.text ≡ says sheets before q h.text
+  unaffected q h some unknown = by (spelled_tree h) refl (covered q h some)
+    where
+      used : (t : Tree) (b : Bool) → some_use (is_wanted (Some name)) t ≡ b → KnowsUses users q t → spelled_tree h ≡ Some t → says sheets after q h.text ≡ says sheets before q h.text
+      used t true u known e = absurd (let k : true ≡ false = sym (known name u) ∙ unknown in cc)
+      used t false u known e = unused_alike sheets before after name others q h (held q h some) t e u
+
+      by : (o : Option Tree) → spelled_tree h ≡ o → IsCovered users q (spelled_tree h) → says sheets after q h.text ≡ says sheets before q h.text
+      by None e is = says_alike sheets before after name others q h (held q h some) e
+      by (Some t) e is = used t (some_use (is_wanted (Some name)) t) refl (subst (IsCovered users q) e is) e
+
+  -- so exactly the cells that say something else are told
+  pub all_resaid : (ks : List Cell) (said : Resayings) → ((q : Cell) → knows users name q ≡ list_any (is_at (cell_cmp q)) ks) → IsStrictlySortedBy cell_cmp ks
+      → Chain (AnswersAt sheets before after es) ks said → AreResaid sheets before after es said
+  all_resaid ks said are sorted chain = record {
+    each = λ q h some. at (list_any (is_at (cell_cmp q)) ks) q h refl some;
+    within = λ q none. nothing (list_any (is_at (cell_cmp q)) ks) q refl none;
+    sorted = in_order (AnswersAt sheets before after es) ks said sorted chain;
+  }
+    where
+      at : (b : Bool) (q : Cell) (h : Held) → list_any (is_at (cell_cmp q)) ks ≡ b → held_at es q ≡ Some h → Resaid sheets before after q h (said_at said q)
+      at true q h e some =
+          subst (λ o. ResaidAt sheets before after q o (said_at said q)) some (its_own (AnswersAt sheets before after es) ks said q sorted chain e)
+      at false q h e some =
+          subst (Resaid sheets before after q h) (sym (not_among (AnswersAt sheets before after es) ks said q chain e)) (unaffected q h some (are q ∙ e))
+
+      nothing : (b : Bool) (q : Cell) → list_any (is_at (cell_cmp q)) ks ≡ b → held_at es q ≡ None → said_at said q ≡ None
+      nothing true q e none =
+          subst (λ o. ResaidAt sheets before after q o (said_at said q)) none (its_own (AnswersAt sheets before after es) ks said q sorted chain e)
+      nothing false q e none = not_among (AnswersAt sheets before after es) ks said q chain e
+
+  -- no cell is among those of a name that has none
+  pub none_resaid : (said : Resayings) → ((q : Cell) → knows users name q ≡ false) → said ≡ [] → AreResaid sheets before after es said
+  none_resaid said none is = all_resaid [] said none sorted_nil is
 
 -- ---- what is said, put to the cells, the last of it first
 said_last : (said : Resayings) (k : Cell) (s : Said) (q : Cell) (r : Option Said) → said_at said q ≡ r

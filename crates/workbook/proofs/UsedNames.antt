@@ -31,13 +31,17 @@ module _ (test : List ℕ → Bool) where
   any-last [] t = alone (some_use test t)
   any-last (x ∷ ts) t = ap (λ b. some_use test x || b) (any-last ts t) ∙ grouped (some_use test x) (any_use test (trees ts)) (some_use test t)
 
-  -- one more part that uses none
+  -- one more part
+  pub any-next : (ts : List Tree) (i : ℕ) (t : Tree) → i < length ts → t ≡ get_or ts i t
+      → any_use test (trees (take (i + 1) ts)) ≡ (any_use test (trees (take i ts)) || some_use test t)
+  any-next ts i t h at =
+      ap (λ l. any_use test (trees l)) (take_more ts i t h) ∙ any-last (take i ts) (get_or ts i t)
+      ∙ ap (λ u. any_use test (trees (take i ts)) || some_use test u) (sym at)
+
+  -- one that uses none
   pub any-more : (ts : List Tree) (i : ℕ) (t : Tree) → i < length ts → t ≡ get_or ts i t → any_use test (trees (take i ts)) ≡ false → false ≡ some_use test t
       → any_use test (trees (take (i + 1) ts)) ≡ false
-  any-more ts i t h at before here =
-      ap (λ l. any_use test (trees l)) (take_more ts i t h) ∙ any-last (take i ts) (get_or ts i t)
-      ∙ ap (λ b. b || some_use test (get_or ts i t)) before
-      ∙ ap (some_use test) (sym at) ∙ sym here
+  any-more ts i t h at before here = any-next ts i t h at ∙ ap (λ b. b || some_use test t) before ∙ sym here
 
   or_true : (b : Bool) → true ≡ (b || true)
   or_true true = refl

@@ -21,5 +21,6 @@ pub mod Filling
 pub mod Naming
 pub mod Saving
 pub mod Uses
+pub mod Users
 pub mod Renamed
 pub mod EditedNames

@@ -23,6 +23,11 @@ Resaid sheets before after cell held None = says sheets after cell held.text ≡
 Resaid sheets before after cell held (Some said) =
     IsSoundly said × (entry_of held.text said ≡ says sheets after cell held.text) × (says sheets after cell held.text ≢ says sheets before cell held.text)
 
+-- the same of a cell, of which nothing is said where it has no text
+abbrev pub ResaidAt : List (List ℕ) → List Name → List Name → Cell → Option Held → Option Said → Type 0
+ResaidAt sheets before after cell None said = said ≡ None
+ResaidAt sheets before after cell (Some held) said = Resaid sheets before after cell held said
+
 abbrev pub is_malformed : Said → Bool
 is_malformed said.Malformed = true
 is_malformed _ = false

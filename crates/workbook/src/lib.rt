@@ -18,6 +18,7 @@ mod renamed;
 mod renaming;
 mod say;
 mod several;
+mod users;
 mod uses;
 mod words;
 mod workbook;

@@ -1,16 +1,18 @@
 // Cells that say something else once a name stands for something else.
 ghost use Rattle.std.specs.Prelude.{◌≡◌, ◌≢◌, ◌<◌, ◌&&◌, All, IfOk, IfSome, MatchBool, MatchOption, OnOk, ◌++◌, false, length, map, option_map, true};
 ghost use Rattle.std.specs.Map.{keys_of};
-ghost use Rattle.workbook.specs.Held.{AllAreHeld, IsHeld};
+ghost use Rattle.workbook.specs.Held.{AllAreHeld, IsHeld, held_at};
 ghost use Rattle.workbook.specs.Kinds.{Amount, Cells, meant};
-ghost use Rattle.workbook.specs.Renamed.{AreResaid, OthersStay, Resaid, is_malformed, of_cell};
+ghost use Rattle.workbook.specs.Renamed.{AreResaid, OthersStay, Resaid, ResaidAt, is_malformed, of_cell};
 ghost use Rattle.workbook.specs.Scoped.{IsMeantOnSheet, IsShort, meant_of};
+ghost use Rattle.workbook.specs.Users.{AllAreCovered};
 
 use crate::held::{Held, Said};
 use crate::named::{Meant, Scope, stands_for};
 use crate::names::Names;
 use crate::naming::named;
 use crate::say::said_of;
+use crate::users::Users;
 use crate::uses::uses;
 use cell_refs::{Area, Cell, SheetId, SheetNames};
 use frac128::Frac;
@@ -28,21 +30,27 @@ pub(crate) struct Edit<'a> {
     pub(crate) name: &'a str,
 }
 
-/// What is said after the edit of the cells that say something else; no other formula's tree is made anew.
+/// What is said after the edit of the cells that say something else; no cell is looked at but those in whose formulas the name may
+/// stand, and no other formula's tree is made anew.
 pub(crate) fn renamed(
     alloc: Global,
     edit: &Edit,
+    users: &Users,
     cells: &BTreeMap<Cell, Held>,
 ) -> Result<Vec<(Cell, Said)>, Memory>
     requires held { AllAreHeld edit.now.sheets.now edit.now.before.now cells.now.entries }
+    requires covered { AllAreCovered users.now cells.now.entries }
     requires others { OthersStay edit.now.name.now edit.now.before.now edit.now.after.now }
     requires short { All IsShort edit.now.before.now }
     requires short_after { All IsShort edit.now.after.now }
     ensures { IfOk result (λ said. AreResaid edit.now.sheets.now edit.now.before.now edit.now.after.now cells.now.entries said.items) }
 {
     let mut said = Vec::new(alloc);
-    for (cell, held) in cells.iter() {
-        let other = resaid(alloc, edit, *cell, held)?;
+    let Some(known) = users.of(alloc, edit.name)? else {
+        return Ok(said);
+    };
+    for cell in known.iter() {
+        let other = resaid_at(alloc, edit, cells, *cell)?;
         add_other(&mut said, *cell, other)?;
     }
     Ok(said)
@@ -70,7 +78,26 @@ pub(crate) fn cells_of(alloc: Global, said: &[(Cell, Said)]) -> Result<Vec<Cell>
     Ok(cells)
 }
 
-// What is said after the edit of a cell, where it is something else.
+// What is said after the edit of a cell, where it has a text and says something else.
+fn resaid_at(
+    alloc: Global,
+    edit: &Edit,
+    cells: &BTreeMap<Cell, Held>,
+    cell: Cell,
+) -> Result<Option<Said>, Memory>
+    requires held { AllAreHeld edit.now.sheets.now edit.now.before.now cells.now.entries }
+    requires others { OthersStay edit.now.name.now edit.now.before.now edit.now.after.now }
+    requires short { All IsShort edit.now.before.now }
+    requires short_after { All IsShort edit.now.after.now }
+    ensures { IfOk result (λ said. ResaidAt edit.now.sheets.now edit.now.before.now edit.now.after.now cell (held_at cells.now.entries cell) said) }
+{
+    match cells.get(&cell) {
+        Some(held) => resaid(alloc, edit, cell, held),
+        None => Ok(None),
+    }
+}
+
+// The same of a text.
 fn resaid(alloc: Global, edit: &Edit, cell: Cell, held: &Held) -> Result<Option<Said>, Memory>
     requires held { IsHeld edit.now.sheets.now edit.now.before.now cell held.now }
     requires others { OthersStay edit.now.name.now edit.now.before.now edit.now.after.now }

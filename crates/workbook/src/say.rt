@@ -1,9 +1,9 @@
 // What texts say.
-ghost use Rattle.std.specs.Prelude.{◌≡◌, ◌+◌, ◌≢◌, ◌<◌, ◌≤◌, ℕ, true, List, [], All, IfOk, length};
+ghost use Rattle.std.specs.Prelude.{◌≡◌, ◌+◌, ◌≢◌, ◌<◌, ◌≤◌, ℕ, true, List, [], All, IfOk, None, false, length};
 ghost use Rattle.std.specs.Option.{option_map_or};
 ghost use Rattle.cell_refs.specs.declared.limits.TheConstants.{TEXT_BYTES};
 ghost use Rattle.recalculation.specs.Entries.{Formula, Malformed};
-ghost use Rattle.workbook.specs.Held.{IsHeld, IsSoundly, SaysSpelled, entry_of};
+ghost use Rattle.workbook.specs.Held.{IsHeld, IsSoundly, SaysSpelled, entry_of, spelled_tree};
 ghost use Rattle.workbook.specs.Listed.{IsListed};
 ghost use Rattle.workbook.specs.State.{is_formula_text};
 ghost use Rattle.workbook.specs.Kinds.{formula_tree, number_or_other};
@@ -32,6 +32,7 @@ pub(crate) fn hold(alloc: Global, scope: &Scope, cell: Cell, text: Text) -> Resu
     requires length { length text ≤ TEXT_BYTES }
     ensures text { IfOk result (λ held. held.text ≡ text) }
     ensures held { IfOk result (λ held. IsHeld scope.now.sheets.now scope.now.names.now cell held) }
+    ensures plain { is_formula_text text ≡ false → IfOk result (λ held. spelled_tree held ≡ None) }
 {
     let (spelled, said) = say(alloc, scope, cell, text.as_str())?;
     Ok(Held {
@@ -52,7 +53,8 @@ fn say(
     requires listed { scope.now.home.0 < length scope.now.sheets.now }
     requires short { All IsShort scope.now.names.now }
     requires length { length text.now ≤ TEXT_BYTES }
-    ensures { IfOk result (SaysSpelled scope.now.sheets.now scope.now.names.now cell text.now) }
+    ensures says { IfOk result (SaysSpelled scope.now.sheets.now scope.now.names.now cell text.now) }
+    ensures plain { is_formula_text text.now ≡ false → IfOk result (λ said. said.0 ≡ None) }
 {
     if is_formula(text) {
         return formula(alloc, scope, cell, text);

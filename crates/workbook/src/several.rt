@@ -6,11 +6,13 @@ ghost use Rattle.workbook.specs.Listed.{IsListed};
 ghost use Rattle.workbook.specs.Scoped.{IsShort};
 ghost use Rattle.workbook.specs.Several.{IsField, first_without_room};
 ghost use Rattle.workbook.specs.State.{formula_count};
+ghost use Rattle.workbook.specs.Users.{AllAreCovered, Grows};
 
 use crate::held::{Held, put_back, put_in};
 use crate::named::Scope;
 use crate::names::Names;
 use crate::say::hold;
+use crate::users::Users;
 use cell_refs::{Cell, SheetNames};
 use memory::Memory;
 use sheet_model::Text;
@@ -23,16 +25,20 @@ pub(crate) fn put_each(
     alloc: Global,
     sheets: &SheetNames,
     names: &Names,
+    users: &mut Users,
     cells: &mut BTreeMap<Cell, Held>,
     at: &[Cell],
     texts: &[String],
 ) -> Result<(), Memory>
     requires short { All IsShort names.now }
     requires kept { IsKept sheets.now names.now cells.old.entries (formula_count (contents_of cells.old.entries)) }
+    requires covered { AllAreCovered users.old cells.old.entries }
     requires listed { All (IsListed sheets.now) at.now }
     requires fields { All (λ text. IsField (string_bytes text)) texts.now }
     requires room { first_without_room (contents_of cells.old.entries) (zip at.now (map string_bytes texts.now)) ≡ None }
     ensures ok { OnOk result (IsFilled sheets.now names.now cells.old.entries (zip at.now (map string_bytes texts.now)) cells.new.entries) }
+    ensures covered { OnOk result (AllAreCovered users.new cells.new.entries) }
+    ensures grows { Grows users.old users.new }
     ensures some { OnErr result (zip at.now (map string_bytes texts.now) ≢ []) }
     ensures err { OnErr result (AreHeldAlike cells.old.entries cells.new.entries) }
 {
@@ -49,8 +55,9 @@ pub(crate) fn put_each(
     };
     let text = Text::new(String::from_str(alloc, text.as_str())?);
     let held = hold(alloc, &scope, *cell, text)?;
+    users.add_names(alloc, *cell, &held)?;
     let was = put_in(cells, *cell, held)?;
-    if let Err(fault) = put_each(alloc, sheets, names, cells, later_cells, later_texts) {
+    if let Err(fault) = put_each(alloc, sheets, names, users, cells, later_cells, later_texts) {
         put_back(cells, *cell, was);
         return Err(fault);
     }

@@ -1,38 +1,36 @@
 // A workbook.
-ghost use Rattle.std.specs.Prelude.{◌≡◌, ◌&&◌, ◌<◌, ◌≤◌, ◌≢◌, [], All, IfOk, MatchOption, None, OnErr, OnOk, Some, false, length, map, nat_le, nat_lt, not, option_map};
+ghost use Rattle.std.specs.Prelude.{◌≡◌, ◌&&◌, ◌<◌, ◌≤◌, ◌≢◌, [], All, IfOk, OnErr, OnOk, false, length, map, nat_le, nat_lt, not};
 ghost use Rattle.std.specs.FinMap as finmap;
 ghost use Rattle.cell_refs.specs.declared.limits.TheConstants.{TEXT_BYTES};
-ghost use Rattle.workbook.specs.Contents.{IsLast, IsNext, content_of, kind_of, tree_of};
-ghost use Rattle.recalculation.specs.Entries.{entry};
+ghost use Rattle.workbook.specs.Contents.{content_of};
 ghost use Rattle.workbook.specs.Edits.{Sets, after_set, is_outside, set_fault};
 ghost use Rattle.workbook.specs.Held.{put_all, text_entry};
-ghost use Rattle.workbook.specs.Kinds.{book_of};
-ghost use Rattle.workbook.specs.Listed.{IsListed, TextsAreListed};
+ghost use Rattle.workbook.specs.Listed.{IsListed};
 ghost use Rattle.workbook.specs.Exchanging.{IsExchange};
 ghost use Rattle.workbook.specs.Replacing.{CanReplace};
-ghost use Rattle.workbook.specs.State.{formula_count, is_formula_text, text_count, text_of, with_text};
+ghost use Rattle.workbook.specs.State.{formula_count, is_formula_text, text_count, with_text};
 ghost use Rattle.workbook.specs.Room.{HasRoom};
 ghost use Rattle.workbook.specs.Naming.{SayOtherwise};
 ghost use Rattle.workbook.specs.Renamed.{OthersStay};
 ghost use Rattle.workbook.specs.Scoped.{IsShort};
 
+use crate::EditFault;
 use crate::held::{Held, put_in, put_over, say_otherwise, take_away};
 use crate::named::Scope;
 use crate::names::Names;
 use crate::renamed::{Edit, cells_of, renamed};
 use crate::say::hold;
+use crate::users::Users;
 use crate::words::{is_formula, one};
-use crate::{EditFault, Kind};
 use cell_refs::{COLUMNS, Cell, FORMULAS, ROWS, SheetId, SheetNames, TEXT_BYTES, TEXTS};
-use formula_ast::Expr;
 use memory::Memory;
 use sheet_model::Text;
 use std::alloc::Global;
 use std::collections::BTreeMap;
 use std::marker::Model;
 use std::mem::drop;
-use std::ops::Bound;
 
+mod cells;
 mod laws;
 mod several;
 
@@ -43,13 +41,15 @@ pub struct Workbook {
     sheets: SheetNames,
     names: Names,
     cells: BTreeMap<Cell, Held>,
+    users: Users,
     formulas: usize,
 }
 
 impl Model for Workbook {
     ghost use Rattle.workbook.specs.State.{State};
     ghost use Rattle.workbook.specs.Codes.{state_code};
-    ghost use Rattle.workbook.specs.Held.{IsKept, contents_of};
+    ghost use Rattle.workbook.specs.Held.{contents_of};
+    ghost use Rattle.workbook.specs.Users.{IsIndexed};
 
     ghost Value = { State };
 
@@ -57,7 +57,7 @@ impl Model for Workbook {
 
     ghost view = { λ w. record { sheets = w.sheets; contents = contents_of w.cells.entries; names = w.names } };
 
-    ghost invariant = { λ w. IsKept w.sheets w.names w.cells.entries w.formulas };
+    ghost invariant = { λ w. IsIndexed w.sheets w.names w.users w.cells.entries w.formulas };
 }
 
 impl Workbook {
@@ -71,6 +71,7 @@ impl Workbook {
             sheets,
             names,
             cells: BTreeMap::new(alloc),
+            users: Users::new(alloc),
             formulas: 0,
         }
     }
@@ -167,6 +168,7 @@ impl Workbook {
         let is_one = is_formula(text.as_str());
         let held = hold(self.alloc, &scope, cell, text)?;
         let was_one = self.has_formula(cell);
+        self.users.add_names(self.alloc, cell, &held)?;
         drop(put_in(&mut self.cells, cell, held)?);
         self.formulas = self.formulas + one(is_one) - one(was_one);
         Ok(())
@@ -270,7 +272,7 @@ impl Workbook {
             after: &names,
             name,
         };
-        let said = renamed(self.alloc, &edit, &self.cells)?;
+        let said = renamed(self.alloc, &edit, &self.users, &self.cells)?;
         let cells = cells_of(self.alloc, &said)?;
         self.names = names;
         say_otherwise(&mut self.cells, said);
@@ -286,95 +288,6 @@ impl Workbook {
         let was_one = self.has_formula(cell);
         take_away(&mut self.cells, cell);
         self.formulas -= one(was_one);
-    }
-
-    /// The text of a cell; empty where it has none.
-    pub fn content(&self, cell: Cell) -> &str
-        ensures { result.now ≡ content_of self.now.contents cell }
-    {
-        match self.cells.get(&cell) {
-            Some(held) => held.text.as_str(),
-            None => "",
-        }
-    }
-
-    /// The kind of a cell's text.
-    pub fn kind(&self, cell: Cell) -> Kind
-        ensures { result ≡ kind_of (entry (book_of self.now) cell) }
-    {
-        match self.cells.get(&cell) {
-            Some(held) => held.kind(),
-            None => Kind::Empty,
-        }
-    }
-
-    /// The tree of a cell's formula, with what names stand for in their places.
-    pub fn tree(&self, cell: Cell) -> Option<&Expr>
-        ensures { option_map (λ t. t.now) result ≡ tree_of (entry (book_of self.now) cell) }
-    {
-        match self.cells.get(&cell) {
-            Some(held) => held.tree(),
-            None => None,
-        }
-    }
-
-    /// The text for which a name stands, on the sheet or in the whole workbook.
-    pub fn text_of(&self, sheet: Option<SheetId>, name: &str) -> Option<&str>
-        ensures { option_map (λ t. t.now) result ≡ text_of self.now.names (option_map (λ s. s.0) sheet) name.now }
-    {
-        self.names.find(sheet, name)
-    }
-
-    /// The names of the sheets, in their order.
-    pub fn sheets(&self) -> &SheetNames
-        ensures { result.now ≡ self.now.sheets }
-    {
-        &self.sheets
-    }
-
-    /// How many cells have a text.
-    pub fn texts(&self) -> usize
-        ensures { result ≡ text_count self.now.contents }
-    {
-        self.cells.len()
-    }
-
-    /// The next cell with a text, by sheet, row and column: the first of all, or the first behind a cell.
-    pub fn next_cell(&self, after: Option<Cell>) -> Option<Cell>
-        ensures { MatchOption result (IsLast self.now.contents after) (λ cell. IsNext self.now.contents after cell) }
-    {
-        match after {
-            Some(cell) => self.cell_behind(cell),
-            None => self.first_cell(),
-        }
-    }
-
-    /// Each cell with a text lies on one of the sheets.
-    pub fn texts_are_listed(&self)
-        ensures { TextsAreListed self.now }
-    {
-        let _formulas = self.formulas;
-    }
-
-    // The first cell with a text.
-    fn first_cell(&self) -> Option<Cell>
-        ensures { MatchOption result (IsLast self.now.contents None) (λ cell. IsNext self.now.contents None cell) }
-    {
-        match self.cells.first_key_value() {
-            Some((cell, _)) => Some(*cell),
-            None => None,
-        }
-    }
-
-    // The first cell with a text behind another.
-    fn cell_behind(&self, after: Cell) -> Option<Cell>
-        ensures { MatchOption result (IsLast self.now.contents (Some after)) (λ cell. IsNext self.now.contents (Some after) cell) }
-    {
-        let behind = (Bound::Excluded(after), Bound::Unbounded);
-        match self.cells.range(behind).next() {
-            Some((cell, _)) => Some(*cell),
-            None => None,
-        }
     }
 }
 

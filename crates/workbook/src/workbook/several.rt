@@ -30,6 +30,7 @@ impl Workbook {
             self.alloc,
             &self.sheets,
             &self.names,
+            &mut self.users,
             &mut self.cells,
             cells,
             texts,

@@ -1,12 +1,12 @@
-use Rattle.std.proofs.Common.{◌≡◌, ◌≤◌, ◌-◌, ◌∙◌, ◌∷◌, List, None, ℕ, arith, ap, drop, get_or, length, length-drop, length-take, map, rules, subst, sym, take}
+use Rattle.std.proofs.Common.{◌≡◌, ◌-◌, ◌∙◌, ◌∷◌, List, None, ℕ, arith, ap, drop, get_or, length, length-drop, length-take, map, rules, subst, sym, take}
 use Rattle.std.specs.Prelude.{string_bytes, zip}
-use Rattle.std.proofs.lemmas.Grind.{common_steps}
 use Rattle.std.proofs.lemmas.List.Elements.{All-rest}
 use Rattle.cell_refs.specs.declared.cell.Cell.{Cell}
 use Rattle.workbook.specs.Filling.{IsFilled}
 use Rattle.workbook.specs.Held.{contents_of}
 use Rattle.workbook.specs.Listed.{IsListed}
 use Rattle.workbook.specs.Several.{IsField, first_without_room}
+use Rattle.workbook.proofs.Covered.{covered_put}
 use Rattle.workbook.proofs.Severally.{all_filled, first_others, held_again, kept_first, room_later, zip_first}
 use Rattle.workbook.proofs.several.+put_each.Goals as goal
 
@@ -32,11 +32,15 @@ put_each-requires t c =
           kept_first c.args.sheets.now c.args.names.now c.args.cells.now.entries c.put_in.new.cells.entries (get_or at 0 here) h (zip cells (map string_bytes others))
               c.in_ok-was.ensures.put c.in_ok-was.ensures.len room c.requires.kept c.in_ok-held.ensures.held,
           (
-            All-rest (IsListed c.args.sheets.now) (get_or at 0 here) cells at (first_others at here c.in-len1-up.len_at_least) c.requires.listed,
+            covered_put c.args.users.now c.add_names.new.self c.args.cells.now.entries c.add_names.ensures.grows c.requires.covered c.put_in.new.cells.entries (get_or at 0 here) h
+                c.in_ok-was.ensures.put c.in_ok-add_names.ensures.covered,
             (
-              All-rest (λ text. IsField (string_bytes text)) c.text-item.result others texts first c.requires.fields,
-              room_later c.args.sheets.now c.args.names.now c.args.cells.now.entries c.put_in.new.cells.entries (get_or at 0 here) h (zip cells (map string_bytes others))
-                  c.in_ok-was.ensures.put c.in_ok-was.ensures.len room,
+              All-rest (IsListed c.args.sheets.now) (get_or at 0 here) cells at (first_others at here c.in-len1-up.len_at_least) c.requires.listed,
+              (
+                All-rest (λ text. IsField (string_bytes text)) c.text-item.result others texts first c.requires.fields,
+                room_later c.args.sheets.now c.args.names.now c.args.cells.now.entries c.put_in.new.cells.entries (get_or at 0 here) h (zip cells (map string_bytes others))
+                    c.in_ok-was.ensures.put c.in_ok-was.ensures.len room,
+              ),
             ),
           ),
         ),

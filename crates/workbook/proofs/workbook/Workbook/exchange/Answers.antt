@@ -5,7 +5,9 @@ use Rattle.workbook.specs.Contents.{content_of}
 use Rattle.workbook.specs.Exchanging.{IsExchange}
 use Rattle.workbook.specs.Held.{contents_of, held_at}
 use Rattle.workbook.specs.State.{is_formula_text}
+use Rattle.workbook.specs.Users.{IsCovered}
 use Rattle.workbook.proofs.Counting.{one}
+use Rattle.workbook.proofs.Covered.{covered_put}
 use Rattle.workbook.proofs.Exchanges.{exchange_room, same_length}
 use Rattle.workbook.proofs.Keeping.{had_fits, has_text, kept_put, text_put, the_state}
 use Rattle.workbook.proofs.workbook.Workbook.exchange.Goals as goal
@@ -20,7 +22,7 @@ overflow_sub-self c =
     let es = c.self.inside.cells.entries in
     let is : c.one.result ≡ one (is_formula_text (content_of (contents_of es) c.args.cell)) =
     c.one.ensures ∙ ap one (c.has_formula-was_one.ensures ∙ ap (λ s. is_formula_text (content_of s.contents c.args.cell)) (sym c.self.view_is)) in
-    omega (arith, is, had_fits c.self.inside.sheets c.self.inside.names es c.args.cell c.self.inside.formulas c.self.invariant)
+    omega (arith, is, had_fits c.self.inside.sheets c.self.inside.names es c.args.cell c.self.inside.formulas c.self.invariant.kept)
 
 pub invariant_of-self : goal.invariant_of-self
 invariant_of-self c =
@@ -32,10 +34,16 @@ invariant_of-self c =
     let is : c.one.result ≡ one (is_formula_text (content_of (contents_of es) c.args.cell)) =
     c.one.ensures ∙ ap one (c.has_formula-was_one.ensures ∙ ap (λ s. is_formula_text (content_of s.contents c.args.cell)) (sym c.self.view_is)) in
     let none : one (is_formula_text c.args.held.text) ≡ 0 = ap one own.plain in
-    kept_put sheets names es c.put_over.new.cells.entries c.args.cell c.self.inside.formulas (c.self.inside.formulas - c.one.result) c.self.invariant
-    c.args.held own.held (exchange_room sheets names es c.self.inside.formulas c.self.invariant c.args.cell c.args.held.text own.has own.plain)
-    c.put_over.ensures.put (same_length es c.put_over.new.cells.entries c.args.cell there c.put_over.ensures.len)
-    (omega (arith, is, none, had_fits sheets names es c.args.cell c.self.inside.formulas c.self.invariant))
+    record {
+      kept =
+          kept_put sheets names es c.put_over.new.cells.entries c.args.cell c.self.inside.formulas (c.self.inside.formulas - c.one.result) c.self.invariant.kept
+          c.args.held own.held (exchange_room sheets names es c.self.inside.formulas c.self.invariant.kept c.args.cell c.args.held.text own.has own.plain)
+          c.put_over.ensures.put (same_length es c.put_over.new.cells.entries c.args.cell there c.put_over.ensures.len)
+          (omega (arith, is, none, had_fits sheets names es c.args.cell c.self.inside.formulas c.self.invariant.kept));
+      covered =
+          covered_put c.self.inside.users c.self.inside.users es (λ name q known. known) c.self.invariant.covered c.put_over.new.cells.entries c.args.cell c.args.held
+          c.put_over.ensures.put (subst (IsCovered c.self.inside.users c.args.cell) (sym own.nameless) tt);
+    }
 
 pub returns : goal.returns
 returns c =

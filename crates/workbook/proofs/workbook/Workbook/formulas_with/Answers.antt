@@ -1,4 +1,4 @@
-use Rattle.std.proofs.Common.{◌≡◌, ◌+◌, ◌-◌, ◌≤◌, ◌∙◌, ◌∷◌, ap, arith, drop, get_or, length, map, subst, sym, take, true, false}
+use Rattle.std.proofs.Common.{◌≡◌, ◌+◌, ◌-◌, ◌≤◌, ◌∙◌, ◌∷◌, ap, arith, drop, get_or, length, map, subst, sym, take}
 use Rattle.std.specs.Prelude.{◌&&◌, nat_le, not, string_bytes, zip}
 use Rattle.std.specs.FinMap.{contains_key}
 use Rattle.cell_refs.specs.declared.cell.Cell.{Cell}
@@ -16,10 +16,10 @@ here = record { sheet = record { 0 = 0 }; row = 0; col = 0 }
 pub loop-cells-init : goal.loop-cells-init
 loop-cells-init c =
     counted_none c.args.self.now.contents (zip c.args.cells.now (map string_bytes c.args.texts.now)) c.args.cells.now c.len-count.result c.self.inside.formulas
-    (c.len-count.ensures.len ∙ c.self.invariant.counted ∙ ap (λ s. text_count s.contents) c.self.view_is)
-    (subst (λ n. n ≤ TEXTS) (sym c.len-count.ensures.len) c.self.invariant.few)
-    (c.self.invariant.numbered ∙ ap (λ s. formula_count s.contents) c.self.view_is)
-    c.self.invariant.few_formulas c.requires
+    (c.len-count.ensures.len ∙ c.self.invariant.kept.counted ∙ ap (λ s. text_count s.contents) c.self.view_is)
+    (subst (λ n. n ≤ TEXTS) (sym c.len-count.ensures.len) c.self.invariant.kept.few)
+    (c.self.invariant.kept.numbered ∙ ap (λ s. formula_count s.contents) c.self.view_is)
+    c.self.invariant.kept.few_formulas c.requires
 
 pub returns-then-is_one_more : goal.returns-then-is_one_more
 returns-then-is_one_more c =

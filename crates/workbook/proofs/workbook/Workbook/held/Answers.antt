@@ -11,7 +11,7 @@ pub hold-requires-clause-listed : goal.hold-requires-clause-listed
 hold-requires-clause-listed c =
     subst (λ (sheets : List (List ℕ)). IsListed sheets c.args.cell) (sym c.scope.ensures.sheets)
     (subst (λ s. IsSome (get s.contents c.args.cell) → IsListed s.sheets c.args.cell) c.self.view_is
-    (has_listed c.self.inside.sheets c.self.inside.names c.self.inside.cells.entries c.self.inside.formulas c.self.invariant c.args.cell) c.requires.has)
+    (has_listed c.self.inside.sheets c.self.inside.names c.self.inside.cells.entries c.self.inside.formulas c.self.invariant.kept c.args.cell) c.requires.has)
 
 pub returns-clause-fits : goal.returns-clause-fits
 returns-clause-fits c =
@@ -19,3 +19,4 @@ returns-clause-fits c =
     exchanged c.args.self.now c.args.cell c.args.text h c.requires c.in_ok-held.ensures.text
     (subst (λ (names : List Name). IsHeld c.args.self.now.sheets names c.args.cell h) c.scope.ensures.names
     (subst (λ (sheets : List (List ℕ)). IsHeld sheets c.scope.result.names.now c.args.cell h) c.scope.ensures.sheets c.in_ok-held.ensures.held))
+    c.in_ok-held.ensures.plain

@@ -5,4 +5,4 @@ use Rattle.workbook.proofs.workbook.Workbook.texts_are_listed.Goals as goal
 
 pub returns : goal.returns
 returns c =
-    subst TextsAreListed c.self.view_is (all_listed c.self.inside.sheets c.self.inside.names c.self.inside.cells.entries c.self.inside.formulas c.self.invariant)
+    subst TextsAreListed c.self.view_is (all_listed c.self.inside.sheets c.self.inside.names c.self.inside.cells.entries c.self.inside.formulas c.self.invariant.kept)

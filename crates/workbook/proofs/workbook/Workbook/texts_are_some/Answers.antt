@@ -5,4 +5,4 @@ use Rattle.workbook.proofs.workbook.Workbook.texts_are_some.Goals as goal
 
 pub returns : goal.returns
 returns c =
-    subst TextsAreSome c.self.view_is (all_some c.self.inside.sheets c.self.inside.names c.self.inside.cells.entries c.self.inside.formulas c.self.invariant)
+    subst TextsAreSome c.self.view_is (all_some c.self.inside.sheets c.self.inside.names c.self.inside.cells.entries c.self.inside.formulas c.self.invariant.kept)

@@ -8,7 +8,7 @@ use Rattle.workbook.proofs.workbook.Workbook.would_have_too_many.Goals as goal
 
 pub returns-then-is_empty : goal.returns-then-is_empty
 returns-then-is_empty c =
-    empty_counts c.self.inside.sheets c.self.inside.names c.self.inside.cells.entries c.args.cell c.self.inside.formulas c.self.invariant c.args.text.now
+    empty_counts c.self.inside.sheets c.self.inside.names c.self.inside.cells.entries c.args.cell c.self.inside.formulas c.self.invariant.kept c.args.text.now
     (sym c.is_empty.ensures ∙ c.if-is_empty.true)
     ∙ ap (λ s. nat_lt FORMULAS (formula_count (with_text s.contents c.args.cell c.args.text.now))) c.self.view_is
 
@@ -18,6 +18,6 @@ returns c =
     ∙ ap (λ b. nat_le FORMULAS c.self.inside.formulas && b) c.is_one_now.ensures
     ∙ ap (λ b. nat_le FORMULAS c.self.inside.formulas && (is_formula_text c.args.text.now && not b))
     (c.has_formula-was_one.ensures ∙ ap (λ s. is_formula_text (content_of s.contents c.args.cell)) (sym c.self.view_is))
-    ∙ text_counts c.self.inside.sheets c.self.inside.names c.self.inside.cells.entries c.args.cell c.self.inside.formulas c.self.invariant c.args.text.now
+    ∙ text_counts c.self.inside.sheets c.self.inside.names c.self.inside.cells.entries c.args.cell c.self.inside.formulas c.self.invariant.kept c.args.text.now
     (sym c.is_empty.ensures ∙ c.if-is_empty.false)
     ∙ ap (λ s. nat_lt FORMULAS (formula_count (with_text s.contents c.args.cell c.args.text.now))) c.self.view_is
