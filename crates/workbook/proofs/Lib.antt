@@ -18,6 +18,7 @@ pub mod Room
 pub mod NameEdits
 pub mod UsedNames
 pub mod NewMeanings
+pub mod Changes
 pub mod Covered
 pub mod Resaid
 pub mod EditedKeys

@@ -2,7 +2,7 @@
 use Rattle.std.proofs.Common.{◌≡◌, ◌≢◌, ◌≤◌, ◌+◌, ℕ, suc, Bool, true, false, cond, List, [], ◌∷◌, ◌++◌, map, length, Option, Some, None, Err, refl, sym, ap, ◌∙◌, arith}
 use Rattle.std.specs.Prelude.{All, if◌then◌else◌, ◌&&◌, ◌||◌, nat_eq, nat_lt, not, option_map}
 use Rattle.std.specs.Char.{to_ascii_lowercase}
-use Rattle.std.specs.List.{AllByRecursion, AllZip, IsDistinct, find}
+use Rattle.std.specs.List.{AllByRecursion, IsDistinct, find}
 use Rattle.std.specs.Map.{keys_of}
 use Rattle.std.specs.Option.{option_eq}
 use Rattle.std.specs.Str.{bytes_eq}
@@ -193,28 +193,6 @@ module _ (key : Key) (name : List ℕ) (small : key.letters.items ≡ map to_asc
       by true ih = keyed.1
       by false ih = (keyed.0, ih)
 
--- ---- a copy
-abbrev pub IsCopied : Key × Name → Key × Name → Type 0
-IsCopied p q = ((q.0.sheet ≡ p.0.sheet) × (q.0.letters.items ≡ p.0.letters.items)) × (q.1 ≡ p.1)
-
-pub copied_names : (es fs : Entries) → AllZip IsCopied es fs → names_of fs ≡ names_of es
-copied_names [] [] h = refl
-copied_names [] (f ∷ fs) h = absurd h
-copied_names (e ∷ es) [] h = absurd h
-copied_names (e ∷ es) (f ∷ fs) h = λ i. h.0.1 i ∷ copied_names es fs h.1 i
-
-pub copied_keyed : (es fs : Entries) → AllZip IsCopied es fs → AllAreKeyed es → AllAreKeyed fs
-copied_keyed [] [] h keyed = tt
-copied_keyed [] (f ∷ fs) h keyed = absurd h
-copied_keyed (e ∷ es) [] h keyed = absurd h
-copied_keyed (e ∷ es) (f ∷ fs) h keyed = (
-  record {
-    sheet = h.0.0.0 ∙ keyed.0.sheet ∙ ap (λ n. n.sheet) (sym h.0.1);
-    letters = h.0.0.1 ∙ keyed.0.letters ∙ ap (λ n. map to_ascii_lowercase n.name) (sym h.0.1);
-  },
-  copied_keyed es fs h.1 keyed.1,
-)
-
 -- ---- the texts of other names
 module _ (name other : List ℕ) (apart : same_letters other name ≡ false) where
   one_or_other : (n : List ℕ) → same_letters n name ≡ true → same_letters n other ≡ false
@@ -231,69 +209,69 @@ module _ (name other : List ℕ) (apart : same_letters other name ≡ false) whe
       never true b f = f
       never false b f = refl
 
-  module _ (s t : Option ℕ) where
-    -- texts that are given to a name
-    retexted_other : (text : List ℕ) (ns : List Name) → text_of (map (with_new_text s name text) ns) t other ≡ text_of ns t other
-    retexted_other text [] = refl
-    retexted_other text (n ∷ ns) = by (is_called s name n) refl (retexted_other text ns)
-      where
-        rest : Option (List ℕ)
-        rest = text_of ns t other
+module _ (name other : List ℕ) (s t : Option ℕ) (never : (n : Name) → is_called s name n ≡ true → is_called t other n ≡ false) where
+  -- texts that are given to a name
+  pub retexted_other : (text : List ℕ) (ns : List Name) → text_of (map (with_new_text s name text) ns) t other ≡ text_of ns t other
+  retexted_other text [] = refl
+  retexted_other text (n ∷ ns) = by (is_called s name n) refl (retexted_other text ns)
+    where
+      rest : Option (List ℕ)
+      rest = text_of ns t other
 
-        picked : (a b : Name) (o p : Option Name) (x y : Bool) → x ≡ y → a.text ≡ b.text → option_map (λ (n : Name). n.text) o ≡ option_map (λ (n : Name). n.text) p
-            → option_map (λ (n : Name). n.text) (cond x (Some a) o) ≡ option_map (λ (n : Name). n.text) (cond y (Some b) p)
-        picked a b o p true true e f g = ap Some f
-        picked a b o p false false e f g = g
-        picked a b o p true false e f g = absurd cc
-        picked a b o p false true e f g = absurd cc
+      picked : (a b : Name) (o p : Option Name) (x y : Bool) → x ≡ y → a.text ≡ b.text → option_map (λ (n : Name). n.text) o ≡ option_map (λ (n : Name). n.text) p
+          → option_map (λ (n : Name). n.text) (cond x (Some a) o) ≡ option_map (λ (n : Name). n.text) (cond y (Some b) p)
+      picked a b o p true true e f g = ap Some f
+      picked a b o p false false e f g = g
+      picked a b o p true false e f g = absurd cc
+      picked a b o p false true e f g = absurd cc
 
-        by : (b : Bool) → is_called s name n ≡ b → text_of (map (with_new_text s name text) ns) t other ≡ text_of ns t other
-            → text_of ((if b then record n { text = text } else n) ∷ map (with_new_text s name text) ns) t other ≡ text_of (n ∷ ns) t other
-        by true e ih =
-            let no : is_called t other n ≡ false = uncalled s t n e in
-            ap (λ x. option_map (λ (n : Name). n.text) (cond x (Some (record n { text = text })) (find (is_called t other) (map (with_new_text s name text) ns)))) no
-            ∙ ih ∙ sym (ap (λ x. option_map (λ (n : Name). n.text) (cond x (Some n) (find (is_called t other) ns))) no)
-        by false e ih = picked n n (find (is_called t other) (map (with_new_text s name text) ns)) (find (is_called t other) ns) (is_called t other n) (is_called t other n) refl refl ih
+      by : (b : Bool) → is_called s name n ≡ b → text_of (map (with_new_text s name text) ns) t other ≡ text_of ns t other
+          → text_of ((if b then record n { text = text } else n) ∷ map (with_new_text s name text) ns) t other ≡ text_of (n ∷ ns) t other
+      by true e ih =
+          let no : is_called t other n ≡ false = never n e in
+          ap (λ x. option_map (λ (n : Name). n.text) (cond x (Some (record n { text = text })) (find (is_called t other) (map (with_new_text s name text) ns)))) no
+          ∙ ih ∙ sym (ap (λ x. option_map (λ (n : Name). n.text) (cond x (Some n) (find (is_called t other) ns))) no)
+      by false e ih = picked n n (find (is_called t other) (map (with_new_text s name text) ns)) (find (is_called t other) ns) (is_called t other n) (is_called t other n) refl refl ih
 
-    pushed_other : (n : Name) (ns : List Name) → is_called s name n ≡ true → text_of (ns ++ n ∷ []) t other ≡ text_of ns t other
-    pushed_other n [] e = ap (λ x. option_map (λ (n : Name). n.text) (cond x (Some n) None)) (uncalled s t n e)
-    pushed_other n (m ∷ ns) e = by (is_called t other m) (pushed_other n ns e)
-      where
-        by : (b : Bool) → text_of (ns ++ n ∷ []) t other ≡ text_of ns t other → option_map (λ (n : Name). n.text) (cond b (Some m) (find (is_called t other) (ns ++ n ∷ []))) ≡ option_map (λ (n : Name). n.text) (cond b (Some m) (find (is_called t other) ns))
-        by true ih = refl
-        by false ih = ih
+  pub pushed_other : (n : Name) (ns : List Name) → is_called s name n ≡ true → text_of (ns ++ n ∷ []) t other ≡ text_of ns t other
+  pushed_other n [] e = ap (λ x. option_map (λ (n : Name). n.text) (cond x (Some n) None)) (never n e)
+  pushed_other n (m ∷ ns) e = by (is_called t other m) (pushed_other n ns e)
+    where
+      by : (b : Bool) → text_of (ns ++ n ∷ []) t other ≡ text_of ns t other → option_map (λ (n : Name). n.text) (cond b (Some m) (find (is_called t other) (ns ++ n ∷ []))) ≡ option_map (λ (n : Name). n.text) (cond b (Some m) (find (is_called t other) ns))
+      by true ih = refl
+      by false ih = ih
 
-    removed_other : (ns : List Name) → text_of (without s name ns) t other ≡ text_of ns t other
-    removed_other [] = refl
-    removed_other (n ∷ ns) = by (is_called s name n) refl (removed_other ns)
-      where
-        still : (b : Bool) → text_of (without s name ns) t other ≡ text_of ns t other
-            → option_map (λ (n : Name). n.text) (cond b (Some n) (find (is_called t other) (without s name ns))) ≡ option_map (λ (n : Name). n.text) (cond b (Some n) (find (is_called t other) ns))
-        still true ih = refl
-        still false ih = ih
+  pub removed_other : (ns : List Name) → text_of (without s name ns) t other ≡ text_of ns t other
+  removed_other [] = refl
+  removed_other (n ∷ ns) = by (is_called s name n) refl (removed_other ns)
+    where
+      still : (b : Bool) → text_of (without s name ns) t other ≡ text_of ns t other
+          → option_map (λ (n : Name). n.text) (cond b (Some n) (find (is_called t other) (without s name ns))) ≡ option_map (λ (n : Name). n.text) (cond b (Some n) (find (is_called t other) ns))
+      still true ih = refl
+      still false ih = ih
 
-        by : (b : Bool) → is_called s name n ≡ b → text_of (without s name ns) t other ≡ text_of ns t other
-            → text_of (if not b then n ∷ without s name ns else without s name ns) t other ≡ text_of (n ∷ ns) t other
-        by true e ih = ih ∙ sym (ap (λ x. option_map (λ (n : Name). n.text) (cond x (Some n) (find (is_called t other) ns))) (uncalled s t n e))
-        by false e ih = still (is_called t other n) ih
+      by : (b : Bool) → is_called s name n ≡ b → text_of (without s name ns) t other ≡ text_of ns t other
+          → text_of (if not b then n ∷ without s name ns else without s name ns) t other ≡ text_of (n ∷ ns) t other
+      by true e ih = ih ∙ sym (ap (λ x. option_map (λ (n : Name). n.text) (cond x (Some n) (find (is_called t other) ns))) (never n e))
+      by false e ih = still (is_called t other n) ih
 
 -- a name is called what it is
 own_sheet : (s : Option ℕ) → is_same_sheet s s ≡ true
 own_sheet None = refl
 own_sheet (Some a) = grind (arith, nat_tests)
 
-own_name : (n : Name) → is_called n.sheet n.name n ≡ true
+pub own_name : (n : Name) → is_called n.sheet n.name n ≡ true
 own_name n = ap (λ b. b && same_letters n.name n.name) (own_sheet n.sheet) ∙ same n.name n.name refl
 
 pub others_stay_named : (n : Name) (ns : List Name) → OthersStay n.name ns (with_named ns n)
 others_stay_named n ns t other apart = by (is_there ns n.sheet n.name)
   where
     by : (b : Bool) → text_of (if b then map (with_new_text n.sheet n.name n.text) ns else ns ++ n ∷ []) t other ≡ text_of ns t other
-    by true = retexted_other n.name other apart n.sheet t n.text ns
-    by false = pushed_other n.name other apart n.sheet t n ns (own_name n)
+    by true = retexted_other n.name other n.sheet t (uncalled n.name other apart n.sheet t) n.text ns
+    by false = pushed_other n.name other n.sheet t (uncalled n.name other apart n.sheet t) n ns (own_name n)
 
 pub others_stay_without : (s : Option ℕ) (name : List ℕ) (ns : List Name) → OthersStay name ns (without s name ns)
-others_stay_without s name ns t other apart = removed_other name other apart s t ns
+others_stay_without s name ns t other apart = removed_other name other s t (uncalled name other apart s t) ns
 
 -- ---- texts stay short
 short_retexted : (s : Option ℕ) (name text : List ℕ) (ns : List Name) → length text ≤ 8192 → All IsShort ns → All IsShort (map (with_new_text s name text) ns)
@@ -333,9 +311,6 @@ text_short s sheet name text e =
     within true true b full h f = absurd cc
     within true false true full h f = absurd cc
     within true false false full h f = at_most (length text) h
-
-pub others_after : (s : State) (sheet : Option ℕ) (name text : List ℕ) → OthersStay name s.names (names_after s sheet name text)
-others_after s sheet name text = others_stay_named (new_name s.sheets sheet name text) s.names
 
 pub short_after : (s : State) (sheet : Option ℕ) (name text : List ℕ) → length text ≤ 8192 → All IsShort s.names → All IsShort (names_after s sheet name text)
 short_after s sheet name text h all = short_named (new_name s.sheets sheet name text) s.names h all

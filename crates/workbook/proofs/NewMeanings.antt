@@ -20,7 +20,7 @@ use Rattle.workbook.proofs.UsedNames.{agree, apart}
 
 -- ---- names in any case of letters
 -- two names that are one are the same as each other name
-same_as : (a b c : List ℕ) → same_letters a b ≡ true → same_letters c a ≡ same_letters c b
+pub same_as : (a b c : List ℕ) → same_letters a b ≡ true → same_letters c a ≡ same_letters c b
 same_as a b c h = by (same_letters c a) (same_letters c b) refl refl
   where
     small : IsSameName a b
@@ -38,7 +38,7 @@ called_as sheet a b (n ∷ ns) h =
     ap (λ x. cond (is_same_sheet n.sheet sheet && x) (Some n) (find (is_called sheet a) ns)) (same_as a b n.name h)
     ∙ ap (cond (is_called sheet b n) (Some n)) (called_as sheet a b ns h)
 
-text_as : (sheet : Option ℕ) (a b : List ℕ) (ns : List Name) → same_letters a b ≡ true → text_of ns sheet a ≡ text_of ns sheet b
+pub text_as : (sheet : Option ℕ) (a b : List ℕ) (ns : List Name) → same_letters a b ≡ true → text_of ns sheet a ≡ text_of ns sheet b
 text_as sheet a b ns h = ap (option_map (λ (n : Name). n.text)) (called_as sheet a b ns h)
 
 -- they stand for the same

@@ -24,3 +24,5 @@ pub mod Uses
 pub mod Users
 pub mod Renamed
 pub mod EditedNames
+pub mod Changed
+pub mod Known

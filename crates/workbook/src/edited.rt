@@ -1,36 +1,38 @@
-// The names after an edit of one of them.
+// Edits of a workbook's names.
 ghost use Rattle.std.specs.Prelude.{◌≡◌, ◌<◌, All, IfOk, IfSome, length, option_map};
+ghost use Rattle.workbook.specs.Changed.{after_change};
 ghost use Rattle.workbook.specs.EditedNames.{without};
 ghost use Rattle.workbook.specs.Naming.{names_after, spelling_of};
 ghost use Rattle.workbook.specs.Scoped.{IsShort};
 
 use crate::Workbook;
-use crate::names::{Name, Names};
+use crate::change::{Change, Given};
 use cell_refs::SheetId;
 use memory::Memory;
 
 impl Workbook {
-    /// The names with a text for one.
-    pub(crate) fn with_name(
+    /// The edit by which a name gets a text.
+    pub(crate) fn naming(
         &self,
         sheet: Option<SheetId>,
         name: &str,
         text: &str,
-    ) -> Result<Names, Memory>
+    ) -> Result<Change, Memory>
         requires listed { IfSome sheet (λ s. s.0 < length self.now.sheets) }
-        ensures names { IfOk result (λ names. names ≡ names_after self.now (option_map (λ s. s.0) sheet) name.now text.now) }
+        ensures names { IfOk result (λ change. after_change self.now.names change ≡ names_after self.now (option_map (λ s. s.0) sheet) name.now text.now) }
         ensures short { IfOk result (λ _. All IsShort self.now.names) }
     {
         let alloc = self.alloc();
-        let name = Name {
-            sheet,
+        let _names = self.names();
+        let given = Given {
             sheet_text: String::from_str(alloc, self.spelling(sheet))?,
-            name: String::from_str(alloc, name)?,
             text: String::from_str(alloc, text)?,
         };
-        let mut names = self.names().copy()?;
-        names.put(alloc, name)?;
-        Ok(names)
+        Ok(Change {
+            sheet,
+            name: String::from_str(alloc, name)?,
+            given: Some(given),
+        })
     }
 
     // A sheet's own spelling; nothing for the whole workbook.
@@ -44,13 +46,16 @@ impl Workbook {
         }
     }
 
-    /// The names without one.
-    pub(crate) fn without_name(&self, sheet: Option<SheetId>, name: &str) -> Result<Names, Memory>
-        ensures names { IfOk result (λ names. names ≡ without (option_map (λ s. s.0) sheet) name.now self.now.names) }
+    /// The edit by which a name is taken away.
+    pub(crate) fn unnaming(&self, sheet: Option<SheetId>, name: &str) -> Result<Change, Memory>
+        ensures names { IfOk result (λ change. after_change self.now.names change ≡ without (option_map (λ s. s.0) sheet) name.now self.now.names) }
         ensures short { IfOk result (λ _. All IsShort self.now.names) }
     {
-        let mut names = self.names().copy()?;
-        names.remove(self.alloc(), sheet, name)?;
-        Ok(names)
+        let _names = self.names();
+        Ok(Change {
+            sheet,
+            name: String::from_str(self.alloc(), name)?,
+            given: None,
+        })
     }
 }

@@ -3,6 +3,7 @@
 
 mod adj;
 mod asked;
+mod change;
 mod edited;
 mod fault;
 mod file;

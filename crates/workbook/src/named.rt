@@ -4,8 +4,11 @@ ghost use Rattle.cell_refs.specs.declared.limits.TheConstants.{TEXT_BYTES};
 ghost use Rattle.cell_refs.specs.Areas.{IsOnSheet};
 ghost use Rattle.formula_ast.specs.Sound.{IsForward};
 ghost use Rattle.workbook.specs.Kinds.{Amount, Cells, meant, meant_by, put_at};
+ghost use Rattle.workbook.specs.Known.{names_in};
+ghost use Rattle.workbook.specs.State.{text_of};
 ghost use Rattle.workbook.specs.Scoped.{IsMeantOnSheet, IsShort, meant_of, text_for};
 
+use crate::change::Change;
 use crate::names::{Key, Names};
 use crate::words::{behind_equals, number};
 use cell_refs::{Area, SheetId, SheetNames, Span};
@@ -22,12 +25,13 @@ pub(crate) enum Meant {
     Cells(Area),
 }
 
-/// The sheet of a formula, and what is known of the workbook.
+/// The sheet of a formula, and what is known of the workbook: its sheets, and its names, or those after an edit of one of them.
 #[derive(Clone, Copy)]
 pub(crate) struct Scope<'a> {
     pub(crate) home: SheetId,
     pub(crate) sheets: &'a SheetNames,
     pub(crate) names: &'a Names,
+    pub(crate) change: Option<&'a Change>,
 }
 
 // What a text stands for on a sheet.
@@ -54,21 +58,50 @@ fn spelled(
 
 // The text of a name, for the formula's sheet or else for the whole workbook.
 fn text_for<'a>(alloc: Global, scope: &Scope<'a>, name: &str) -> Result<Option<&'a str>, Memory>
-    ensures { IfOk result (λ t. option_map (λ t. t.now) t ≡ text_for scope.now.names.now scope.now.home.0 name.now) }
+    ensures { IfOk result (λ t. option_map (λ t. t.now) t ≡ text_for (names_in scope.now) scope.now.home.0 name.now) }
 {
-    let own = Key::new(alloc, Some(scope.home), name)?;
-    if let Some(text) = scope.names.text(&own) {
+    if let Some(text) = text_of(alloc, scope, Some(scope.home), name)? {
         return Ok(Some(text));
     }
-    let whole = Key::new(alloc, None, name)?;
-    Ok(scope.names.text(&whole))
+    text_of(alloc, scope, None, name)
+}
+
+// The text of a name of a sheet, or of the whole workbook.
+fn text_of<'a>(
+    alloc: Global,
+    scope: &Scope<'a>,
+    sheet: Option<SheetId>,
+    name: &str,
+) -> Result<Option<&'a str>, Memory>
+    ensures { IfOk result (λ t. option_map (λ t. t.now) t ≡ text_of (names_in scope.now) (option_map (λ s. s.0) sheet) name.now) }
+{
+    let Some(change) = scope.change else {
+        return text_in(alloc, scope.names, sheet, name);
+    };
+    if change.is_of(sheet, name) {
+        return Ok(change.text());
+    }
+    text_in(alloc, scope.names, sheet, name)
+}
+
+// The same among some names.
+fn text_in<'a>(
+    alloc: Global,
+    names: &'a Names,
+    sheet: Option<SheetId>,
+    name: &str,
+) -> Result<Option<&'a str>, Memory>
+    ensures { IfOk result (λ t. option_map (λ t. t.now) t ≡ text_of names.now (option_map (λ s. s.0) sheet) name.now) }
+{
+    let key = Key::new(alloc, sheet, name)?;
+    Ok(names.text(&key))
 }
 
 /// What a name stands for in a formula.
 pub(crate) fn stands_for(alloc: Global, scope: &Scope, name: &str) -> Result<Option<Meant>, Memory>
     requires listed { scope.now.home.0 < length scope.now.sheets.now }
-    requires short { All IsShort scope.now.names.now }
-    ensures meant { IfOk result (λ m. option_map meant_of m ≡ meant scope.now.sheets.now scope.now.names.now scope.now.home.0 name.now) }
+    requires short { All IsShort (names_in scope.now) }
+    ensures meant { IfOk result (λ m. option_map meant_of m ≡ meant scope.now.sheets.now (names_in scope.now) scope.now.home.0 name.now) }
     ensures on_sheet { IfOk result (λ m. IfSome m IsMeantOnSheet) }
 {
     match text_for(alloc, scope, name)? {
@@ -85,10 +118,10 @@ pub(crate) fn in_place(
     name: &str,
 ) -> Result<Option<Expr>, Memory>
     requires listed { scope.now.home.0 < length scope.now.sheets.now }
-    requires short { All IsShort scope.now.names.now }
+    requires short { All IsShort (names_in scope.now) }
     requires forward { IsForward span }
     ensures { IfOk result (λ found. found ≡ option_map (put_at span)
-        (meant scope.now.sheets.now scope.now.names.now scope.now.home.0 name.now)) }
+        (meant scope.now.sheets.now (names_in scope.now) scope.now.home.0 name.now)) }
 {
     let found = stands_for(alloc, scope, name)?;
     let Some(meant) = found else {

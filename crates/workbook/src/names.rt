@@ -4,16 +4,18 @@ ghost use Rattle.std.specs.List.{IsDistinct, list_any};
 ghost use Rattle.std.specs.Char.{to_ascii_lowercase};
 ghost use Rattle.std.specs.Map.{keys_of, lookup};
 ghost use Rattle.indexmap.specs.IndexMap.{shift_remove_entry};
+ghost use Rattle.workbook.specs.Changed.{after_change};
 ghost use Rattle.workbook.specs.EditedNames.{retexted, with_named, without};
 ghost use Rattle.workbook.specs.Keyed.{is_key};
 ghost use Rattle.workbook.specs.Saving.{saved_names};
 ghost use Rattle.workbook.specs.State.{is_called, is_same_sheet, text_of};
 
+use crate::change::Change;
 use cell_refs::SheetId;
 use indexmap::IndexMap;
 use memory::Memory;
 use sheet_csv::Rows;
-use std::alloc::{AllocError, Global};
+use std::alloc::Global;
 use std::marker::Model;
 use std::mem::drop;
 
@@ -64,27 +66,14 @@ impl Name {
     }
 }
 
-// Whether two sheets are the same.
-fn is_same_sheet(named: Option<SheetId>, sheet: Option<SheetId>) -> bool
+/// Whether two sheets are the same.
+pub(crate) fn is_same_sheet(named: Option<SheetId>, sheet: Option<SheetId>) -> bool
     ensures { result ≡ is_same_sheet (option_map (λ s. s.0) named) (option_map (λ s. s.0) sheet) }
 {
     match (named, sheet) {
         (None, None) => true,
         (Some(named), Some(sheet)) => named.0 == sheet.0,
         _ => false,
-    }
-}
-
-impl Clone for Name {
-    ghost is_clone = { λ n m. m ≡ n };
-
-    fn clone(&self) -> Result<Name, AllocError> {
-        Ok(Name {
-            sheet: self.sheet,
-            sheet_text: self.sheet_text.clone()?,
-            name: self.name.clone()?,
-            text: self.text.clone()?,
-        })
     }
 }
 
@@ -106,17 +95,6 @@ impl Key {
             None => None,
         };
         Ok(Key { sheet, letters })
-    }
-}
-
-impl Clone for Key {
-    ghost is_clone = { λ k l. (l.sheet ≡ k.sheet) × (l.letters.items ≡ k.letters.items) };
-
-    fn clone(&self) -> Result<Key, AllocError> {
-        Ok(Key {
-            sheet: self.sheet,
-            letters: self.letters.clone()?,
-        })
     }
 }
 
@@ -211,17 +189,30 @@ impl Names {
 }
 
 impl Names {
-    /// The same names.
-    pub(crate) fn copy(&self) -> Result<Names, Memory>
-        ensures { IfOk result (λ copy. copy ≡ self.now) }
+    /// Makes an edit of one of them.
+    pub(crate) fn change(&mut self, alloc: Global, change: Change) -> Result<(), Memory>
+        ensures ok { OnOk result (self.new ≡ after_change self.old change) }
+        ensures err { OnErr result (self.new ≡ self.old) }
     {
-        let names = self.names.clone()?;
-        Ok(Names { names })
+        let Change { sheet, name, given } = change;
+        let Some(given) = given else {
+            return self.remove(alloc, sheet, name.as_str());
+        };
+        self.put(
+            alloc,
+            Name {
+                sheet,
+                sheet_text: given.sheet_text,
+                name,
+                text: given.text,
+            },
+        )
     }
 
-    /// Gives a name a text: in its place, where it is there, and else last.
-    pub(crate) fn put(&mut self, alloc: Global, name: Name) -> Result<(), Memory>
-        ensures { OnOk result (self.new ≡ with_named self.old name) }
+    // Gives a name a text: in its place, where it is there, and else last.
+    fn put(&mut self, alloc: Global, name: Name) -> Result<(), Memory>
+        ensures ok { OnOk result (self.new ≡ with_named self.old name) }
+        ensures err { OnErr result (self.new ≡ self.old) }
     {
         let key = Key::new(alloc, name.sheet, name.name.as_str())?;
         if self.text(&key).is_some() {
@@ -232,14 +223,10 @@ impl Names {
         Ok(())
     }
 
-    /// Takes a name away, where it is there.
-    pub(crate) fn remove(
-        &mut self,
-        alloc: Global,
-        sheet: Option<SheetId>,
-        name: &str,
-    ) -> Result<(), Memory>
-        ensures { OnOk result (self.new ≡ without (option_map (λ s. s.0) sheet) name.now self.old) }
+    // Takes a name away, where it is there.
+    fn remove(&mut self, alloc: Global, sheet: Option<SheetId>, name: &str) -> Result<(), Memory>
+        ensures ok { OnOk result (self.new ≡ without (option_map (λ s. s.0) sheet) name.now self.old) }
+        ensures err { OnErr result (self.new ≡ self.old) }
     {
         let key = Key::new(alloc, sheet, name)?;
         remove_key(&mut self.names, &key);

@@ -5,6 +5,7 @@ ghost use Rattle.formula_ast.specs.Sound.{AreSoundWithin, IsForward, IsSound, Is
 ghost use Rattle.formula_ast.specs.Tree.{span_of, trees};
 ghost use Rattle.formula_ast.specs.Tree as tree;
 ghost use Rattle.workbook.specs.Kinds.{all_with_names, meant, with_names};
+ghost use Rattle.workbook.specs.Known.{names_in};
 ghost use Rattle.workbook.specs.Scoped.{IsShort};
 
 use crate::named::{Scope, in_place};
@@ -18,9 +19,9 @@ use std::alloc::Global;
 #[cycle(naming)]
 pub(crate) fn named(alloc: Global, scope: &Scope, expr: &Expr) -> Result<Option<Expr>, Memory>
     requires listed { scope.now.home.0 < length scope.now.sheets.now }
-    requires short { All IsShort scope.now.names.now }
+    requires short { All IsShort (names_in scope.now) }
     ensures { IfOk result (λ found. found
-        ≡ with_names (meant scope.now.sheets.now scope.now.names.now scope.now.home.0) expr.now) }
+        ≡ with_names (meant scope.now.sheets.now (names_in scope.now) scope.now.home.0) expr.now) }
 {
     expr.soundness();
     let span = expr.span;
@@ -45,9 +46,9 @@ pub(crate) fn named(alloc: Global, scope: &Scope, expr: &Expr) -> Result<Option<
 #[cycle(naming)]
 fn boxed(alloc: Global, scope: &Scope, expr: &Expr) -> Result<Option<Box<Expr>>, Memory>
     requires listed { scope.now.home.0 < length scope.now.sheets.now }
-    requires short { All IsShort scope.now.names.now }
+    requires short { All IsShort (names_in scope.now) }
     ensures found { IfOk result (λ found. option_map (λ b. b.value) found
-        ≡ with_names (meant scope.now.sheets.now scope.now.names.now scope.now.home.0) expr.now) }
+        ≡ with_names (meant scope.now.sheets.now (names_in scope.now) scope.now.home.0) expr.now) }
     ensures span { IfOk result (λ found. IfSome found (λ b. span_of b.value ≡ span_of expr.now)) }
     ensures sound { IfOk result (λ found. IfSome found (λ b. IsSound b.value)) }
 {
@@ -67,10 +68,10 @@ fn all_named(
     exprs: &[Expr],
 ) -> Result<Option<Vec<Expr>>, Memory>
     requires listed { scope.now.home.0 < length scope.now.sheets.now }
-    requires short { All IsShort scope.now.names.now }
+    requires short { All IsShort (names_in scope.now) }
     requires within { AreSoundWithin span (trees exprs.now) }
     ensures found { IfOk result (λ found. option_map (λ v. trees v.items) found
-        ≡ all_with_names (meant scope.now.sheets.now scope.now.names.now scope.now.home.0) (trees exprs.now)) }
+        ≡ all_with_names (meant scope.now.sheets.now (names_in scope.now) scope.now.home.0) (trees exprs.now)) }
     ensures sound { IfOk result (λ found. IfSome found (λ v. AreSoundWithin span (trees v.items))) }
     ensures count { IfOk result (λ found. IfSome found (λ v. count (trees v.items) ≡ count (trees exprs.now))) }
 {

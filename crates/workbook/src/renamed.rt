@@ -3,10 +3,12 @@ ghost use Rattle.std.specs.Prelude.{◌≡◌, ◌≢◌, ◌<◌, ◌&&◌, All
 ghost use Rattle.std.specs.Map.{keys_of};
 ghost use Rattle.workbook.specs.Held.{AllAreHeld, IsHeld, held_at};
 ghost use Rattle.workbook.specs.Kinds.{Amount, Cells, meant};
+ghost use Rattle.workbook.specs.Known.{names_with};
 ghost use Rattle.workbook.specs.Renamed.{AreResaid, OthersStay, Resaid, ResaidAt, is_malformed, of_cell};
 ghost use Rattle.workbook.specs.Scoped.{IsMeantOnSheet, IsShort, meant_of};
 ghost use Rattle.workbook.specs.Users.{AllAreCovered};
 
+use crate::change::Change;
 use crate::held::{Held, Said};
 use crate::named::{Meant, Scope, stands_for};
 use crate::names::Names;
@@ -21,12 +23,12 @@ use std::alloc::Global;
 use std::cmp::Ordering;
 use std::collections::BTreeMap;
 
-/// The names before and after an edit of one of them, and that name.
+/// The names before an edit of one of them, the edit, and that name.
 #[derive(Clone, Copy)]
 pub(crate) struct Edit<'a> {
     pub(crate) sheets: &'a SheetNames,
     pub(crate) before: &'a Names,
-    pub(crate) after: &'a Names,
+    pub(crate) change: &'a Change,
     pub(crate) name: &'a str,
 }
 
@@ -40,10 +42,10 @@ pub(crate) fn renamed(
 ) -> Result<Vec<(Cell, Said)>, Memory>
     requires held { AllAreHeld edit.now.sheets.now edit.now.before.now cells.now.entries }
     requires covered { AllAreCovered users.now cells.now.entries }
-    requires others { OthersStay edit.now.name.now edit.now.before.now edit.now.after.now }
+    requires others { OthersStay edit.now.name.now edit.now.before.now (names_with edit.now) }
     requires short { All IsShort edit.now.before.now }
-    requires short_after { All IsShort edit.now.after.now }
-    ensures { IfOk result (λ said. AreResaid edit.now.sheets.now edit.now.before.now edit.now.after.now cells.now.entries said.items) }
+    requires short_after { All IsShort (names_with edit.now) }
+    ensures { IfOk result (λ said. AreResaid edit.now.sheets.now edit.now.before.now (names_with edit.now) cells.now.entries said.items) }
 {
     let mut said = Vec::new(alloc);
     let Some(known) = users.of(alloc, edit.name)? else {
@@ -86,10 +88,10 @@ fn resaid_at(
     cell: Cell,
 ) -> Result<Option<Said>, Memory>
     requires held { AllAreHeld edit.now.sheets.now edit.now.before.now cells.now.entries }
-    requires others { OthersStay edit.now.name.now edit.now.before.now edit.now.after.now }
+    requires others { OthersStay edit.now.name.now edit.now.before.now (names_with edit.now) }
     requires short { All IsShort edit.now.before.now }
-    requires short_after { All IsShort edit.now.after.now }
-    ensures { IfOk result (λ said. ResaidAt edit.now.sheets.now edit.now.before.now edit.now.after.now cell (held_at cells.now.entries cell) said) }
+    requires short_after { All IsShort (names_with edit.now) }
+    ensures { IfOk result (λ said. ResaidAt edit.now.sheets.now edit.now.before.now (names_with edit.now) cell (held_at cells.now.entries cell) said) }
 {
     match cells.get(&cell) {
         Some(held) => resaid(alloc, edit, cell, held),
@@ -100,10 +102,10 @@ fn resaid_at(
 // The same of a text.
 fn resaid(alloc: Global, edit: &Edit, cell: Cell, held: &Held) -> Result<Option<Said>, Memory>
     requires held { IsHeld edit.now.sheets.now edit.now.before.now cell held.now }
-    requires others { OthersStay edit.now.name.now edit.now.before.now edit.now.after.now }
+    requires others { OthersStay edit.now.name.now edit.now.before.now (names_with edit.now) }
     requires short { All IsShort edit.now.before.now }
-    requires short_after { All IsShort edit.now.after.now }
-    ensures { IfOk result (λ said. Resaid edit.now.sheets.now edit.now.before.now edit.now.after.now cell held.now said) }
+    requires short_after { All IsShort (names_with edit.now) }
+    ensures { IfOk result (λ said. Resaid edit.now.sheets.now edit.now.before.now (names_with edit.now) cell held.now said) }
 {
     let Some(spelled) = &held.spelled else {
         return Ok(None);
@@ -117,7 +119,8 @@ fn resaid(alloc: Global, edit: &Edit, cell: Cell, held: &Held) -> Result<Option<
     let scope = Scope {
         home: cell.sheet,
         sheets: edit.sheets,
-        names: edit.after,
+        names: edit.before,
+        change: Some(edit.change),
     };
     let said = said_of(named(alloc, &scope, spelled)?);
     Ok(other_said(said, &held.said))
@@ -141,22 +144,24 @@ fn other_said(said: Said, was: &Said) -> Option<Said>
 fn is_meant_alike(alloc: Global, edit: &Edit, home: SheetId) -> Result<bool, Memory>
     requires listed { home.0 < length edit.now.sheets.now }
     requires short { All IsShort edit.now.before.now }
-    requires short_after { All IsShort edit.now.after.now }
+    requires short_after { All IsShort (names_with edit.now) }
     ensures { IfOk result (λ alike. MatchBool alike
-        (meant edit.now.sheets.now edit.now.before.now home.0 edit.now.name.now ≡ meant edit.now.sheets.now edit.now.after.now home.0 edit.now.name.now)
-        (meant edit.now.sheets.now edit.now.before.now home.0 edit.now.name.now ≢ meant edit.now.sheets.now edit.now.after.now home.0 edit.now.name.now)) }
+        (meant edit.now.sheets.now edit.now.before.now home.0 edit.now.name.now ≡ meant edit.now.sheets.now (names_with edit.now) home.0 edit.now.name.now)
+        (meant edit.now.sheets.now edit.now.before.now home.0 edit.now.name.now ≢ meant edit.now.sheets.now (names_with edit.now) home.0 edit.now.name.now)) }
 {
     let sheets = edit.sheets;
     let scope = Scope {
         home,
         sheets,
         names: edit.before,
+        change: None,
     };
     let before = stands_for(alloc, &scope, edit.name)?;
     let scope = Scope {
         home,
         sheets,
-        names: edit.after,
+        names: edit.before,
+        change: Some(edit.change),
     };
     let after = stands_for(alloc, &scope, edit.name)?;
     Ok(are_alike(before, after))

@@ -27,10 +27,10 @@ impl Workbook {
         if let Some(fault) = self.name_fault(sheet, name, text) {
             return Err(fault);
         }
-        let Ok(names) = self.with_name(sheet, name, text) else {
+        let Ok(change) = self.naming(sheet, name, text) else {
             return Err(EditFault::Memory);
         };
-        let Ok(cells) = self.rename(names, name) else {
+        let Ok(cells) = self.rename(change) else {
             return Err(EditFault::Memory);
         };
         Ok(cells)
@@ -42,8 +42,8 @@ impl Workbook {
         requires listed { IfSome sheet (λ s. s.0 < length self.old.sheets) }
         ensures { Unnames self.old (option_map (λ s. s.0) sheet) name.now result self.new }
     {
-        let names = self.without_name(sheet, name)?;
-        self.rename(names, name)
+        let change = self.unnaming(sheet, name)?;
+        self.rename(change)
     }
 
     /// The records of the names, in their order and as they are spelled.

@@ -8,6 +8,7 @@ ghost use Rattle.workbook.specs.Listed.{IsListed};
 ghost use Rattle.workbook.specs.State.{is_formula_text};
 ghost use Rattle.workbook.specs.Kinds.{formula_tree, number_or_other};
 ghost use Rattle.frac128.specs.NumeralReading.{reading};
+ghost use Rattle.workbook.specs.Known.{names_in};
 ghost use Rattle.workbook.specs.Scoped.{IsShort};
 
 use crate::held::{Held, Said};
@@ -27,11 +28,11 @@ use std::alloc::Global;
 pub(crate) fn hold(alloc: Global, scope: &Scope, cell: Cell, text: Text) -> Result<Held, Memory>
     requires home { scope.now.home ≡ cell.sheet }
     requires listed { IsListed scope.now.sheets.now cell }
-    requires short { All IsShort scope.now.names.now }
+    requires short { All IsShort (names_in scope.now) }
     requires some { text ≢ [] }
     requires length { length text ≤ TEXT_BYTES }
     ensures text { IfOk result (λ held. held.text ≡ text) }
-    ensures held { IfOk result (λ held. IsHeld scope.now.sheets.now scope.now.names.now cell held) }
+    ensures held { IfOk result (λ held. IsHeld scope.now.sheets.now (names_in scope.now) cell held) }
     ensures plain { is_formula_text text ≡ false → IfOk result (λ held. spelled_tree held ≡ None) }
 {
     let (spelled, said) = say(alloc, scope, cell, text.as_str())?;
@@ -51,9 +52,9 @@ fn say(
 ) -> Result<(Option<Box<Expr>>, Said), Memory>
     requires home { scope.now.home ≡ cell.sheet }
     requires listed { scope.now.home.0 < length scope.now.sheets.now }
-    requires short { All IsShort scope.now.names.now }
+    requires short { All IsShort (names_in scope.now) }
     requires length { length text.now ≤ TEXT_BYTES }
-    ensures says { IfOk result (SaysSpelled scope.now.sheets.now scope.now.names.now cell text.now) }
+    ensures says { IfOk result (SaysSpelled scope.now.sheets.now (names_in scope.now) cell text.now) }
     ensures plain { is_formula_text text.now ≡ false → IfOk result (λ said. said.0 ≡ None) }
 {
     if is_formula(text) {
@@ -71,10 +72,10 @@ fn formula(
 ) -> Result<(Option<Box<Expr>>, Said), Memory>
     requires home { scope.now.home ≡ cell.sheet }
     requires listed { scope.now.home.0 < length scope.now.sheets.now }
-    requires short { All IsShort scope.now.names.now }
+    requires short { All IsShort (names_in scope.now) }
     requires length { length text.now ≤ TEXT_BYTES }
     requires begins { is_formula_text text.now ≡ true }
-    ensures { IfOk result (SaysSpelled scope.now.sheets.now scope.now.names.now cell text.now) }
+    ensures { IfOk result (SaysSpelled scope.now.sheets.now (names_in scope.now) cell text.now) }
 {
     let expr = match parse(alloc, text, scope.home, scope.sheets) {
         Ok(expr) => expr,
@@ -105,10 +106,10 @@ pub(crate) fn said_of(tree: Option<Expr>) -> Said
 /// The tree of a formula's text, with what names stand for in their places; none where the text isn't allowed.
 pub(crate) fn tree(alloc: Global, scope: &Scope, text: &str) -> Result<Option<Expr>, Memory>
     requires listed { scope.now.home.0 < length scope.now.sheets.now }
-    requires short { All IsShort scope.now.names.now }
+    requires short { All IsShort (names_in scope.now) }
     requires length { length text.now ≤ TEXT_BYTES + 1 }
     ensures { IfOk result (λ tree. tree
-        ≡ formula_tree scope.now.sheets.now scope.now.names.now scope.now.home.0 text.now) }
+        ≡ formula_tree scope.now.sheets.now (names_in scope.now) scope.now.home.0 text.now) }
 {
     let expr = match parse(alloc, text, scope.home, scope.sheets) {
         Ok(expr) => expr,

@@ -21,10 +21,10 @@ use std::collections::BTreeMap;
 use std::mem::drop;
 
 /// Puts a text into each cell, in their order. On want of memory each cell has what it had.
-pub(crate) fn put_each(
+pub(crate) fn put_each<'a>(
     alloc: Global,
-    sheets: &SheetNames,
-    names: &Names,
+    sheets: &'a SheetNames,
+    names: &'a Names,
     users: &mut Users,
     cells: &mut BTreeMap<Cell, Held>,
     at: &[Cell],
@@ -52,6 +52,7 @@ pub(crate) fn put_each(
         home: cell.sheet,
         sheets,
         names,
+        change: None,
     };
     let text = Text::new(String::from_str(alloc, text.as_str())?);
     let held = hold(alloc, &scope, *cell, text)?;

@@ -7,14 +7,16 @@ ghost use Rattle.workbook.specs.Edits.{Sets, after_set, is_outside, set_fault};
 ghost use Rattle.workbook.specs.Held.{put_all, text_entry};
 ghost use Rattle.workbook.specs.Listed.{IsListed};
 ghost use Rattle.workbook.specs.Exchanging.{IsExchange};
+ghost use Rattle.workbook.specs.Known.{names_in};
 ghost use Rattle.workbook.specs.Replacing.{CanReplace};
 ghost use Rattle.workbook.specs.State.{formula_count, is_formula_text, text_count, with_text};
 ghost use Rattle.workbook.specs.Room.{HasRoom};
+ghost use Rattle.workbook.specs.Changed.{after_change};
 ghost use Rattle.workbook.specs.Naming.{SayOtherwise};
-ghost use Rattle.workbook.specs.Renamed.{OthersStay};
 ghost use Rattle.workbook.specs.Scoped.{IsShort};
 
 use crate::EditFault;
+use crate::change::Change;
 use crate::held::{Held, put_in, put_over, say_otherwise, take_away};
 use crate::named::Scope;
 use crate::names::Names;
@@ -164,6 +166,7 @@ impl Workbook {
             home: cell.sheet,
             sheets: &self.sheets,
             names: &self.names,
+            change: None,
         };
         let is_one = is_formula(text.as_str());
         let held = hold(self.alloc, &scope, cell, text)?;
@@ -228,13 +231,14 @@ impl Workbook {
     pub(crate) fn scope(&self, home: SheetId) -> Scope<'_>
         ensures home { result.home ≡ home }
         ensures sheets { result.sheets.now ≡ self.now.sheets }
-        ensures names { result.names.now ≡ self.now.names }
+        ensures names { names_in result ≡ self.now.names }
         ensures short { All IsShort self.now.names }
     {
         Scope {
             home,
             sheets: &self.sheets,
             names: &self.names,
+            change: None,
         }
     }
 
@@ -258,23 +262,22 @@ impl Workbook {
         self.formulas -= one(was_one);
     }
 
-    // Puts names in the place of others that differ at one name, and answers the cells that say something else now.
-    pub(crate) fn rename(&mut self, names: Names, name: &str) -> Result<Vec<Cell>, Memory>
-        requires others { OthersStay name.now self.old.names names }
-        requires short { All IsShort names }
-        ensures names { OnOk result (self.new ≡ record self.old { names = names }) }
+    // Makes an edit of one name, and answers the cells that say something else now.
+    pub(crate) fn rename(&mut self, change: Change) -> Result<Vec<Cell>, Memory>
+        requires short { All IsShort (after_change self.old.names change) }
+        ensures names { OnOk result (self.new ≡ record self.old { names = after_change self.old.names change }) }
         ensures told { IfOk result (λ cells. SayOtherwise self.old self.new cells.items) }
         ensures err { OnErr result (self.new ≡ self.old) }
     {
         let edit = Edit {
             sheets: &self.sheets,
             before: &self.names,
-            after: &names,
-            name,
+            change: &change,
+            name: change.name.as_str(),
         };
         let said = renamed(self.alloc, &edit, &self.users, &self.cells)?;
         let cells = cells_of(self.alloc, &said)?;
-        self.names = names;
+        self.names.change(self.alloc, change)?;
         say_otherwise(&mut self.cells, said);
         Ok(cells)
     }

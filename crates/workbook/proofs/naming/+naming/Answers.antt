@@ -4,6 +4,7 @@ use Rattle.std.proofs.lemmas.List.{take_all}
 use Rattle.formula_ast.specs.Tree.{span_of, trees}
 use Rattle.formula_ast.proofs.Parts.{node_count-le}
 use Rattle.workbook.specs.Kinds.{all_with_names, meant}
+use Rattle.workbook.specs.Known.{names_in}
 use Rattle.workbook.proofs.NamedTrees.{all-more, all-none, count_stays, sound-last, span_stays, within-at}
 use Rattle.workbook.proofs.naming.+naming.Goals as goal
 
@@ -13,12 +14,12 @@ all_named-named-requires t c =
 
 pub all_named-returns-in_default-clause-found : goal.all_named-returns-in_default-clause-found
 all_named-returns-in_default-clause-found t c =
-    all-none (meant c.args.scope.now.sheets.now c.args.scope.now.names.now c.args.scope.now.home.0) c.args.exprs.now c.loop-expr.expr-index c.expr-item.result
+    all-none (meant c.args.scope.now.sheets.now (names_in c.args.scope.now) c.args.scope.now.home.0) c.args.exprs.now c.loop-expr.expr-index c.expr-item.result
     c.loop-expr-test.true c.expr-item.is (sym c.in_default.is ∙ c.in_ok-made.ensures)
 
 pub all_named-loop-expr-preserved : goal.all_named-loop-expr-preserved
 all_named-loop-expr-preserved t c =
-    let look = meant c.args.scope.now.sheets.now c.args.scope.now.names.now c.args.scope.now.home.0 in
+    let look = meant c.args.scope.now.sheets.now (names_in c.args.scope.now) c.args.scope.now.home.0 in
     let is = sym c.in-Some.is ∙ c.in_ok-made.ensures in
     let pushed = c.in_ok-push.ensures.items in
     let at = within-at c.args.span c.args.exprs.now c.loop-expr.expr-index c.expr-item.result c.requires.within c.loop-expr-test.true c.expr-item.is in (
@@ -30,11 +31,11 @@ all_named-loop-expr-preserved t c =
 
 pub all_named-returns-clause-count : goal.all_named-returns-clause-count
 all_named-returns-clause-count t c =
-    let look = meant c.args.scope.now.sheets.now c.args.scope.now.names.now c.args.scope.now.home.0 in
+    let look = meant c.args.scope.now.sheets.now (names_in c.args.scope.now) c.args.scope.now.home.0 in
     count_stays look (trees c.args.exprs.now) (trees c.loop-expr.found.items)
     (ap (λ l. all_with_names look (trees l)) (sym (take_all c.loop-expr.expr-index c.args.exprs.now (omega (arith, c.loop-expr-test.false)))) ∙ c.loop-expr.invariant.0)
 
 pub boxed-returns-clause-span : goal.boxed-returns-clause-span
 boxed-returns-clause-span t c =
-    let look = meant c.args.scope.now.sheets.now c.args.scope.now.names.now c.args.scope.now.home.0 in
+    let look = meant c.args.scope.now.sheets.now (names_in c.args.scope.now) c.args.scope.now.home.0 in
     ap span_of c.in_ok-new.ensures.ok ∙ span_stays look c.args.expr.now c.in-Some.made (sym (sym c.in-Some.is ∙ c.in_ok-made.ensures))

@@ -4,11 +4,12 @@ use Rattle.formula_ast.specs.Size.{node_count, all_count}
 use Rattle.formula_ast.specs.Sound.{AreSoundWithin}
 use Rattle.formula_ast.specs.Tree.{trees}
 use Rattle.workbook.specs.Kinds.{all_with_names, meant}
+use Rattle.workbook.specs.Known.{names_in}
 use Rattle.workbook.proofs.naming.+naming.Given as goal
 
 abbrev pub invariant-all_named-loop-expr : goal.invariant-all_named-loop-expr
 invariant-all_named-loop-expr l =
-    (all_with_names (meant l.scope.sheets.now l.scope.names.now l.scope.home.0) (trees (take l.expr-index l.exprs)) ≡ Some (trees l.found.items))
+    (all_with_names (meant l.scope.sheets.now (names_in l.scope) l.scope.home.0) (trees (take l.expr-index l.exprs)) ≡ Some (trees l.found.items))
     × AreSoundWithin l.fn.span (trees l.found.items)
 
 abbrev pub decreases-named : goal.decreases-named

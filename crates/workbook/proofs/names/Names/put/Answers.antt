@@ -17,8 +17,8 @@ invariant_of-self c =
     subst AllAreKeyed (sym c.put_text.ensures.entries)
     (retexted_keyed c.in_ok-key.key c.args.name.name small (string_bytes c.name.inside.text) c.self.inside.names.entries c.self.invariant)
 
-pub returns-then-is_some : goal.returns-then-is_some
-returns-then-is_some c =
+pub returns-then-is_some-clause-ok : goal.returns-then-is_some-clause-ok
+returns-then-is_some-clause-ok c =
     let small : c.in_ok-key.key.letters.items ≡ map to_ascii_lowercase c.args.name.name =
     c.in_ok-key.ensures.letters ∙ ap (map to_ascii_lowercase) (c.as_str.ensures.value ∙ ap (λ n. n.name) c.name.view_is) in
     let sheet : c.in_ok-key.key.sheet ≡ c.args.name.sheet = c.in_ok-key.ensures.sheet ∙ ap (λ n. n.sheet) c.name.view_is in
@@ -44,8 +44,8 @@ invariant_of-self-2 c =
     subst AllAreKeyed (sym c.in_ok-insert_new.ensures.ok)
     (keyed-push c.self.inside.names.entries (c.in_ok-key.key, c.args.name) c.self.invariant (record { sheet = sheet; letters = small }))
 
-pub returns : goal.returns
-returns c =
+pub returns-clause-ok : goal.returns-clause-ok
+returns-clause-ok c =
     let small : c.in_ok-key.key.letters.items ≡ map to_ascii_lowercase c.args.name.name =
     c.in_ok-key.ensures.letters ∙ ap (map to_ascii_lowercase) (c.as_str.ensures.value ∙ ap (λ n. n.name) c.name.view_is) in
     let sheet : c.in_ok-key.key.sheet ≡ c.args.name.sheet = c.in_ok-key.ensures.sheet ∙ ap (λ n. n.sheet) c.name.view_is in

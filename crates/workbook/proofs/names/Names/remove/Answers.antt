@@ -11,7 +11,7 @@ invariant_of-self c =
     subst AllAreKeyed (sym c.remove_key.ensures.entries)
     (removed_keyed c.in_ok-key.key c.args.name.now c.in_ok-key.ensures.letters c.self.inside.names.entries c.self.invariant)
 
-pub returns : goal.returns
-returns c =
+pub returns-clause-ok : goal.returns-clause-ok
+returns-clause-ok c =
     gone c.in_ok-key.key (option_map (λ (s : SheetId). s.0) c.args.sheet) c.args.name.now c.self.inside.names.entries c.remove_key.new.names.entries c.args.self.now c.self.view_is
     c.in_ok-key.ensures.letters c.in_ok-key.ensures.sheet c.self.invariant c.remove_key.ensures.unique c.remove_key.ensures.entries

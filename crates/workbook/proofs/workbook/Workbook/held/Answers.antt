@@ -2,6 +2,7 @@ use Rattle.std.proofs.Common.{List, ℕ, subst, sym}
 use Rattle.std.specs.FinMap.{get}
 use Rattle.std.specs.Prelude.{IsSome}
 use Rattle.workbook.specs.Held.{IsHeld}
+use Rattle.workbook.specs.Known.{names_in}
 use Rattle.workbook.specs.Listed.{IsListed}
 use Rattle.workbook.specs.State.{Name}
 use Rattle.workbook.proofs.Exchanges.{exchanged, has_listed}
@@ -18,5 +19,5 @@ returns-clause-fits c =
     let h = c.in_ok-held.held in
     exchanged c.args.self.now c.args.cell c.args.text h c.requires c.in_ok-held.ensures.text
     (subst (λ (names : List Name). IsHeld c.args.self.now.sheets names c.args.cell h) c.scope.ensures.names
-    (subst (λ (sheets : List (List ℕ)). IsHeld sheets c.scope.result.names.now c.args.cell h) c.scope.ensures.sheets c.in_ok-held.ensures.held))
+    (subst (λ (sheets : List (List ℕ)). IsHeld sheets (names_in c.scope.result) c.args.cell h) c.scope.ensures.sheets c.in_ok-held.ensures.held))
     c.in_ok-held.ensures.plain

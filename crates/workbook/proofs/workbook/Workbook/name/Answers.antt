@@ -1,22 +1,18 @@
 use Rattle.std.proofs.Common.{subst, sym}
 use Rattle.std.specs.Prelude.{All, option_map}
 use Rattle.cell_refs.specs.declared.cell.SheetId.{SheetId}
-use Rattle.workbook.specs.Renamed.{OthersStay}
 use Rattle.workbook.specs.Scoped.{IsShort}
-use Rattle.workbook.proofs.NameEdits.{cause_told, others_after, short_after, text_short}
+use Rattle.workbook.proofs.NameEdits.{cause_told, short_after, text_short}
 use Rattle.workbook.proofs.workbook.Workbook.name.Goals as goal
 
 pub returns-in-Some : goal.returns-in-Some
 returns-in-Some c = cause_told c.args.self.now (option_map (λ (s : SheetId). s.0) c.args.sheet) c.args.name.now c.args.text.now c.in-Some.fault (sym c.in-Some.ensures)
 
-pub rename-requires-clause-others : goal.rename-requires-clause-others
-rename-requires-clause-others c =
-    subst (OthersStay c.args.name.now c.args.self.now.names) (sym c.in-Ok.ensures.names)
-    (others_after c.args.self.now (option_map (λ (s : SheetId). s.0) c.args.sheet) c.args.name.now c.args.text.now)
-
-pub rename-requires-clause-short : goal.rename-requires-clause-short
-rename-requires-clause-short c =
+pub rename-requires : goal.rename-requires
+rename-requires c =
     let s = c.args.self.now in
     let sheet = option_map (λ (s : SheetId). s.0) c.args.sheet in
-    subst (All IsShort) (sym c.in-Ok.ensures.names)
-    (short_after s sheet c.args.name.now c.args.text.now (text_short s sheet c.args.name.now c.args.text.now (sym c.in_default.ensures)) c.in-Ok.ensures.short)
+    record {
+      short = subst (All IsShort) (sym c.in-Ok.ensures.names)
+          (short_after s sheet c.args.name.now c.args.text.now (text_short s sheet c.args.name.now c.args.text.now (sym c.in_default.ensures)) c.in-Ok.ensures.short);
+    }
