@@ -1,21 +1,12 @@
-//! Tests of forms of formulas and of cells, against values worked out apart from the code. They stand here so that no layer is proved
-//! twice.
+//! Tests of parts of formulas and of tables of forms, of what no program prints; the forms that one does print stand in `form_answers`.
+//! They stand here so that no layer is proved twice.
 #![tactic(auto)]
 
 #[cfg(test)]
-mod forms;
-#[cfg(test)]
-mod formulas;
+mod grids;
 #[cfg(test)]
 mod parts;
+#[cfg(test)]
 mod sheet;
 #[cfg(test)]
-mod shown;
-#[cfg(test)]
 mod tables;
-mod tours;
-#[cfg(test)]
-mod workbooks;
-
-pub use sheet::{Listed, Sheet};
-pub use tours::{Looked, settled};

@@ -184,18 +184,21 @@ fn show_tried(
     }
 }
 
+fn show_case(
+    alloc: Global,
+    statement: &str,
+    nodes: &str,
+    claimed: &str,
+    to: &mut String,
+) -> Result<(), Fail> {
+    show_tried(alloc, &model(alloc, 2, statement)?, nodes, claimed, to)
+}
+
 #[test]
 fn the_tree_of_two_whole_decisions_and_others_are_checked(rt: HostRuntime) -> Result<(), Fail> {
-    let alloc = rt.alloc();
     for (statement, nodes, claimed, wanted) in CASES {
-        let mut text = String::new(alloc);
-        show_tried(
-            alloc,
-            &model(alloc, 2, statement)?,
-            nodes,
-            claimed,
-            &mut text,
-        )?;
+        let mut text = String::new(rt.alloc());
+        show_case(rt.alloc(), statement, nodes, claimed, &mut text)?;
         assert_eq!(rt; text.as_str(), *wanted, "{claimed}");
     }
     Ok(())

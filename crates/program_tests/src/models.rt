@@ -116,20 +116,20 @@ fn show(alloc: Global, model: &LinModel, to: &mut String) -> Result<(), Fail> {
     show_maximised(alloc, model, to)
 }
 
-fn shown(alloc: Global, statement: &str) -> Result<String, Fail> {
-    let mut text = String::new(alloc);
+fn show_model(alloc: Global, statement: &str, to: &mut String) -> Result<(), Fail> {
     match built(alloc, 3, statement)? {
-        Ok(model) => show(alloc, &model, &mut text)?,
-        Err(BuildStop::WideRow(row)) => write!(text, "wide {row}")?,
-        Err(BuildStop::Memory) => text.push_str("memory")?,
+        Ok(model) => show(alloc, &model, to)?,
+        Err(BuildStop::WideRow(row)) => write!(to, "wide {row}")?,
+        Err(BuildStop::Memory) => to.push_str("memory")?,
     }
-    Ok(text)
+    Ok(())
 }
 
 #[test]
 fn small_statements_have_these_models(rt: HostRuntime) -> Result<(), Fail> {
     for (statement, wanted) in CASES {
-        let text = shown(rt.alloc(), statement)?;
+        let mut text = String::new(rt.alloc());
+        show_model(rt.alloc(), statement, &mut text)?;
         assert_eq!(rt; text.as_str(), *wanted, "{statement}");
     }
     Ok(())

@@ -5,11 +5,12 @@ ghost use Rattle.node_pick.specs.Rules.{IsRising};
 
 use frac128::Frac;
 use node_pick::{Best, Depth, NodeEvent, NodeInfo, Oldest, Picker};
+use std::alloc::Global;
 use std::test::Fail;
 
 // The nodes are given as "number depth bound", with - for no bound.
-fn nodes(rt: &HostRuntime, shown: &str) -> Result<Vec<NodeInfo>, Fail> {
-    let mut nodes = Vec::new(rt.alloc());
+fn nodes(alloc: Global, shown: &str) -> Result<Vec<NodeInfo>, Fail> {
+    let mut nodes = Vec::new(alloc);
     for node in shown.split(';') {
         let (number, rest) = node.split_once(' ').ok_or("no number")?;
         let (depth, bound) = rest.split_once(' ').ok_or("no depth")?;
@@ -39,26 +40,38 @@ fn rise(waiting: &[NodeInfo]) -> bool
     true
 }
 
+// Nodes that wait, and the place of the one that is chosen: the deepest first, the one with the best bound, the oldest.
+const CASES: &[(&str, (usize, usize, usize))] = &[
+    ("0 0 -", (0, 0, 0)),
+    ("1 1 21;2 1 21", (0, 0, 0)),
+    ("2 1 21;3 2 20.5;4 2 20.75", (1, 0, 0)),
+    ("2 1 20;3 2 20.5;4 2 20.75", (1, 2, 0)),
+    ("5 3 7;8 4 -;9 4 9", (1, 1, 0)),
+    ("5 3 -1;8 3 -0.25;9 2 -0.5", (0, 1, 0)),
+    ("1 1 5;4 2 6;7 2 6;9 1 6", (1, 1, 0)),
+];
+
+// The places that the three pickers choose, where the numbers rise.
+fn choices(waiting: &[NodeInfo]) -> Option<(usize, usize, usize)> {
+    if waiting.is_empty() || !rise(waiting) {
+        return None;
+    }
+    let deepest = Depth.choose(waiting);
+    let greatest = Best.choose(waiting);
+    Best.told(NodeEvent::Closed(1));
+    Some((deepest, greatest, Oldest.choose(waiting)))
+}
+
+// Whether they choose these of some nodes.
+fn are_chosen(alloc: Global, shown: &str, wanted: (usize, usize, usize)) -> Result<bool, Fail> {
+    let waiting = nodes(alloc, shown)?;
+    Ok(choices(&waiting) == Some(wanted))
+}
+
 #[test]
 fn each_picker_follows_its_rule(rt: HostRuntime) -> Result<(), Fail> {
-    let mut depth: Box<dyn Picker> = Box::new(rt.alloc(), Depth)?;
-    let mut best: Box<dyn Picker> = Box::new(rt.alloc(), Best)?;
-    let mut oldest: Box<dyn Picker> = Box::new(rt.alloc(), Oldest)?;
-    for (shown, deepest, greatest, first) in [
-        ("0 0 -", 0, 0, 0),
-        ("1 1 21;2 1 21", 0, 0, 0),
-        ("2 1 21;3 2 20.5;4 2 20.75", 1, 0, 0),
-        ("2 1 20;3 2 20.5;4 2 20.75", 1, 2, 0),
-        ("5 3 7;8 4 -;9 4 9", 1, 1, 0),
-        ("5 3 -1;8 3 -0.25;9 2 -0.5", 0, 1, 0),
-        ("1 1 5;4 2 6;7 2 6;9 1 6", 1, 1, 0),
-    ] {
-        let waiting = nodes(&rt, shown)?;
-        assert!(rt; !waiting.is_empty() && rise(&waiting));
-        assert_eq!(rt; depth.choose(&waiting), deepest, "{shown}");
-        assert_eq!(rt; best.choose(&waiting), greatest, "{shown}");
-        assert_eq!(rt; oldest.choose(&waiting), first, "{shown}");
-        best.told(NodeEvent::Closed(1));
+    for (shown, wanted) in CASES {
+        assert!(rt; are_chosen(rt.alloc(), shown, *wanted)?, "{shown}");
     }
     Ok(())
 }

@@ -142,24 +142,17 @@ fn show_end(end: &Result<LpAnswer, LpStop>, to: &mut String) -> Result<(), Fail>
     }
 }
 
-// The end of a run that may have so many units, and how many it had.
-fn solved(alloc: Global, program: &Standard, units: u64) -> Result<(String, u64), Fail> {
-    let mut work = Work { left: units };
-    let end = solve(alloc, program, &mut work);
-    let mut text = String::new(alloc);
-    show_end(&end, &mut text)?;
-    Ok((text, units.wrapping_sub(work.left)))
+// Shows how many units a run had, and its end.
+fn show_spent(spent: u64, end: &Result<LpAnswer, LpStop>, to: &mut String) -> Result<(), Fail> {
+    write!(to, " in {spent}: ")?;
+    show_end(end, to)
 }
 
-#[test]
-fn runs_and_ends(rt: HostRuntime) -> Result<(), Fail> {
-    let alloc = rt.alloc();
-    for (shown, bases, end) in CASES {
-        let (text, spent) = solved(alloc, &program(alloc, shown)?, 100)?;
-        assert_eq!(rt; text.as_str(), *end, "{shown}");
-        assert_eq!(rt; spent, bases.split('|').skip(1).count() as u64);
-    }
-    Ok(())
+// Shows a whole run.
+fn show_run(alloc: Global, program: &Standard, to: &mut String) -> Result<(), Fail> {
+    let mut work = Work { left: 100 };
+    let end = solve(alloc, program, &mut work);
+    show_spent(100u64.wrapping_sub(work.left), &end, to)
 }
 
 // Makes the first pivot, if there is one that can be made.
@@ -186,16 +179,6 @@ fn second_of(bases: &str) -> &str {
     }
 }
 
-#[test]
-fn the_first_pivot_by_itself(rt: HostRuntime) -> Result<(), Fail> {
-    for (shown, bases, _) in CASES {
-        let mut text = String::new(rt.alloc());
-        show_step(rt.alloc(), &program(rt.alloc(), shown)?, &mut text)?;
-        assert_eq!(rt; text.as_str(), second_of(bases), "{shown}");
-    }
-    Ok(())
-}
-
 // Goes on with the run for so many units: the basis that it comes to, how many units it had, and the end.
 fn go_on(
     alloc: Global,
@@ -210,9 +193,7 @@ fn go_on(
     let mut work = Work { left: units };
     let end = resume(alloc, program, dict, &mut work);
     show_places(dict.basis(), to)?;
-    let spent = units.wrapping_sub(work.left);
-    write!(to, " in {spent}: ")?;
-    show_end(&end, to)
+    show_spent(units.wrapping_sub(work.left), &end, to)
 }
 
 fn go_on_twice(
@@ -254,8 +235,25 @@ fn show_wanted_run(bases: &str, end: &str, units: usize, to: &mut String) -> Res
     Ok(())
 }
 
+// Shows the basis after the first pivot, and a whole run; and the same as it must be.
+fn show_whole_run(
+    alloc: Global,
+    program: &Standard,
+    bases: &str,
+    end: &str,
+    found: &mut String,
+    wanted: &mut String,
+) -> Result<(), Fail> {
+    show_step(alloc, program, found)?;
+    show_run(alloc, program, found)?;
+    let pivots = bases.split('|').count().saturating_sub(1);
+    wanted.push_str(second_of(bases))?;
+    write!(wanted, " in {pivots}: {end}")?;
+    Ok(())
+}
+
 // Shows the runs of a program, each cut after another number of units, and the same as they must be.
-fn show_runs(
+fn show_cut_runs(
     alloc: Global,
     program: &Standard,
     bases: &str,
@@ -270,20 +268,27 @@ fn show_runs(
     Ok(())
 }
 
+// Shows the runs of a program, whole and cut, and the same as they must be.
+fn show_runs(
+    alloc: Global,
+    shown: &str,
+    bases: &str,
+    end: &str,
+    found: &mut String,
+    wanted: &mut String,
+) -> Result<(), Fail> {
+    let program = program(alloc, shown)?;
+    show_whole_run(alloc, &program, bases, end, found, wanted)?;
+    show_cut_runs(alloc, &program, bases, end, found, wanted)
+}
+
+// A run that is cut goes on to the same end.
 #[test]
-fn a_cut_run_goes_on_to_the_same_end(rt: HostRuntime) -> Result<(), Fail> {
-    let alloc = rt.alloc();
+fn runs_and_ends(rt: HostRuntime) -> Result<(), Fail> {
     for (shown, bases, end) in CASES {
-        let mut found = String::new(alloc);
-        let mut wanted = String::new(alloc);
-        show_runs(
-            alloc,
-            &program(alloc, shown)?,
-            bases,
-            end,
-            &mut found,
-            &mut wanted,
-        )?;
+        let mut found = String::new(rt.alloc());
+        let mut wanted = String::new(rt.alloc());
+        show_runs(rt.alloc(), shown, bases, end, &mut found, &mut wanted)?;
         assert_eq!(rt; found.as_str(), wanted.as_str(), "{shown}");
     }
     Ok(())
@@ -399,25 +404,31 @@ fn show_all(alloc: Global, program: &Standard, to: &mut String) -> Result<(), Fa
     show_readings(alloc, program, to)
 }
 
-fn of_least_number(alloc: Global, least: i64, greatest: i64, to: &mut String) -> Result<(), Fail> {
-    show_all(alloc, &least_number(alloc, least, greatest)?, to)
-}
+// The least number of a cell and the greatest one, and what is shown.
+const CELLS: &[(Option<i64>, i64, &str)] = &[
+    (Some(2), 5, "best 2 | -2 | 1 0; 2 | 2 | 1 0"),
+    (Some(-3), 5, "best -3 | 3 | 1 0; -3 | -3 | 1 0"),
+    (None, 0, "unbounded 0 | -1; 0 | 0 | -1"),
+];
 
-fn of_no_least_number(alloc: Global, to: &mut String) -> Result<(), Fail> {
-    show_all(alloc, &no_least_number(alloc)?, to)
+fn show_cell(
+    alloc: Global,
+    least: Option<i64>,
+    greatest: i64,
+    to: &mut String,
+) -> Result<(), Fail> {
+    match least {
+        Some(least) => show_all(alloc, &least_number(alloc, least, greatest)?, to),
+        None => show_all(alloc, &no_least_number(alloc)?, to),
+    }
 }
 
 #[test]
 fn cells_of_two_columns(rt: HostRuntime) -> Result<(), Fail> {
-    let alloc = rt.alloc();
-    let mut text = String::new(alloc);
-    of_least_number(alloc, 2, 5, &mut text)?;
-    assert_eq!(rt; text.as_str(), "best 2 | -2 | 1 0; 2 | 2 | 1 0");
-    text.clear();
-    of_least_number(alloc, -3, 5, &mut text)?;
-    assert_eq!(rt; text.as_str(), "best -3 | 3 | 1 0; -3 | -3 | 1 0");
-    text.clear();
-    of_no_least_number(alloc, &mut text)?;
-    assert_eq!(rt; text.as_str(), "unbounded 0 | -1; 0 | 0 | -1");
+    for (least, greatest, wanted) in CELLS {
+        let mut text = String::new(rt.alloc());
+        show_cell(rt.alloc(), *least, *greatest, &mut text)?;
+        assert_eq!(rt; text.as_str(), *wanted);
+    }
     Ok(())
 }
