@@ -205,10 +205,7 @@ fn cells_at_which_formulas_look(rt: HostRuntime) -> Result<(), Fail> {
     ] {
         let part = part(rt.alloc(), text)?;
         assert!(rt; part.looks() == looks, "{text}");
-        assert!(rt;
-            part.to_value(rt.alloc())?.is_some() == is_known,
-            "{text}"
-        );
+        assert!(rt; part.to_value(rt.alloc())?.is_some() == is_known, "{text}");
     }
     Ok(())
 }
