@@ -1,7 +1,7 @@
 // Searches that are cut and gone on with.
 
-use crate::ends::{Rule, Said, is_said};
-use crate::models::{self, Name, Shape, model, shape_of};
+use crate::ends::{Said, is_said};
+use crate::models::{self, Shape, model};
 use branch_bound::{Progress, Search, SearchStop};
 use node_pick::{Best, Depth, Oldest, Picker};
 use std::alloc::Global;
@@ -54,64 +54,71 @@ fn comes_to_after(
     Ok(is_said(&last, said))
 }
 
-// Models, rules, and how the searches end.
-const RUNS: &[(Name, Rule, Said)] = &[
-    (Name::Two, Rule::Depth, Said::Optimal((4, 0), 20)),
-    (Name::Two, Rule::Best, Said::Optimal((4, 0), 20)),
-    (Name::Two, Rule::Oldest, Said::Optimal((4, 0), 20)),
-    (Name::Tied, Rule::Depth, Said::Optimal((1, 1), 1)),
-    (Name::Tied, Rule::Best, Said::Optimal((2, 1), 1)),
-    (Name::Tied, Rule::Oldest, Said::Optimal((2, 1), 1)),
-];
-
-// Whether a search by a rule that is cut once comes to its end.
-fn is_cut_once(
-    alloc: Global,
-    shape: &Shape,
-    first: u64,
-    rule: Rule,
-    said: &Said,
-) -> Result<bool, Fail> {
-    match rule {
-        Rule::Depth => comes_to_after(alloc, shape, first, Box::new(alloc, Depth)?, said),
-        Rule::Best => comes_to_after(alloc, shape, first, Box::new(alloc, Best)?, said),
-        Rule::Oldest => comes_to_after(alloc, shape, first, Box::new(alloc, Oldest)?, said),
+#[test]
+fn a_cut_after_each_unit_comes_to_the_same_end(rt: HostRuntime) -> Result<(), Fail> {
+    let alloc = rt.alloc();
+    let twenty = Said::Optimal((4, 0), 20);
+    let deep = Said::Optimal((1, 1), 1);
+    let wide = Said::Optimal((2, 1), 1);
+    for first in 0..20 {
+        assert!(rt; comes_to_after(alloc, &models::TWO, first, Box::new(alloc, Depth)?, &twenty)?);
+        assert!(rt; comes_to_after(alloc, &models::TWO, first, Box::new(alloc, Best)?, &twenty)?);
+        assert!(rt;
+            comes_to_after(
+                alloc,
+                &models::TWO,
+                first,
+                Box::new(alloc, Oldest)?,
+                &twenty
+            )?
+        );
+        assert!(rt; comes_to_after(alloc, &models::TIED, first, Box::new(alloc, Depth)?, &deep)?);
+        assert!(rt; comes_to_after(alloc, &models::TIED, first, Box::new(alloc, Best)?, &wide)?);
+        assert!(rt; comes_to_after(alloc, &models::TIED, first, Box::new(alloc, Oldest)?, &wide)?);
     }
-}
-
-// Whether one that is cut again and again does.
-fn is_cut_often(
-    alloc: Global,
-    shape: &Shape,
-    slice: u64,
-    rule: Rule,
-    said: &Said,
-) -> Result<bool, Fail> {
-    match rule {
-        Rule::Depth => comes_to(alloc, shape, slice, Box::new(alloc, Depth)?, said),
-        Rule::Best => comes_to(alloc, shape, slice, Box::new(alloc, Best)?, said),
-        Rule::Oldest => comes_to(alloc, shape, slice, Box::new(alloc, Oldest)?, said),
-    }
-}
-
-// Whether all searches that are cut once after so many units come to their ends, and all that are cut after each so many, if any.
-fn all_come_to(alloc: Global, units: u64) -> Result<bool, Fail> {
-    for (name, rule, said) in RUNS {
-        let shape = shape_of(*name);
-        if !is_cut_once(alloc, &shape, units, *rule, said)? {
-            return Ok(false);
-        }
-        if units > 0 && !is_cut_often(alloc, &shape, units, *rule, said)? {
-            return Ok(false);
-        }
-    }
-    Ok(true)
+    Ok(())
 }
 
 #[test]
 fn every_cut_comes_to_the_same_end(rt: HostRuntime) -> Result<(), Fail> {
-    for units in 0..20 {
-        assert!(rt; all_come_to(rt.alloc(), units)?);
+    let alloc = rt.alloc();
+    for slice in 1..20 {
+        assert!(rt;
+            comes_to(
+                alloc,
+                &models::TWO,
+                slice,
+                Box::new(alloc, Depth)?,
+                &Said::Optimal((4, 0), 20)
+            )?
+        );
+        assert!(rt;
+            comes_to(
+                alloc,
+                &models::TWO,
+                slice,
+                Box::new(alloc, Oldest)?,
+                &Said::Optimal((4, 0), 20)
+            )?
+        );
+        assert!(rt;
+            comes_to(
+                alloc,
+                &models::TIED,
+                slice,
+                Box::new(alloc, Depth)?,
+                &Said::Optimal((1, 1), 1)
+            )?
+        );
+        assert!(rt;
+            comes_to(
+                alloc,
+                &models::TIED,
+                slice,
+                Box::new(alloc, Best)?,
+                &Said::Optimal((2, 1), 1)
+            )?
+        );
     }
     Ok(())
 }
@@ -121,19 +128,23 @@ fn a_lowered_budget_stops_with_the_units_spent(rt: HostRuntime) -> Result<(), Fa
     let alloc = rt.alloc();
     let mut pick: Box<dyn Picker> = Box::new(alloc, Depth)?;
     let mut search = Search::begin(alloc, model(alloc, &models::TWO)?, 1000)?;
-    let Ok(Progress::More) = search.run(alloc, 3, &mut pick) else {
-        return Err("more was to be done".into());
-    };
+    let first = search.run(alloc, 3, &mut pick);
+    match &first {
+        Ok(Progress::More) => {}
+        _ => panic!(rt; "more was to be done"),
+    }
     search.set_budget(2);
-    let Err(SearchStop::Budget(spent)) = search.run(alloc, 3, &mut pick) else {
-        return Err("the budget was spent".into());
-    };
-    assert_eq!(rt; spent, 3);
+    let second = search.run(alloc, 3, &mut pick);
+    match &second {
+        Err(SearchStop::Budget(spent)) => assert_eq!(rt; *spent, 3),
+        _ => panic!(rt; "the budget was spent"),
+    }
     search.set_budget(4);
-    let Err(SearchStop::Budget(spent)) = search.run(alloc, 3, &mut pick) else {
-        return Err("the budget was spent".into());
-    };
-    assert_eq!(rt; spent, 4);
+    let third = search.run(alloc, 3, &mut pick);
+    match &third {
+        Err(SearchStop::Budget(spent)) => assert_eq!(rt; *spent, 4),
+        _ => panic!(rt; "the budget was spent"),
+    }
     search.set_budget(1000);
     let last = search.run(alloc, 1000, &mut pick);
     assert!(rt; is_said(&last, &Said::Optimal((4, 0), 20)));
@@ -147,9 +158,11 @@ fn no_units_change_nothing(rt: HostRuntime) -> Result<(), Fail> {
     let alloc = rt.alloc();
     let mut pick: Box<dyn Picker> = Box::new(alloc, Depth)?;
     let mut search = Search::begin(alloc, model(alloc, &models::ANY)?, 1000)?;
-    let Ok(Progress::More) = search.run(alloc, 0, &mut pick) else {
-        return Err("more was to be done".into());
-    };
+    let given = search.run(alloc, 0, &mut pick);
+    match &given {
+        Ok(Progress::More) => {}
+        _ => panic!(rt; "more was to be done"),
+    }
     let last = search.run(alloc, 1000, &mut pick);
     assert!(rt; is_said(&last, &Said::Optimal((0, 1), 0)));
     Ok(())

@@ -1,6 +1,6 @@
 // What searches answer, whatever rule they follow.
 
-use crate::models::{self, Name, Pair, Shape, model, shape_of};
+use crate::models::{self, Pair, Shape, model};
 use branch_bound::{Progress, Search, SearchStop};
 use frac128::Frac;
 use node_pick::{Best, Depth, Oldest, Picker};
@@ -16,15 +16,12 @@ pub enum Said {
     Wide,
 }
 
-fn is_whole(number: &Frac, shown: i128) -> bool {
-    number.num() == shown && number.den() == 1
-}
-
 fn are(numbers: &[Frac], shown: Pair) -> bool {
-    match numbers {
-        [first, second] => is_whole(first, shown.0) && is_whole(second, shown.1),
-        _ => false,
-    }
+    numbers.len() == 2
+        && numbers[0].num() == shown.0
+        && numbers[0].den() == 1
+        && numbers[1].num() == shown.1
+        && numbers[1].den() == 1
 }
 
 pub fn is_said(given: &Result<Progress, SearchStop>, said: &Said) -> bool {
@@ -55,64 +52,9 @@ pub fn end_of(
     Ok(search.run(alloc, 2000, &mut pick))
 }
 
-/// Which node is opened next.
-#[derive(Clone, Copy)]
-pub enum Rule {
-    Depth,
-    Best,
-    Oldest,
-}
-
-fn ends_by(alloc: Global, shape: &Shape, pick: Box<dyn Picker>, said: &Said) -> Result<bool, Fail> {
+fn ends(alloc: Global, shape: &Shape, pick: Box<dyn Picker>, said: &Said) -> Result<bool, Fail> {
     Ok(is_said(&end_of(alloc, shape, pick)?, said))
 }
-
-fn ends(alloc: Global, shape: &Shape, rule: Rule, said: &Said) -> Result<bool, Fail> {
-    match rule {
-        Rule::Depth => ends_by(alloc, shape, Box::new(alloc, Depth)?, said),
-        Rule::Best => ends_by(alloc, shape, Box::new(alloc, Best)?, said),
-        Rule::Oldest => ends_by(alloc, shape, Box::new(alloc, Oldest)?, said),
-    }
-}
-
-// Models, and how their searches end, with the deepest node first and by the two other rules.
-const ENDS: &[(Name, Said, Said)] = &[
-    (
-        Name::Two,
-        Said::Optimal((4, 0), 20),
-        Said::Optimal((4, 0), 20),
-    ),
-    (
-        Name::Least,
-        Said::Optimal((0, 2), -4),
-        Said::Optimal((0, 2), -4),
-    ),
-    // Of two best points the deepest node first and the other rules find different ones.
-    (
-        Name::Tied,
-        Said::Optimal((1, 1), 1),
-        Said::Optimal((2, 1), 1),
-    ),
-    (Name::Odd, Said::Budget(1000), Said::Budget(1000)),
-    (
-        Name::Open,
-        Said::Unbounded((1, 0), (1, 1)),
-        Said::Unbounded((1, 0), (1, 1)),
-    ),
-    (
-        Name::OpenWhole,
-        Said::Unbounded((0, 0), (1, 1)),
-        Said::Unbounded((0, 0), (1, 1)),
-    ),
-    (Name::Half, Said::Infeasible, Said::Infeasible),
-    (
-        Name::Even,
-        Said::Unbounded((1, 0), (0, 1)),
-        Said::Unbounded((1, 0), (0, 1)),
-    ),
-    (Name::NoPoint, Said::Infeasible, Said::Infeasible),
-    (Name::Wide, Said::Wide, Said::Wide),
-];
 
 fn ends_by_every_rule(
     alloc: Global,
@@ -120,33 +62,54 @@ fn ends_by_every_rule(
     deep: &Said,
     wide: &Said,
 ) -> Result<bool, Fail> {
-    if !ends(alloc, shape, Rule::Depth, deep)? {
-        return Ok(false);
-    }
-    if !ends(alloc, shape, Rule::Best, wide)? {
-        return Ok(false);
-    }
-    ends(alloc, shape, Rule::Oldest, wide)
+    Ok(
+        ends(alloc, shape, Box::new(alloc, Depth)?, deep)?
+            && ends(alloc, shape, Box::new(alloc, Best)?, wide)?
+            && ends(alloc, shape, Box::new(alloc, Oldest)?, wide)?,
+    )
+}
+
+fn same(alloc: Global, shape: &Shape, said: &Said) -> Result<bool, Fail> {
+    ends_by_every_rule(alloc, shape, said, said)
 }
 
 #[test]
-fn searches_end_as_they_must(rt: HostRuntime) -> Result<(), Fail> {
-    for (name, deep, wide) in ENDS {
-        assert!(rt; ends_by_every_rule(rt.alloc(), &shape_of(*name), deep, wide)?);
-    }
+fn best_points_are_found(rt: HostRuntime) -> Result<(), Fail> {
+    let alloc = rt.alloc();
+    assert!(rt; same(alloc, &models::TWO, &Said::Optimal((4, 0), 20))?);
+    assert!(rt; same(alloc, &models::LEAST, &Said::Optimal((0, 2), -4))?);
+    // Of two best points the deepest node first and the other rules find different ones.
+    assert!(rt;
+        ends_by_every_rule(
+            alloc,
+            &models::TIED,
+            &Said::Optimal((1, 1), 1),
+            &Said::Optimal((2, 1), 1)
+        )?
+    );
     Ok(())
 }
 
-fn is_fraction(number: &Frac, shown: Pair) -> bool {
-    number.num() == shown.0 && number.den() == shown.1
+#[test]
+fn other_ends_are_told(rt: HostRuntime) -> Result<(), Fail> {
+    let alloc = rt.alloc();
+    assert!(rt; same(alloc, &models::ODD, &Said::Budget(1000))?);
+    assert!(rt; same(alloc, &models::OPEN, &Said::Unbounded((1, 0), (1, 1)))?);
+    assert!(rt; same(alloc, &models::OPEN_WHOLE, &Said::Unbounded((0, 0), (1, 1)))?);
+    assert!(rt; same(alloc, &models::HALF, &Said::Infeasible)?);
+    assert!(rt; same(alloc, &models::EVEN, &Said::Unbounded((1, 0), (0, 1)))?);
+    assert!(rt; same(alloc, &models::NONE, &Said::Infeasible)?);
+    assert!(rt; same(alloc, &models::WIDE, &Said::Wide)?);
+    Ok(())
 }
 
 // Whether the numbers are fractions with these numerators and denominators.
 fn are_fractions(numbers: &[Frac], first: Pair, second: Pair) -> bool {
-    match numbers {
-        [one, other] => is_fraction(one, first) && is_fraction(other, second),
-        _ => false,
-    }
+    numbers.len() == 2
+        && numbers[0].num() == first.0
+        && numbers[0].den() == first.1
+        && numbers[1].num() == second.0
+        && numbers[1].den() == second.1
 }
 
 // Whether the best point is these two fractions, with this value.

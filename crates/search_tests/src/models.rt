@@ -172,33 +172,3 @@ pub const WIDE: Shape = Shape {
     ],
     whole: &[],
 };
-
-/// A model by its name, as tables have it.
-#[derive(Clone, Copy)]
-pub enum Name {
-    Two,
-    Least,
-    Tied,
-    Odd,
-    Open,
-    OpenWhole,
-    Half,
-    Even,
-    NoPoint,
-    Wide,
-}
-
-pub fn shape_of(name: Name) -> Shape {
-    match name {
-        Name::Two => TWO,
-        Name::Least => LEAST,
-        Name::Tied => TIED,
-        Name::Odd => ODD,
-        Name::Open => OPEN,
-        Name::OpenWhole => OPEN_WHOLE,
-        Name::Half => HALF,
-        Name::Even => EVEN,
-        Name::NoPoint => NONE,
-        Name::Wide => WIDE,
-    }
-}
