@@ -3,3 +3,7 @@
 
 #[cfg(test)]
 mod statements;
+#[cfg(test)]
+mod texts;
+#[cfg(test)]
+mod workbooks;

@@ -5,6 +5,8 @@
 #[cfg(test)]
 mod certificates;
 #[cfg(test)]
+mod ends;
+#[cfg(test)]
 mod models;
 #[cfg(test)]
 mod pickers;
@@ -18,3 +20,5 @@ mod simplex_runs;
 mod statements;
 #[cfg(test)]
 mod texts;
+#[cfg(test)]
+mod two_column_cells;

@@ -11,7 +11,9 @@ fn main(rt: HostRuntime) -> ExitCode {
 #[cfg(test)]
 mod cut_tests;
 #[cfg(test)]
-mod limit_tests;
+mod file_limit_tests;
+#[cfg(test)]
+mod long_texts;
 #[cfg(test)]
 mod option_tests;
 #[cfg(test)]
@@ -22,5 +24,7 @@ mod run_tests;
 mod runs;
 #[cfg(test)]
 mod save_tests;
+#[cfg(test)]
+mod sheet_limit_tests;
 #[cfg(test)]
 mod workbook_tests;

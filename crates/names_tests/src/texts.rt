@@ -1,0 +1,106 @@
+// Statements and faults of names as texts. A cell is told as its sheet, row and column, from 0.
+use cell_refs::Cell;
+use lin_model::{Goal, Relation};
+use solver_names::{NamesFault, RowOf, Statement};
+use std::fmt::Write;
+use std::test::Fail;
+use workbook::Place;
+
+fn tell_cell(cell: Cell, to: &mut String) -> Result<(), Fail> {
+    write!(to, " {}.{}.{}", cell.sheet.0, cell.row, cell.col)?;
+    Ok(())
+}
+
+fn tell_place(place: Place, to: &mut String) -> Result<(), Fail> {
+    match place {
+        Place::Cell(cell) => tell_cell(cell, to),
+        Place::Side(k) => {
+            write!(to, " side {}", k)?;
+            Ok(())
+        }
+    }
+}
+
+fn tell_goal(goal: Goal, to: &mut String) -> Result<(), Fail> {
+    match goal {
+        Goal::Greatest => to.push_str(" greatest")?,
+        Goal::Least => to.push_str(" least")?,
+        Goal::Reach(value) => {
+            to.push_str(" reach ")?;
+            write!(to, "{}/{}", value.num(), value.den())?;
+        }
+    }
+    Ok(())
+}
+
+fn tell_row(row: &RowOf, to: &mut String) -> Result<(), Fail> {
+    write!(to, "; {}", row.k)?;
+    tell_cell(row.left, to)?;
+    match row.rel {
+        Relation::AtMost => to.push_str(" <=")?,
+        Relation::Equal => to.push_str(" =")?,
+        Relation::AtLeast => to.push_str(" >=")?,
+    }
+    tell_place(row.right, to)
+}
+
+fn tell_numbers(word: &str, numbers: &[u16], to: &mut String) -> Result<(), Fail> {
+    if numbers.is_empty() {
+        return Ok(());
+    }
+    to.push_str(word)?;
+    for number in numbers {
+        write!(to, " {}", *number)?;
+    }
+    Ok(())
+}
+
+pub(crate) fn tell_statement(s: &Statement, to: &mut String) -> Result<(), Fail> {
+    to.push_str("decide")?;
+    for cell in s.adj.cells() {
+        tell_cell(*cell, to)?;
+    }
+    if let Some(cell) = s.objective {
+        to.push_str("; for")?;
+        tell_cell(cell, to)?;
+    }
+    tell_goal(s.goal, to)?;
+    for row in &s.rows {
+        tell_row(row, to)?;
+    }
+    tell_numbers("; whole", &s.whole, to)?;
+    tell_numbers("; binary", &s.binary, to)?;
+    tell_numbers("; explicit", &s.explicit, to)?;
+    if !s.not_negative {
+        to.push_str("; free")?;
+    }
+    Ok(())
+}
+
+pub(crate) fn tell_fault(fault: &NamesFault, to: &mut String) -> Result<(), Fail> {
+    match fault {
+        NamesFault::NoNames => to.push_str("1")?,
+        NamesFault::BadReference(name) => {
+            to.push_str("2 ")?;
+            to.push_str(name.as_str())?;
+        }
+        NamesFault::MissingPart(k) => write!(to, "3 {}", *k)?,
+        NamesFault::BadRelation(k, code) => {
+            write!(to, "4 {} ", *k)?;
+            to.push_str(code.as_str())?;
+        }
+        NamesFault::SizeMismatch(k, left, right) => write!(to, "5 {} {} {}", *k, *left, *right)?,
+        NamesFault::NotDecision(k, cell) => {
+            write!(to, "6 {}", *k)?;
+            tell_cell(*cell, to)?;
+        }
+        NamesFault::BadOption(name) => {
+            to.push_str("7 ")?;
+            to.push_str(name.as_str())?;
+        }
+        NamesFault::TooManyDecisions(count) => write!(to, "8 {}", *count)?,
+        NamesFault::TooManyRows(count) => write!(to, "9 {}", *count)?,
+        NamesFault::Memory => to.push_str("memory")?,
+    }
+    Ok(())
+}

@@ -1,0 +1,42 @@
+// Workbooks of two sheets with no texts, and of names.
+ghost use Rattle.std.specs.Prelude.{◌≡◌, ◌≢◌, ◌≤◌, [], All, IfOk, length};
+ghost use Rattle.workbook.specs.Files.{SheetFile};
+
+use std::alloc::Global;
+use std::test::Fail;
+use workbook::{File, Workbook};
+
+// The file of a sheet with no texts.
+fn sheet_file(alloc: Global, stem: &str) -> Result<File, Fail>
+    ensures stem { IfOk result (λ f. f.stem ≢ []) }
+    ensures size { IfOk result (λ f. length f.bytes ≤ 16777216) }
+{
+    if stem.is_empty() {
+        return Err(Fail::new("a sheet has no name"));
+    }
+    Ok(File::new(String::from_str(alloc, stem)?, Vec::new(alloc)))
+}
+
+// The files of two sheets.
+fn files(alloc: Global) -> Result<Vec<File>, Fail>
+    ensures count { IfOk result (λ v. length v.items ≡ 2) }
+    ensures stems { IfOk result (λ v. All (λ (f : SheetFile). f.stem ≢ []) v.items) }
+    ensures sizes { IfOk result (λ v. All (λ (f : SheetFile). length f.bytes ≤ 16777216) v.items) }
+{
+    let mut files = Vec::new(alloc);
+    files.push(sheet_file(alloc, "plan")?)?;
+    files.push(sheet_file(alloc, "other;two")?)?;
+    Ok(files)
+}
+
+// A workbook of two sheets with these names.
+pub(crate) fn opened(alloc: Global, names: &[u8]) -> Result<Workbook, Fail> {
+    if names.len() > 10000 {
+        return Err(Fail::new("the names are a long text"));
+    }
+    let files = files(alloc)?;
+    match Workbook::open(alloc, &files, names) {
+        Ok(workbook) => Ok(workbook),
+        Err(_) => Err(Fail::new("it is not opened")),
+    }
+}
