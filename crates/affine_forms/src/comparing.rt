@@ -91,7 +91,7 @@ pub(crate) fn are_below(terms: &[(u16, Frac)], bound: usize) -> bool
 }
 
 /// The value of terms behind a number.
-pub(crate) fn evaluated(base: Frac, terms: &[(u16, Frac)], at: &[Frac]) -> Result<Frac, Wide>
+pub(crate) fn value_at(base: Frac, terms: &[(u16, Frac)], at: &[Frac]) -> Result<Frac, Wide>
     requires { ReachTo terms.now (length at.now) }
     ensures { AnswersInPlace (summed (assigned at.now) base terms.now) result }
 {

@@ -8,8 +8,8 @@ ghost use Rattle.affine_forms.specs.Steps.{added, added_product, evaluated_at, m
 ghost use Rattle.affine_forms.specs.declared.stop.FormStop.TheVariants as stops;
 ghost use Rattle.calculations.specs.Calculation.{done};
 
-use crate::comparing::{are_below, are_same, are_scaled, coefficient_of, evaluated};
-use crate::merging::{merged, negated, scaled};
+use crate::comparing::{are_below, are_same, are_scaled, coefficient_of, value_at};
+use crate::merging::{multiple_of_terms, opposite_terms, sum_of_terms};
 use crate::steps::{add, divide, equal, multiply};
 use crate::stop::FormStop;
 use crate::sums::add_terms;
@@ -118,7 +118,7 @@ impl Form {
         ensures ok { IfOk result (λ turned. turned ≡ negated self.now) }
         ensures in_place { OnErr result (2 < length self.now.terms) }
     {
-        let terms = negated(alloc, self.terms())?;
+        let terms = opposite_terms(alloc, self.terms())?;
         Ok(Form {
             base: self.base().neg(),
             terms,
@@ -132,7 +132,7 @@ impl Form {
         ensures few { IfErr result (λ stop. stop ≡ stops.Memory → 2 < length self.now.terms + length other.now.terms) }
     {
         let base = add(self.base(), other.base())?;
-        let terms = merged(alloc, self.terms(), other.terms())?;
+        let terms = sum_of_terms(alloc, self.terms(), other.terms())?;
         Ok(Form { base, terms })
     }
 
@@ -153,7 +153,7 @@ impl Form {
         ensures few { IfErr result (λ stop. stop ≡ stops.Memory → 2 < length self.now.terms) }
     {
         let base = multiply(self.base(), k)?;
-        let terms = scaled(alloc, k, self.terms())?;
+        let terms = multiple_of_terms(alloc, k, self.terms())?;
         Ok(Form { base, terms })
     }
 
@@ -200,6 +200,6 @@ impl Form {
         requires { ReachTo self.now.terms (length at.now) }
         ensures { AnswersInPlace (evaluated_at (assigned at.now) self.now) result }
     {
-        evaluated(self.base(), self.terms(), at)
+        value_at(self.base(), self.terms(), at)
     }
 }

@@ -14,7 +14,7 @@ use memory::Memory;
 use std::alloc::Global;
 
 /// The terms of a sum: two coefficients of one decision are added.
-pub(crate) fn merged(
+pub(crate) fn sum_of_terms(
     alloc: Global,
     left: &[(u16, Frac)],
     right: &[(u16, Frac)],
@@ -48,7 +48,7 @@ pub(crate) fn merged(
 }
 
 /// The terms with their signs turned.
-pub(crate) fn negated(alloc: Global, terms: &[(u16, Frac)]) -> Result<Terms, Memory>
+pub(crate) fn opposite_terms(alloc: Global, terms: &[(u16, Frac)]) -> Result<Terms, Memory>
     ensures turned { IfOk result (λ turned. turned ≡ negated_terms terms.now) }
     ensures in_place { OnErr result (2 < length terms.now) }
 {
@@ -60,7 +60,11 @@ pub(crate) fn negated(alloc: Global, terms: &[(u16, Frac)]) -> Result<Terms, Mem
 }
 
 /// The terms times a number.
-pub(crate) fn scaled(alloc: Global, k: Frac, terms: &[(u16, Frac)]) -> Result<Terms, FormStop>
+pub(crate) fn multiple_of_terms(
+    alloc: Global,
+    k: Frac,
+    terms: &[(u16, Frac)],
+) -> Result<Terms, FormStop>
     ensures narrow { Answers (scaled_terms k terms.now) result }
     ensures in_place { IfErr result (λ stop. stop ≡ stops.Memory → NeedsRoomFor (scaled_terms k terms.now)) }
     ensures few { IfErr result (λ stop. stop ≡ stops.Memory → 2 < length terms.now) }

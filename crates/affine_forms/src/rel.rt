@@ -32,7 +32,7 @@ impl Rel {
     }
 
     /// The relation that holds exactly where this one doesn't.
-    pub fn reversed(self) -> Rel
+    pub fn complement(self) -> Rel
         ensures { result ≡ reversed self }
     {
         match self {
@@ -46,7 +46,7 @@ impl Rel {
     }
 
     /// The relation with its sides exchanged, which is that of the number with its sign turned.
-    pub fn mirrored(self) -> Rel
+    pub fn converse(self) -> Rel
         ensures { result ≡ mirrored self }
     {
         match self {

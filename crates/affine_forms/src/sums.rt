@@ -8,7 +8,7 @@ ghost use Rattle.affine_forms.specs.Steps.{merged};
 ghost use Rattle.affine_forms.specs.declared.stop.FormStop.TheVariants as stops;
 
 use crate::comparing::lie_behind;
-use crate::merging::merged;
+use crate::merging::sum_of_terms;
 use crate::stop::FormStop;
 use crate::terms::Terms;
 use frac128::Frac;
@@ -30,6 +30,6 @@ pub(crate) fn add_terms(
         terms.append(more)?;
         return Ok(());
     }
-    *terms = merged(alloc, terms.as_slice(), more)?;
+    *terms = sum_of_terms(alloc, terms.as_slice(), more)?;
     Ok(())
 }

@@ -1,5 +1,5 @@
 // What the words of the command line ask for.
-use command_line::{Asked, Job, Pick, asked};
+use command_line::{Asked, Job, Pick, request};
 use std::alloc::Global;
 use std::fmt::Write;
 use std::test::Fail;
@@ -80,7 +80,7 @@ fn what_words_ask_for(rt: HostRuntime) -> Result<(), Fail> {
     let alloc = rt.alloc();
     for (line, want) in CASES {
         let mut told = String::new(alloc);
-        match &asked(alloc, &words_of(alloc, line)?)? {
+        match &request(alloc, &words_of(alloc, line)?)? {
             Some(Asked::Script(job)) => tell_job(job, &mut told)?,
             Some(Asked::MadeUp(size)) => write!(told, "gen {}", *size)?,
             None => (),

@@ -22,7 +22,7 @@ const CELLS: &[(u8, &str)] = &[
 ];
 
 // Each cell with a text, with it, of at most a thousand.
-fn told(alloc: Global, book: &Workbook) -> Result<String, Fail> {
+fn workbook_text(alloc: Global, book: &Workbook) -> Result<String, Fail> {
     let mut told = String::new(alloc);
     let mut after = None;
     for _ in 0..1000 {
@@ -48,7 +48,7 @@ fn texts_of_the_smallest_sizes(rt: HostRuntime) -> Result<(), Fail> {
             return Err(Fail::new("there is no such size"));
         }
         let book = made_up(alloc, *size)?;
-        let told = told(alloc, &book)?;
+        let told = workbook_text(alloc, &book)?;
         assert!(rt; told.as_str() == *want, "{}", told.as_str());
     }
     Ok(())

@@ -1,7 +1,7 @@
 // Sheets of odd texts, saved and read back. They come of 40 texts (quotes, commas, line ends, byte order marks, blanks) put by chance
 // into 1 to 5 rows of 1 to 4 fields, spelled with needless quotes, three kinds of line ends and blank lines; what is saved follows from
 // the rules of saved files.
-use crate::saved_files::opened;
+use crate::saved_files::open_workbook;
 use cell_refs::SheetId;
 use saved_sheets::sheet_file;
 use std::alloc::Global;
@@ -9,7 +9,7 @@ use std::test::Fail;
 
 // The file as which a sheet is saved that is read from these bytes.
 fn saved_again(alloc: Global, bytes: &[u8]) -> Result<Vec<u8>, Fail> {
-    let book = opened(alloc, bytes, b"", b"")?;
+    let book = open_workbook(alloc, bytes, b"", b"")?;
     if book.sheets().len() == 0 {
         return Err(Fail::new("there is no sheet"));
     }

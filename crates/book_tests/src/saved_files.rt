@@ -33,7 +33,7 @@ fn files(alloc: Global, plan: &[u8], other: &[u8]) -> Result<Vec<File>, Fail>
 }
 
 // A workbook of two sheets with these names.
-pub(crate) fn opened(
+pub(crate) fn open_workbook(
     alloc: Global,
     plan: &[u8],
     other: &[u8],
@@ -50,7 +50,7 @@ pub(crate) fn opened(
 }
 
 // The fields of each record, with a bar behind each, and a slash behind each record.
-fn told(alloc: Global, rows: &Rows) -> Result<String, Fail> {
+fn rows_text(alloc: Global, rows: &Rows) -> Result<String, Fail> {
     let mut told = String::new(alloc);
     for place in 0..rows.len() {
         let row = rows.at(place);
@@ -83,11 +83,11 @@ const SHEETS: &[(&[u8], &[u8], &str)] = &[
 fn records_of_a_sheet(rt: HostRuntime) -> Result<(), Fail> {
     let alloc = rt.alloc();
     for (plan, other, want) in SHEETS {
-        let book = opened(alloc, plan, other, b"")?;
+        let book = open_workbook(alloc, plan, other, b"")?;
         if book.sheets().len() == 0 {
             return Err(Fail::new("there is no sheet"));
         }
-        let told = told(alloc, &sheet_rows(alloc, &book, SheetId(0))?)?;
+        let told = rows_text(alloc, &sheet_rows(alloc, &book, SheetId(0))?)?;
         assert!(rt; told.as_str() == *want, "{}", told.as_str());
     }
     Ok(())
@@ -108,7 +108,7 @@ const NAMES: &[(&[u8], &[u8])] = &[
 fn bytes_of_the_names(rt: HostRuntime) -> Result<(), Fail> {
     let alloc = rt.alloc();
     for (names, want) in NAMES {
-        let book = opened(alloc, b"", b"", names)?;
+        let book = open_workbook(alloc, b"", b"", names)?;
         let bytes = names_file(alloc, &book)?;
         assert!(rt; bytes.as_slice() == *want);
     }

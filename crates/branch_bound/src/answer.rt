@@ -10,7 +10,7 @@ use frac128::Frac;
 use lin_model::LinModel;
 
 // The numbers in room that was made before.
-fn written(from: &[Frac], room: Vec<Frac>) -> Vec<Frac>
+fn numbers_in(from: &[Frac], room: Vec<Frac>) -> Vec<Frac>
     requires { length room.items ≡ length from.now }
     ensures { result.items ≡ from.now }
 {
@@ -22,7 +22,7 @@ fn written(from: &[Frac], room: Vec<Frac>) -> Vec<Frac>
 }
 
 // What a search that is over answers.
-pub(crate) fn told(model: &LinModel, frontier: &Frontier, room: Room) -> Progress
+pub(crate) fn end_of_search(model: &LinModel, frontier: &Frontier, room: Room) -> Progress
     requires point { length room.point.items ≡ length model.now.whole }
     requires direction { length room.direction.items ≡ length model.now.whole }
     requires found { (f : Found) → frontier.now.found ≡ Some f → length f.point.items ≡ length model.now.whole }
@@ -32,10 +32,10 @@ pub(crate) fn told(model: &LinModel, frontier: &Frontier, room: Room) -> Progres
     match &frontier.found {
         Some(found) => match &frontier.way {
             Some(way) => Progress::Unbounded(
-                written(&found.point, room.point),
-                written(&way.direction, room.direction),
+                numbers_in(&found.point, room.point),
+                numbers_in(&way.direction, room.direction),
             ),
-            None => Progress::Optimal(written(&found.point, room.point), found.value),
+            None => Progress::Optimal(numbers_in(&found.point, room.point), found.value),
         },
         None => match &frontier.way {
             Some(way) => {
@@ -43,8 +43,8 @@ pub(crate) fn told(model: &LinModel, frontier: &Frontier, room: Room) -> Progres
                     return Progress::Infeasible;
                 }
                 Progress::Unbounded(
-                    written(&way.point, room.point),
-                    written(&way.direction, room.direction),
+                    numbers_in(&way.point, room.point),
+                    numbers_in(&way.direction, room.direction),
                 )
             }
             None => Progress::Infeasible,

@@ -21,7 +21,7 @@ use std::alloc::Global;
 use tableau::start;
 
 // The same node.
-fn copied(info: &NodeInfo) -> NodeInfo
+fn copy_node(info: &NodeInfo) -> NodeInfo
     ensures { result ≡ info.now }
 {
     NodeInfo {
@@ -76,7 +76,7 @@ fn prepare(
 }
 
 // The place of the node that the picker chooses.
-fn chosen(waiting: &[NodeInfo], pick: &mut Box<dyn Picker>) -> usize
+fn choice(waiting: &[NodeInfo], pick: &mut Box<dyn Picker>) -> usize
     requires waits { waiting.now ≢ [] }
     requires rising { IsRising waiting.now }
     ensures place { result < length waiting.now }
@@ -112,8 +112,8 @@ pub(crate) fn open(
     ensures paths { frontier.new.paths.paths ≡ frontier.old.paths.paths }
     ensures rule { rule pick.new ≡ rule pick.old }
 {
-    let place = chosen(&frontier.waiting, pick);
-    let info = copied(&frontier.waiting[place]);
+    let place = choice(&frontier.waiting, pick);
+    let info = copy_node(&frontier.waiting[place]);
     let number = info.number;
     let work = prepare(alloc, model, frontier, info)?;
     frontier.waiting.remove(place);

@@ -27,7 +27,7 @@ impl Search {
         while spent < units && !self.has_ended() && self.units() < self.budget() {
             match self.step(alloc, pick) {
                 Ok(()) => spent += 1,
-                Err(stop) => return Err(self.stopped(alloc, stop)),
+                Err(stop) => return Err(self.stop_of(alloc, stop)),
             }
         }
         if self.has_ended() {

@@ -5,7 +5,7 @@ ghost use Rattle.branch_bound.specs.Searches.{HasEnded, HasTrail, IsStepStop};
 ghost use Rattle.branch_bound.specs.Ends.{IsAnswerOf};
 ghost use Rattle.branch_bound.specs.Told.{Grew, HearsStop, IsStopOf};
 
-use crate::answer::told;
+use crate::answer::end_of_search;
 use crate::frontier::Frontier;
 use crate::opening::open;
 use crate::over::is_over;
@@ -185,12 +185,12 @@ impl Search {
         let _valid = self.model.whole();
         match self.room.take() {
             None => unreachable!(),
-            Some(room) => told(&self.model, &self.frontier, room),
+            Some(room) => end_of_search(&self.model, &self.frontier, room),
         }
     }
 
     // Why a unit is not made, with what tells it.
-    pub(crate) fn stopped(&self, alloc: Global, stop: StepStop) -> SearchStop
+    pub(crate) fn stop_of(&self, alloc: Global, stop: StepStop) -> SearchStop
         requires { IsStepStop self.now.state stop }
         ensures { IsStopOf self.now result }
     {

@@ -23,7 +23,7 @@ fn steps(alloc: Global, path: &[Part]) -> Result<Vec<(u16, bool, i128)>, Memory>
 }
 
 // A list of the same variables.
-fn copied(alloc: Global, variables: &[u16]) -> Result<Vec<u16>, Memory>
+fn copy_variables(alloc: Global, variables: &[u16]) -> Result<Vec<u16>, Memory>
     ensures { IfOk result (λ v. v.items ≡ variables.now) }
 {
     let mut made = Vec::new(alloc);
@@ -50,6 +50,6 @@ pub(crate) fn wide(
 {
     let path = paths.path(alloc, work.info.number as usize)?;
     let steps = steps(alloc, &path)?;
-    let basis = copied(alloc, work.dict.basis())?;
+    let basis = copy_variables(alloc, work.dict.basis())?;
     Ok(SearchStop::WidePivot(steps, basis, work.dict.basic(row), work.dict.column(col)))
 }

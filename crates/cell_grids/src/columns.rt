@@ -20,7 +20,7 @@ impl Reference {
     }
 
     /// The reference with rows and columns exchanged.
-    pub fn exchanged(&self, alloc: Global) -> Result<Reference, Memory>
+    pub fn transpose(&self, alloc: Global) -> Result<Reference, Memory>
         ensures { IfOk result (λ across. across ≡ exchanged self.now) }
     {
         let cells = exchanged_cells(alloc, self)?;

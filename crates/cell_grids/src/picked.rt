@@ -13,7 +13,7 @@ use std::alloc::Global;
 
 impl Reference {
     /// The cells of a part, row by row; none where there is no such part.
-    pub fn picked(&self, alloc: Global, pick: Pick) -> Result<Vec<Cell>, Memory>
+    pub fn cells_in(&self, alloc: Global, pick: Pick) -> Result<Vec<Cell>, Memory>
         requires { IsWithin self.now.rows self.now.columns pick }
         ensures cells { IfOk result (λ cells. cells.items ≡ picked_cells self.now pick) }
         ensures full { IsFullGrid self.now }

@@ -18,7 +18,7 @@ pub fn sheet_name(alloc: Global, text: &str) -> Result<Option<String>, AllocErro
         return Ok(Some(String::from_str(alloc, name)?));
     }
     match name.strip_prefix('\'') {
-        Some(quoted) => unquoted(alloc, quoted),
+        Some(quoted) => without_quotes(alloc, quoted),
         None => Ok(None),
     }
 }
@@ -53,7 +53,7 @@ fn goes_on_to_end(text: &[u8]) -> bool
 }
 
 // A name that ends with its closing quote, where each quote in the name is doubled.
-fn unquoted(alloc: Global, text: &str) -> Result<Option<String>, AllocError>
+fn without_quotes(alloc: Global, text: &str) -> Result<Option<String>, AllocError>
     ensures { IfOk result (λ name. option_map string_bytes name ≡ unquoted text.now) }
 {
     let mut name = String::new(alloc);

@@ -7,6 +7,6 @@ mod sheets;
 mod values;
 mod words;
 
-pub use reading::asked;
+pub use reading::request;
 pub use sheets::stem_of;
 pub use words::{Asked, DEFAULT_BUDGET, Job, MOST_MADE_UP, Named, Pick};

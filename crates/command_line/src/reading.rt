@@ -15,7 +15,7 @@ use memory::Memory;
 use std::alloc::Global;
 
 /// What the words ask for; none where they are of another form. The words stand without the program's name.
-pub fn asked(alloc: Global, words: &[String]) -> Result<Option<Asked>, Memory>
+pub fn request(alloc: Global, words: &[String]) -> Result<Option<Asked>, Memory>
     ensures asked { IfOk result (λ a. option_map asked_read a ≡ line.asked_of (line.texts_of words.now)) }
     ensures sound { IfOk result (λ a. IfSome a IsSound) }
 {

@@ -17,7 +17,7 @@ use crate::looks::arguments::{all_looks, outcomes};
 use crate::looks::criteria::sumif_looks;
 use crate::looks::lookups::lookup_part;
 use crate::looks::picks::index_part;
-use crate::operators::narrowed;
+use crate::operators::narrow_answer;
 use crate::part::Part;
 use crate::values::{all_known, filled_grid};
 use cell_refs::Cell;
@@ -192,7 +192,7 @@ pub(crate) fn narrow_called(
     ensures { IfOk result (λ outcome. outcome ≡ narrow_called function (option_map (λ v. v.items) args)) }
 {
     match args {
-        Some(args) => narrowed(call(alloc, function, &args)),
+        Some(args) => narrow_answer(call(alloc, function, &args)),
         None => Ok(None),
     }
 }

@@ -10,7 +10,7 @@ ghost use Rattle.sheet_funcs.specs.Rounding.{place_of};
 ghost use Rattle.sheet_model.specs.Conversions.{logical_in};
 ghost use Rattle.sheet_model.specs.Operators.{single};
 
-use crate::looks::arguments::{copied, push_all};
+use crate::looks::arguments::{copy_cells, push_all};
 use crate::part::Part;
 use cell_refs::{Cell, ErrorKind};
 use formula_ast::Func;
@@ -26,7 +26,7 @@ pub(crate) fn choosing_part(alloc: Global, function: Func, args: &[Part]) -> Res
     let [first, others @ ..] = args else {
         return Ok(Part::plain(alloc, Arg::One(Value::Error(ErrorKind::Value))));
     };
-    let looks = copied(alloc, &first.looks)?;
+    let looks = copy_cells(alloc, &first.looks)?;
     let Some(value) = &first.outcome else {
         return Ok(Part {
             looks,
@@ -47,7 +47,7 @@ fn chosen_part(
 ) -> Result<Part, Memory>
     ensures { IfOk result (λ part. part ≡ record { looks = looks.items ++ looks_of (at_chosen others.now (chosen_place function first.now)); outcome = chosen_outcome (without_choice function first.now) (at_chosen others.now (chosen_place function first.now)); reference = None }) }
 {
-    let Some(part) = chosen(function, first, others) else {
+    let Some(part) = choice(function, first, others) else {
         let without = without_choice(alloc, function, first)?;
         return Ok(Part {
             looks,
@@ -75,7 +75,7 @@ fn single_outcome(alloc: Global, part: &Part) -> Result<Option<Arg>, Memory>
 }
 
 // The argument that is chosen, if there is one.
-fn chosen<'a>(function: Func, first: &Arg, others: &'a [Part]) -> Option<&'a Part>
+fn choice<'a>(function: Func, first: &Arg, others: &'a [Part]) -> Option<&'a Part>
     ensures { option_map (λ part. part.now) result ≡ at_chosen others.now (chosen_place function first.now) }
 {
     match function {

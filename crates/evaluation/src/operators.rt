@@ -13,7 +13,7 @@ use sheet_model::{Arg, FuncStop, Memory, infix, minus, percent};
 use std::alloc::Global;
 
 /// An answer on narrow numbers: none where a number isn't narrow.
-pub(crate) fn narrowed(answer: Result<Arg, FuncStop>) -> Result<Option<Arg>, Memory>
+pub(crate) fn narrow_answer(answer: Result<Arg, FuncStop>) -> Result<Option<Arg>, Memory>
     ensures { (c : Calculation Arg) → Answers c answer → IfOk result (λ outcome. outcome ≡ narrow c) }
 {
     match answer {
@@ -85,7 +85,7 @@ fn minus_outcome(alloc: Global, of: Option<Arg>) -> Result<Option<Arg>, Memory>
     ensures { IfOk result (λ outcome. outcome ≡ option_and_then (λ v. narrow (minus_of v)) of) }
 {
     match of {
-        Some(value) => narrowed(minus(alloc, &value)),
+        Some(value) => narrow_answer(minus(alloc, &value)),
         None => Ok(None),
     }
 }
@@ -95,7 +95,7 @@ fn percent_outcome(alloc: Global, of: Option<Arg>) -> Result<Option<Arg>, Memory
     ensures { IfOk result (λ outcome. outcome ≡ option_and_then (λ v. narrow (percent_of v)) of) }
 {
     match of {
-        Some(value) => narrowed(percent(alloc, &value)),
+        Some(value) => narrow_answer(percent(alloc, &value)),
         None => Ok(None),
     }
 }
@@ -110,7 +110,7 @@ fn infix_outcome(
     ensures { IfOk result (λ outcome. outcome ≡ option_and_then (λ x. option_and_then (λ y. narrow (infix_of op x y)) right) left) }
 {
     match (left, right) {
-        (Some(first), Some(second)) => narrowed(infix(alloc, op, &first, &second)),
+        (Some(first), Some(second)) => narrow_answer(infix(alloc, op, &first, &second)),
         (Some(_), None) | (None, _) => Ok(None),
     }
 }

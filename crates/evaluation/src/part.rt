@@ -81,16 +81,16 @@ fn cell_value(alloc: Global, arg: &Arg) -> Result<Value, Memory>
     ensures { IfOk result (λ value. value ≡ cell_value arg.now) }
 {
     match arg {
-        Arg::One(value) => filled(alloc, value),
+        Arg::One(value) => zero_if_empty(alloc, value),
         Arg::Area(grid) => match grid.items() {
-            [value, ..] => filled(alloc, value),
-            [] => filled(alloc, &Value::Empty),
+            [value, ..] => zero_if_empty(alloc, value),
+            [] => zero_if_empty(alloc, &Value::Empty),
         },
     }
 }
 
 // A value, and 0 where it is empty.
-fn filled(alloc: Global, value: &Value) -> Result<Value, Memory>
+fn zero_if_empty(alloc: Global, value: &Value) -> Result<Value, Memory>
     ensures { IfOk result (λ v. v ≡ filled value.now) }
 {
     match value {

@@ -38,16 +38,21 @@ pub fn form_part<C: FormsOfCells>(alloc: Global, forms: &C, expr: &Expr) -> Resu
             let args = arguments(alloc, forms, *function, args)?;
             call_part(alloc, forms, span, *function, args)
         }
-        Node::Plus(of) => signed(alloc, forms, span, of),
-        Node::Minus(of) => negated(alloc, forms, span, of),
+        Node::Plus(of) => with_plus(alloc, forms, span, of),
+        Node::Minus(of) => with_minus(alloc, forms, span, of),
         Node::Percent(of) => in_hundredths(alloc, forms, span, of),
-        Node::Infix(op, left, right) => joined(alloc, forms, span, *op, left, right),
+        Node::Infix(op, left, right) => with_infix(alloc, forms, span, *op, left, right),
     }
 }
 
 // A formula with a plus in front. The operators stand apart, so that a level of a formula takes little of the stack.
 #[cycle(extracting)]
-fn signed<C: FormsOfCells>(alloc: Global, forms: &C, span: Span, of: &Expr) -> Result<Part, Memory>
+fn with_plus<C: FormsOfCells>(
+    alloc: Global,
+    forms: &C,
+    span: Span,
+    of: &Expr,
+) -> Result<Part, Memory>
     ensures { IfOk result (λ part. part ≡ signed span (part_of (C.forms forms.now) of.now)) }
 {
     let part = form_part(alloc, forms, of)?;
@@ -56,7 +61,12 @@ fn signed<C: FormsOfCells>(alloc: Global, forms: &C, span: Span, of: &Expr) -> R
 
 // A formula with a minus in front.
 #[cycle(extracting)]
-fn negated<C: FormsOfCells>(alloc: Global, forms: &C, span: Span, of: &Expr) -> Result<Part, Memory>
+fn with_minus<C: FormsOfCells>(
+    alloc: Global,
+    forms: &C,
+    span: Span,
+    of: &Expr,
+) -> Result<Part, Memory>
     ensures { IfOk result (λ part. part ≡ turned span minus_form (part_of (C.forms forms.now) of.now)) }
 {
     let part = form_part(alloc, forms, of)?;
@@ -79,7 +89,7 @@ fn in_hundredths<C: FormsOfCells>(
 
 // An operator between two formulas.
 #[cycle(extracting)]
-fn joined<C: FormsOfCells>(
+fn with_infix<C: FormsOfCells>(
     alloc: Global,
     forms: &C,
     span: Span,

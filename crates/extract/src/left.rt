@@ -13,16 +13,16 @@ pub(crate) fn left_by(alloc: Global, arg: &AbsArg) -> Result<Abs, Memory>
     ensures { IfOk result (λ left. left ≡ filled (left_by arg.now)) }
 {
     match arg {
-        AbsArg::One(value) => filled(alloc, value),
+        AbsArg::One(value) => zero_if_empty(alloc, value),
         AbsArg::Area(grid) => match grid.items() {
-            [value, ..] => filled(alloc, value),
-            [] => filled(alloc, &Abs::Known(Value::Empty)),
+            [value, ..] => zero_if_empty(alloc, value),
+            [] => zero_if_empty(alloc, &Abs::Known(Value::Empty)),
         },
     }
 }
 
 // A form, and 0 where it is empty.
-fn filled(alloc: Global, value: &Abs) -> Result<Abs, Memory>
+fn zero_if_empty(alloc: Global, value: &Abs) -> Result<Abs, Memory>
     ensures { IfOk result (λ left. left ≡ filled value.now) }
 {
     match value {

@@ -64,11 +64,11 @@ fn formula_form(
         table: got,
     };
     let part = form_part(alloc, &known, tree)?;
-    formed(alloc, &known, &part)
+    form_of_part(alloc, &known, &part)
 }
 
 // The form of a formula that is a part: blocked where a cell at which it looks has no form, and else what the part comes to.
-fn formed(alloc: Global, known: &Known, part: &Part) -> Result<CellForm, Memory>
+fn form_of_part(alloc: Global, known: &Known, part: &Part) -> Result<CellForm, Memory>
     ensures { IfOk result (λ form. form ≡ by_looks (least_without (known_form (book_of known.now.book.now) known.now.adj.now known.now.table.now) part.now.looks) part.now.outcome) }
 {
     if let Some(cell) = least_without(known, part.looks()) {

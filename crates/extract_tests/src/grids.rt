@@ -23,9 +23,9 @@ fn cells_of_references(rt: HostRuntime) -> Result<(), Fail> {
         return Err(Fail::from("no square"));
     }
     assert!(rt; grid.cells() == [A1, B1, A2, B2].as_slice());
-    assert!(rt; grid.exchanged(alloc)?.cells() == [A1, A2, B1, B2].as_slice());
+    assert!(rt; grid.transpose(alloc)?.cells() == [A1, A2, B1, B2].as_slice());
     assert!(rt; grid.first_column(alloc)?.as_slice() == [A1, A2].as_slice());
-    assert!(rt; grid.picked(alloc, Pick::Part(1, 0, 1, 1))?.as_slice() == [A2, B2].as_slice());
+    assert!(rt; grid.cells_in(alloc, Pick::Part(1, 0, 1, 1))?.as_slice() == [A2, B2].as_slice());
     assert!(rt; grid.cell_at(0, 1) == B1);
     Ok(())
 }

@@ -4,7 +4,7 @@ use crate::sheet::{A1, A2, B1, Sheet, area};
 use cell_refs::{Cell, Op, Span};
 use form_extraction::{Outcome, Why};
 use form_parts::{
-    Part, Values, all_looks, copied, infix_part, known_part, reference_part, refused_by,
+    Part, Values, all_looks, copy_outcome, infix_part, known_part, reference_part, refused_by,
     table_part, unread, values_of,
 };
 use form_values::OpRefusal;
@@ -92,7 +92,7 @@ fn values_stop_at_the_first_without(rt: HostRuntime) -> Result<(), Fail> {
     let Values::Stop(stop) = values_of(alloc, &args)? else {
         return Err(Fail::from("values"));
     };
-    let Outcome::Without = copied(alloc, &stop)? else {
+    let Outcome::Without = copy_outcome(alloc, &stop)? else {
         return Err(Fail::from("another outcome"));
     };
     Ok(())

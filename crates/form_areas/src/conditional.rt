@@ -41,11 +41,11 @@ pub fn sumif(alloc: Global, args: &[AbsArg]) -> Result<AbsArg, OpRefusal>
     ensures answer { Answers (sumif_form args.now) result }
     ensures right { IsTrueCall func.SumIf args.now result }
 {
-    summed(alloc, args)
+    sum_over(alloc, args)
 }
 
 // The sum over two or three arguments.
-fn summed(alloc: Global, args: &[AbsArg]) -> Result<AbsArg, OpRefusal>
+fn sum_over(alloc: Global, args: &[AbsArg]) -> Result<AbsArg, OpRefusal>
     requires { Takes func.SumIf (length args.now) }
     ensures { Answers (sumif_form args.now) result }
 {
@@ -187,11 +187,11 @@ pub fn countif(args: &[AbsArg]) -> Result<AbsArg, OpRefusal>
     ensures right { IsTrueCall func.CountIf args.now result }
     ensures refused { IfErr result IsUndecided }
 {
-    counted(args)
+    count_open(args)
 }
 
 // What COUNTIF answers where an argument is open.
-fn counted(args: &[AbsArg]) -> Result<AbsArg, OpRefusal>
+fn count_open(args: &[AbsArg]) -> Result<AbsArg, OpRefusal>
     requires takes { length args.now ≡ 2 }
     requires open_argument { list_all all_known args.now ≡ false }
     ensures answer { Answers (of_two countif_form args.now) result }

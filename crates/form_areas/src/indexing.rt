@@ -59,7 +59,7 @@ fn one_place(rows: u32, cols: u32, place: &Operand) -> Result<Pick, OpRefusal>
         return Ok(Pick::Fault(*kind));
     }
     match known_number(place) {
-        Some(number) => Ok(sheet_funcs::index_at(rows, cols, &[known(number)])),
+        Some(number) => Ok(sheet_funcs::index_at(rows, cols, &[number_arg(number)])),
         None => Err(OpRefusal::Undecided(1)),
     }
 }
@@ -93,7 +93,7 @@ fn pick(rows: u32, cols: u32, row: Frac, column: Frac) -> Pick
     ensures pick { result ≡ pick_of rows cols (One (Number row) ∷ One (Number column) ∷ []) }
     ensures within { IsWithin rows cols result }
 {
-    sheet_funcs::index_at(rows, cols, &[known(row), known(column)])
+    sheet_funcs::index_at(rows, cols, &[number_arg(row), number_arg(column)])
 }
 
 // A fault of the place that is known, or else the other place decides.
@@ -118,7 +118,7 @@ fn first_undecided(row: &Operand, column: &Operand) -> u16
 }
 
 // A known number as an argument.
-fn known(number: Frac) -> Arg
+fn number_arg(number: Frac) -> Arg
     ensures { result ≡ One (Number number) }
 {
     Arg::One(Value::Number(number))

@@ -36,11 +36,11 @@ pub fn mmult(alloc: Global, args: &[AbsArg]) -> Result<AbsArg, OpRefusal>
     ensures answer { Answers (row_of func.MMult args.now) result }
     ensures right { IsTrueMatrixProduct args.now result }
 {
-    multiplied(alloc, args)
+    product_of(alloc, args)
 }
 
 // The product of two grids.
-fn multiplied(alloc: Global, args: &[AbsArg]) -> Result<AbsArg, OpRefusal>
+fn product_of(alloc: Global, args: &[AbsArg]) -> Result<AbsArg, OpRefusal>
     requires { length args.now ≡ 2 }
     ensures { Answers (of_two mmult_form args.now) result }
 {
@@ -146,11 +146,11 @@ pub fn transpose(alloc: Global, args: &[AbsArg]) -> Result<AbsArg, OpRefusal>
     let [arg] = args else {
         unreachable!();
     };
-    Ok(transposed(alloc, arg)?)
+    Ok(transpose_elements(alloc, arg)?)
 }
 
 /// The elements of any argument with rows and columns exchanged.
-pub fn transposed(alloc: Global, arg: &AbsArg) -> Result<AbsArg, Memory>
+pub fn transpose_elements(alloc: Global, arg: &AbsArg) -> Result<AbsArg, Memory>
     ensures { IfOk result (λ across. across ≡ Area (transposed (grid_of arg.now))) }
 {
     let (rows, columns) = size_of(arg);

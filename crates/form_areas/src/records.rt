@@ -49,7 +49,7 @@ pub fn record_at(
     ensures within { IfOk result (λ found. IfOk found (λ place. (place.0 < length keys.now) × (place.1 < fields))) }
     ensures refused { IfErr result IsUndecidedOrMemory }
 {
-    recorded(
+    record_by(
         alloc,
         fields,
         keys,
@@ -60,7 +60,7 @@ pub fn record_at(
 }
 
 // The same with what stands where the field's number is wanted, and with the kind of search, where that is known.
-fn recorded(
+fn record_by(
     alloc: Global,
     fields: u32,
     keys: &[Abs],
@@ -203,7 +203,7 @@ fn by_kind(
     let key = Arg::One(key.copy(alloc)?);
     let keys = line(alloc, keys)?;
     match kind {
-        Some(kind) => Ok(record_of(field, found(kind, &key, &keys))),
+        Some(kind) => Ok(record_of(field, place_of_key(kind, &key, &keys))),
         None if is_missing(&key, &keys) => Ok(Err(ErrorKind::NotAvailable)),
         None => Err(OpRefusal::Undecided(3)),
     }
@@ -236,7 +236,7 @@ fn value_in(alloc: Global, item: &Abs) -> Result<Value, Memory>
 }
 
 // Where the key is found among the keys in one row.
-fn found(kind: MatchKind, key: &Arg, keys: &Arg) -> Option<u32>
+fn place_of_key(kind: MatchKind, key: &Arg, keys: &Arg) -> Option<u32>
     requires row { (grid_of keys.now).rows ≡ 1 }
     requires key { no_error (value_in_arg key.now) ≡ Ok (value_in_arg key.now) }
     ensures place { result ≡ found_in kind key.now keys.now }
@@ -265,7 +265,8 @@ fn is_missing(key: &Arg, keys: &Arg) -> bool
     requires key { no_error (value_in_arg key.now) ≡ Ok (value_in_arg key.now) }
     ensures { result ≡ is_none (found_in Equal key.now keys.now) && is_none (found_in Rising key.now keys.now) }
 {
-    found(MatchKind::Equal, key, keys).is_none() && found(MatchKind::Rising, key, keys).is_none()
+    place_of_key(MatchKind::Equal, key, keys).is_none()
+        && place_of_key(MatchKind::Rising, key, keys).is_none()
 }
 
 // The record that is found, with the field.

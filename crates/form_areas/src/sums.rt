@@ -25,11 +25,11 @@ pub fn sum(alloc: Global, args: &[AbsArg]) -> Result<AbsArg, OpRefusal>
     ensures answer { Answers (row_of func.Sum args.now) result }
     ensures right { IsTrueCall func.Sum args.now result }
 {
-    summed(alloc, args)
+    sum_of(alloc, args)
 }
 
 // What is made of the sum: an error among the numbers, or an open logical in the place of one, comes first.
-fn summed(alloc: Global, args: &[AbsArg]) -> Result<AbsArg, OpRefusal>
+fn sum_of(alloc: Global, args: &[AbsArg]) -> Result<AbsArg, OpRefusal>
     requires { length args.now ≤ 2 ^ 16 }
     ensures { Answers (sum_form args.now) result }
 {
@@ -50,11 +50,11 @@ pub fn average(alloc: Global, args: &[AbsArg]) -> Result<AbsArg, OpRefusal>
     ensures answer { Answers (row_of func.Average args.now) result }
     ensures right { IsTrueCall func.Average args.now result }
 {
-    averaged(alloc, args)
+    average_of(alloc, args)
 }
 
 // What is made of the mean: an error among the numbers, or an open logical in the place of one, comes first.
-fn averaged(alloc: Global, args: &[AbsArg]) -> Result<AbsArg, OpRefusal>
+fn average_of(alloc: Global, args: &[AbsArg]) -> Result<AbsArg, OpRefusal>
     requires { length args.now ≤ 2 ^ 16 }
     ensures { Answers (average_form args.now) result }
 {

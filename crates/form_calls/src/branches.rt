@@ -17,7 +17,7 @@ use affine_forms::Form;
 use cell_refs::{Cell, Span};
 use form_extraction::Outcome;
 use form_ops::{if_test, value_of};
-use form_parts::{Part, copied, outcome_by, push_looks};
+use form_parts::{Part, copy_outcome, outcome_by, push_looks};
 use form_values::{Abs, AbsArg, Rel};
 use memory::Memory;
 use sheet_model::{Value, to_logical};
@@ -108,11 +108,11 @@ fn both_branches(
     let without = Outcome::Gives(AbsArg::One(Abs::Known(Value::Logical(false))));
     let first = branch(args, 1, &without);
     let Outcome::Gives(holding) = first else {
-        return copied(alloc, first);
+        return copy_outcome(alloc, first);
     };
     let second = branch(args, 2, &without);
     let Outcome::Gives(failing) = second else {
-        return copied(alloc, second);
+        return copy_outcome(alloc, second);
     };
     outcome_by(
         whole,

@@ -8,7 +8,7 @@ ghost use Rattle.recalculation.specs.Looks.{all_looks};
 
 use cell_refs::{Cell, ErrorKind, Span};
 use form_extraction::Outcome;
-use form_parts::{Part, all_looks, copied, refused_by};
+use form_parts::{Part, all_looks, copy_outcome, refused_by};
 use form_values::{Abs, AbsArg, OpRefusal};
 use memory::Memory;
 use sheet_model::Value;
@@ -24,7 +24,7 @@ pub(crate) fn valueless_part(
     requires { value_in argument.now.outcome ≡ None }
     ensures { IfOk result (λ part. part ≡ record { span = whole; looks = looks.items; outcome = argument.now.outcome; reference = None }) }
 {
-    let outcome = copied(alloc, argument.outcome())?;
+    let outcome = copy_outcome(alloc, argument.outcome())?;
     Ok(Part::new(whole, looks, outcome, None))
 }
 

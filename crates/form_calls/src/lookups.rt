@@ -15,7 +15,7 @@ use crate::places::{key_places, push_cells_at};
 use crate::source::{Source, elements_at};
 use cell_grids::Reference;
 use cell_refs::{Cell, ErrorKind, Span};
-use form_areas::{record_at, transposed};
+use form_areas::{record_at, transpose_elements};
 use form_extraction::Outcome;
 use form_parts::{FormsOfCells, Part, Values, push_cells, push_looks, values_of};
 use form_values::{Abs, AbsArg};
@@ -94,7 +94,7 @@ fn across<C: FormsOfCells>(
     ensures { IfOk result (λ part. part ≡ record { span = whole; looks = lookup_looks by_form (C.forms forms.now) exchanged_cells (argument key.now ∷ argument table.now ∷ map argument rest.now); outcome = lookup_outcome (C.forms forms.now) exchanged_cells exchanged whole (key.now ∷ table.now ∷ rest.now); reference = None }) }
 {
     if let Some(grid) = table.reference() {
-        let turned = grid.exchanged(alloc)?;
+        let turned = grid.transpose(alloc)?;
         return among_cells(alloc, forms, whole, args, &turned, key, rest);
     }
     let looks = looks_in_turn(alloc, table, key, rest)?;
@@ -104,7 +104,7 @@ fn across<C: FormsOfCells>(
     let Some(value) = table.value() else {
         return valueless_part(alloc, whole, looks, table);
     };
-    let turned = transposed(alloc, value)?;
+    let turned = transpose_elements(alloc, value)?;
     among_values(alloc, forms, whole, args, looks, &turned, key, rest)
 }
 

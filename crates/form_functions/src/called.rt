@@ -47,7 +47,7 @@ fn known_called(alloc: Global, function: Func, args: &[AbsArg]) -> Result<AbsArg
 {
     let values = known_values(alloc, args)?;
     match call(alloc, function, &values) {
-        Ok(value) => Ok(AbsArg::known(alloc, value)?),
+        Ok(value) => Ok(AbsArg::of_known(alloc, value)?),
         Err(FuncStop::Wide) => Err(OpRefusal::Wide),
         Err(FuncStop::Memory) => Err(OpRefusal::Memory),
     }

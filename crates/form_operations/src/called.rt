@@ -18,7 +18,7 @@ use sheet_model::{Arg, Value};
 use std::alloc::Global;
 
 /// What an operator or a function makes of some arguments.
-pub(crate) fn called(alloc: Global, name: &str, args: &[AbsArg]) -> Result<AbsArg, Stop> {
+pub(crate) fn answer_to_call(alloc: Global, name: &str, args: &[AbsArg]) -> Result<AbsArg, Stop> {
     if let Some(function) = Func::find(name) {
         return function_called(alloc, function, args);
     }
@@ -113,14 +113,14 @@ fn function_called(alloc: Global, function: Func, args: &[AbsArg]) -> Result<Abs
 }
 
 /// The elements of a copy of an argument; its known values; or the elements of the argument that they are.
-pub(crate) fn copied(alloc: Global, name: &str, rest: &str) -> Result<String, Stop> {
+pub(crate) fn answer_to_copy(alloc: Global, name: &str, rest: &str) -> Result<String, Stop> {
     let arg = argument(alloc, rest)?;
     let mut text = String::new(alloc);
     match name {
         "copy" => show_elements(arg.copy(alloc)?.elements(), &mut text)?,
         "values" => show_values(&arg.values(alloc)?, &mut text)?,
         _ => {
-            let known = AbsArg::known(alloc, arg.values(alloc)?)?;
+            let known = AbsArg::of_known(alloc, arg.values(alloc)?)?;
             show_elements(known.elements(), &mut text)?;
         }
     }

@@ -21,7 +21,7 @@ pub(crate) fn form_made(alloc: Global, rest: &str) -> Result<String, Stop> {
     };
     let left = form(alloc, &numbers(alloc, left)?)?;
     let right = numbers(alloc, right)?;
-    let made = operated(alloc, name, left, &right)?;
+    let made = result_of(alloc, name, left, &right)?;
     let mut text = String::new(alloc);
     show_form(&made, &mut text)?;
     if let Some(other) = other {
@@ -72,12 +72,12 @@ fn part(alloc: Global, place: usize, number: Frac) -> Result<Form, Stop> {
 }
 
 // What an operation makes of a form. A logical is 1 or 0.
-fn operated(alloc: Global, name: &str, left: Form, right: &[Frac]) -> Result<Form, Stop> {
+fn result_of(alloc: Global, name: &str, left: Form, right: &[Frac]) -> Result<Form, Stop> {
     match name {
         "neg" => Ok(left.neg(alloc)?),
         "copy" => Ok(left.copy(alloc)?),
         "at" => worth(alloc, &left, right),
-        _ => joined(alloc, name, left, &form(alloc, right)?),
+        _ => result_of_two(alloc, name, left, &form(alloc, right)?),
     }
 }
 
@@ -90,7 +90,7 @@ fn worth(alloc: Global, form: &Form, at: &[Frac]) -> Result<Form, Stop> {
 }
 
 // What an operation makes of two forms.
-fn joined(alloc: Global, name: &str, left: Form, right: &Form) -> Result<Form, Stop> {
+fn result_of_two(alloc: Global, name: &str, left: Form, right: &Form) -> Result<Form, Stop> {
     match name {
         "add" => Ok(left.add(alloc, right)?),
         "sub" => Ok(left.sub(alloc, right)?),

@@ -61,12 +61,12 @@ fn value(alloc: Global, text: &str) -> Result<Abs, Stop> {
     }
     match form(alloc, text)? {
         Some(form) => Ok(Abs::entry(form)),
-        None => Ok(Abs::Known(known(text)?)),
+        None => Ok(Abs::Known(known_value(text)?)),
     }
 }
 
 // A value that isn't a text.
-fn known(text: &str) -> Result<Value, Stop> {
+fn known_value(text: &str) -> Result<Value, Stop> {
     Ok(match text {
         "" => Value::Empty,
         "TRUE" => Value::Logical(true),

@@ -13,7 +13,7 @@ mod picked;
 mod shown;
 mod stop;
 
-use crate::called::{called, copied};
+use crate::called::{answer_to_call, answer_to_copy};
 use crate::forms::form_made;
 use crate::given::arguments;
 use crate::picked::{column_found, index_picked, match_picked};
@@ -24,14 +24,14 @@ use std::io;
 
 fn main(rt: HostRuntime) -> io::Result<()> {
     for line in rt.lines(rt.alloc()) {
-        let text = printed(rt.alloc(), line?.as_str())?;
+        let text = line_for(rt.alloc(), line?.as_str())?;
         println!(rt; "{text}")?;
     }
     Ok(())
 }
 
 // What is printed for a line.
-fn printed(alloc: Global, line: &str) -> Result<String, AllocError> {
+fn line_for(alloc: Global, line: &str) -> Result<String, AllocError> {
     if line.starts_with('#') {
         return String::from_str(alloc, line);
     }
@@ -53,15 +53,15 @@ fn answer(alloc: Global, line: &str) -> Result<String, Stop> {
         "index" => index_picked(alloc, rest),
         "match" => match_picked(alloc, rest),
         "vlookup" => column_found(alloc, rest),
-        "copy" | "values" | "known" => copied(alloc, name, rest),
-        _ => operated(alloc, name, rest),
+        "copy" | "values" | "known" => answer_to_copy(alloc, name, rest),
+        _ => answer_of_call(alloc, name, rest),
     }
 }
 
 // The answer of an operator or of a function.
-fn operated(alloc: Global, name: &str, rest: &str) -> Result<String, Stop> {
+fn answer_of_call(alloc: Global, name: &str, rest: &str) -> Result<String, Stop> {
     let args = arguments(alloc, rest)?;
-    let value = called(alloc, name, &args)?;
+    let value = answer_to_call(alloc, name, &args)?;
     let mut text = String::new(alloc);
     show_argument(&value, &mut text)?;
     Ok(text)

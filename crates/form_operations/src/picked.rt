@@ -16,7 +16,7 @@ pub(crate) fn index_picked(alloc: Global, rest: &str) -> Result<String, Stop> {
     if rows == 0 || columns == 0 || places.len() < 1 || places.len() > 2 {
         return Err(Stop::Unread);
     }
-    shown(alloc, index_at(rows, columns, &places)?)
+    pick_text(alloc, index_at(rows, columns, &places)?)
 }
 
 /// The place at which MATCH finds a key: behind the key stand the keys and the kind.
@@ -25,11 +25,11 @@ pub(crate) fn match_picked(alloc: Global, rest: &str) -> Result<String, Stop> {
     let [key, keys, kind] = args.as_slice() else {
         return Err(Stop::Unread);
     };
-    shown(alloc, lookup_at(alloc, key, keys, kind)?)
+    pick_text(alloc, lookup_at(alloc, key, keys, kind)?)
 }
 
 // The first row and column of a part and the last ones, from 0.
-fn shown(alloc: Global, pick: Pick) -> Result<String, Stop> {
+fn pick_text(alloc: Global, pick: Pick) -> Result<String, Stop> {
     match pick {
         Pick::Part(top, left, bottom, right) => {
             Ok(format!(in alloc; "{top},{left},{bottom},{right}")?)

@@ -16,7 +16,7 @@ use std::alloc::Global;
 use std::cmp::Ordering;
 
 /// Whether a comparison of two values holds; the first that is an error is the result.
-pub(crate) fn compared(alloc: Global, op: Op, a: &Abs, b: &Abs) -> Result<Abs, OpRefusal>
+pub(crate) fn comparison(alloc: Global, op: Op, a: &Abs, b: &Abs) -> Result<Abs, OpRefusal>
     ensures { Answers (compared op a.now b.now) result }
 {
     if let Abs::Known(Value::Error(kind)) = a {

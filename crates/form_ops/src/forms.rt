@@ -29,15 +29,15 @@ pub(crate) fn on_form(alloc: Global, change: Change, operand: &Operand) -> Resul
     ensures in_place { change ≡ changes.Bend → IfErr result IsNoWant }
 {
     match operand {
-        Operand::Known(number) => changed(alloc, change, &Form::constant(alloc, *number)),
-        Operand::Open(form) => changed(alloc, change, form),
+        Operand::Known(number) => change_of(alloc, change, &Form::constant(alloc, *number)),
+        Operand::Open(form) => change_of(alloc, change, form),
         Operand::Test => Err(OpRefusal::Undecided(0)),
         Operand::Fault(kind) => Ok(fault(*kind)),
     }
 }
 
 // What is made of a form.
-fn changed(alloc: Global, change: Change, form: &Form) -> Result<Abs, OpRefusal>
+fn change_of(alloc: Global, change: Change, form: &Form) -> Result<Abs, OpRefusal>
     ensures answer { Answers (change_row change form.now) result }
     ensures in_place { change ≡ changes.Bend → IfErr result IsNoWant }
 {

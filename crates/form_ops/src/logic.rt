@@ -59,13 +59,13 @@ fn negation(alloc: Global, arg: &AbsArg) -> Result<AbsArg, OpRefusal>
     ensures { Answers (not_form arg.now) result }
 {
     match value_of(arg) {
-        Ok(value) => Ok(AbsArg::One(negated(alloc, value)?)),
+        Ok(value) => Ok(AbsArg::One(other_logical(alloc, value)?)),
         Err(kind) => Ok(AbsArg::One(fault(kind))),
     }
 }
 
 // The other logical.
-fn negated(alloc: Global, value: &Abs) -> Result<Abs, Memory>
+fn other_logical(alloc: Global, value: &Abs) -> Result<Abs, Memory>
     ensures { IfOk result (λ other. other ≡ not_abs value.now) }
 {
     match value {
@@ -74,12 +74,12 @@ fn negated(alloc: Global, value: &Abs) -> Result<Abs, Memory>
             Err(kind) => Ok(fault(kind)),
         },
         Abs::Affine(form) => Ok(Abs::Test(form.copy(alloc)?, Rel::Eq)),
-        Abs::Test(form, relation) => Ok(Abs::Test(form.copy(alloc)?, reversed(*relation))),
+        Abs::Test(form, relation) => Ok(Abs::Test(form.copy(alloc)?, complement(*relation))),
     }
 }
 
 // The relation that holds where another doesn't.
-fn reversed(relation: Rel) -> Rel
+fn complement(relation: Rel) -> Rel
     ensures { result ≡ reversed relation }
 {
     match relation {
@@ -98,7 +98,7 @@ fn junction(alloc: Global, deciding: bool, args: &[AbsArg]) -> Result<AbsArg, Op
     ensures { Answers (junction deciding args.now) result }
 {
     let seen = seen_in_all(alloc, deciding, args)?;
-    as_one(concluded(deciding, seen))
+    as_one(conclusion(deciding, seen))
 }
 
 // The open logicals among some.
@@ -121,7 +121,7 @@ struct Seen {
 }
 
 // What is made of them.
-fn concluded(deciding: bool, seen: Seen) -> Result<Abs, OpRefusal>
+fn conclusion(deciding: bool, seen: Seen) -> Result<Abs, OpRefusal>
     ensures { Answers (concluded deciding seen) result }
 {
     let Seen {

@@ -136,14 +136,24 @@ fn on_second(
     ensures in_place { NeverAffine pairing → IfErr result IsNoWant }
 {
     match second {
-        Operand::Known(number) => paired(alloc, pairing, first, &Form::constant(alloc, *number)),
-        Operand::Open(form) => paired(alloc, pairing, first, form),
+        Operand::Known(number) => pair_result(
+            alloc,
+            pairing,
+            first,
+            &Form::constant(alloc, *number),
+        ),
+        Operand::Open(form) => pair_result(alloc, pairing, first, form),
         Operand::Test | Operand::Fault(_) => Err(OpRefusal::Undecided(1)),
     }
 }
 
 // What is made of two forms.
-fn paired(alloc: Global, pairing: Pairing, first: &Form, second: &Form) -> Result<Abs, OpRefusal>
+fn pair_result(
+    alloc: Global,
+    pairing: Pairing,
+    first: &Form,
+    second: &Form,
+) -> Result<Abs, OpRefusal>
     ensures answer { Answers (pairing_row pairing first.now second.now) result }
     ensures in_place { NeverAffine pairing → IfErr result IsNoWant }
 {
@@ -184,11 +194,11 @@ fn power(alloc: Global, first: &Form, second: &Form) -> Result<Abs, OpRefusal>
     ensures { Answers (power_row first.now second.now) result }
 {
     let exponent = constant_of(second);
-    raised(alloc, first, exponent)
+    power_of(alloc, first, exponent)
 }
 
 // A form to a power: only the powers 0 and 1 are affine.
-fn raised(alloc: Global, first: &Form, exponent: Option<Frac>) -> Result<Abs, OpRefusal>
+fn power_of(alloc: Global, first: &Form, exponent: Option<Frac>) -> Result<Abs, OpRefusal>
     ensures { Answers (raised_to first.now exponent) result }
 {
     match exponent {

@@ -68,11 +68,11 @@ pub fn round(alloc: Global, args: &[AbsArg]) -> Result<AbsArg, OpRefusal>
     ensures right { IsTrueCall func.Round args.now result }
     ensures in_place { IfErr result IsNoWant }
 {
-    rounded(alloc, args)
+    round_open(alloc, args)
 }
 
 // A number rounded to a whole number, or at a place.
-fn rounded(alloc: Global, args: &[AbsArg]) -> Result<AbsArg, OpRefusal>
+fn round_open(alloc: Global, args: &[AbsArg]) -> Result<AbsArg, OpRefusal>
     requires { Takes func.Round (length args.now) }
     ensures answer { Answers (row_of func.Round args.now) result }
     ensures in_place { IfErr result IsNoWant }

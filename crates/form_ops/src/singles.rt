@@ -2,12 +2,12 @@
 ghost use Rattle.form_table.specs.Operators.{infix_abs, infix_row, minus_abs, percent_abs};
 ghost use Rattle.form_values.specs.Trials.{Answers};
 
-use crate::comparing::compared;
+use crate::comparing::comparison;
 use crate::forms::{Change, on_form};
 use crate::knowns::{known_infix, known_minus, known_percent};
 use crate::operand::operand_of;
 use crate::pairing::{Pairing, on_values};
-use crate::texts::joined;
+use crate::texts::concatenation;
 use cell_refs::Op;
 use form_values::{Abs, OpRefusal};
 use std::alloc::Global;
@@ -32,8 +32,8 @@ fn infix_row(alloc: Global, op: Op, a: &Abs, b: &Abs) -> Result<Abs, OpRefusal>
         Op::Mul => on_values(alloc, Pairing::Product, a, b),
         Op::Div => on_values(alloc, Pairing::Quotient, a, b),
         Op::Pow => on_values(alloc, Pairing::Power, a, b),
-        Op::Cat => joined(a, b),
-        Op::Eq | Op::Ne | Op::Lt | Op::Le | Op::Gt | Op::Ge => compared(alloc, op, a, b),
+        Op::Cat => concatenation(a, b),
+        Op::Eq | Op::Ne | Op::Lt | Op::Le | Op::Gt | Op::Ge => comparison(alloc, op, a, b),
     }
 }
 

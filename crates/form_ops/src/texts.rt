@@ -7,7 +7,7 @@ use form_values::{Abs, OpRefusal};
 use sheet_model::Value;
 
 /// Two values of which one is open, joined: the first error is the result, and else the first that is open decides.
-pub(crate) fn joined(a: &Abs, b: &Abs) -> Result<Abs, OpRefusal>
+pub(crate) fn concatenation(a: &Abs, b: &Abs) -> Result<Abs, OpRefusal>
     ensures { Answers (joined a.now b.now) result }
 {
     if let Abs::Known(Value::Error(kind)) = a {

@@ -18,6 +18,6 @@ pub use cells::{FormsOfCells, forms_of};
 pub use elements::{grid_of, single_of};
 pub use literals::{array_part, known_part};
 pub use operators::{infix_part, minus_part, percent_part, plus_part};
-pub use outcomes::{copied, outcome_by, refused_by};
+pub use outcomes::{copy_outcome, outcome_by, refused_by};
 pub use part::Part;
 pub use references::{reference_part, table_part, unread};

@@ -18,7 +18,7 @@ use std::alloc::Global;
 pub fn known_part(alloc: Global, span: Span, value: Arg) -> Result<Part, Memory>
     ensures { IfOk result (λ part. part ≡ plain span value) }
 {
-    Ok(Part::plain(alloc, span, AbsArg::known(alloc, value)?))
+    Ok(Part::plain(alloc, span, AbsArg::of_known(alloc, value)?))
 }
 
 /// An array of so many rows and columns.

@@ -4,7 +4,7 @@ ghost use Rattle.form_extraction.specs.Formulas.{joined, signed, turned};
 ghost use Rattle.form_extraction.specs.Parts.{on_part, outcome_by};
 ghost use Rattle.form_table.specs.Operators.{minus_form, percent_form};
 
-use crate::outcomes::{copied, outcome_by, outcome_of_two};
+use crate::outcomes::{copy_outcome, outcome_by, outcome_of_two};
 use crate::part::Part;
 use cell_refs::{Op, Span};
 use form_extraction::Outcome;
@@ -73,7 +73,7 @@ fn minus_outcome(alloc: Global, span: Span, part: &Part) -> Result<Outcome, Memo
     ensures { IfOk result (λ outcome. outcome ≡ on_part part.now (λ a. outcome_by span (part.now ∷ []) (minus_form a))) }
 {
     let Outcome::Gives(value) = &part.outcome else {
-        return copied(alloc, &part.outcome);
+        return copy_outcome(alloc, &part.outcome);
     };
     outcome_by(span, std::slice::from_ref(part), minus(alloc, value))
 }
@@ -83,7 +83,7 @@ fn percent_outcome(alloc: Global, span: Span, part: &Part) -> Result<Outcome, Me
     ensures { IfOk result (λ outcome. outcome ≡ on_part part.now (λ a. outcome_by span (part.now ∷ []) (percent_form a))) }
 {
     let Outcome::Gives(value) = &part.outcome else {
-        return copied(alloc, &part.outcome);
+        return copy_outcome(alloc, &part.outcome);
     };
     outcome_by(span, std::slice::from_ref(part), percent(alloc, value))
 }
@@ -99,10 +99,10 @@ fn infix_outcome(
     ensures { IfOk result (λ outcome. outcome ≡ (joined span op left.now right.now).outcome) }
 {
     let Outcome::Gives(first) = &left.outcome else {
-        return copied(alloc, &left.outcome);
+        return copy_outcome(alloc, &left.outcome);
     };
     let Outcome::Gives(second) = &right.outcome else {
-        return copied(alloc, &right.outcome);
+        return copy_outcome(alloc, &right.outcome);
     };
     outcome_of_two(span, left, right, infix(alloc, op, first, second))
 }

@@ -99,7 +99,7 @@ fn span_of_two(whole: Span, left: &Part, right: &Part, place: u16) -> Span
 }
 
 /// An equal outcome.
-pub fn copied(alloc: Global, outcome: &Outcome) -> Result<Outcome, Memory>
+pub fn copy_outcome(alloc: Global, outcome: &Outcome) -> Result<Outcome, Memory>
     ensures { IfOk result (λ copy. copy ≡ outcome.now) }
 {
     match outcome {

@@ -184,7 +184,7 @@ impl AbsArg {
     }
 
     /// A known argument.
-    pub fn known(alloc: Global, arg: Arg) -> Result<AbsArg, Memory>
+    pub fn of_known(alloc: Global, arg: Arg) -> Result<AbsArg, Memory>
         ensures { IfOk result (λ a. a ≡ known_arg arg) }
     {
         match arg {

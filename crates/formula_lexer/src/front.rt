@@ -194,7 +194,7 @@ fn quoted_len(quote: u8, bytes: &[u8]) -> Option<usize>
     None
 }
 
-fn quoted(kind: TokenKind, quote: u8, bytes: &[u8]) -> Option<(TokenKind, usize)>
+fn quoted_token(kind: TokenKind, quote: u8, bytes: &[u8]) -> Option<(TokenKind, usize)>
     ensures front { result ≡ of_kind kind 1 (quoted_len quote bytes.now) }
     ensures within { IfSome result (λ t. (0 < t.1) × (t.1 ≤ length bytes.now + 1)) }
 {
@@ -227,9 +227,9 @@ pub fn front(bytes: &[u8]) -> Option<(TokenKind, usize)>
             if starts_number(*b, rest) {
                 Some((TokenKind::Number, number_len(bytes)))
             } else if *b == b'"' {
-                quoted(TokenKind::Text, b'"', rest)
+                quoted_token(TokenKind::Text, b'"', rest)
             } else if *b == b'\'' {
-                quoted(TokenKind::Quoted, b'\'', rest)
+                quoted_token(TokenKind::Quoted, b'\'', rest)
             } else if opens_name(*b, first(rest)) {
                 dollar_quoted(rest)
             } else if *b == b'#' {

@@ -49,7 +49,7 @@ fn with_item(items: Option<Vec<Expr>>, item: Option<Expr>) -> Result<Option<Vec<
 }
 
 // Trees behind other trees.
-fn appended(first: Vec<Expr>, others: Vec<Expr>) -> Result<Vec<Expr>, AllocError>
+fn concatenation(first: Vec<Expr>, others: Vec<Expr>) -> Result<Vec<Expr>, AllocError>
     ensures { IfOk result (λ v. v.items ≡ first.items ++ others.items) }
 {
     let mut exprs = first;
@@ -72,7 +72,7 @@ fn with_items(
     let Some(behind) = others else {
         return Ok(None);
     };
-    let exprs = appended(first, behind)?;
+    let exprs = concatenation(first, behind)?;
     Ok(Some(exprs))
 }
 

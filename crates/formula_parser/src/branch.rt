@@ -147,7 +147,7 @@ impl Branch {
     }
 
     /// In place of a reference to a sheet that there isn't.
-    pub fn lost() -> Branch
+    pub fn without_sheet() -> Branch
         ensures { (tree : Option Tree) → result ≡ branch tree 1 (record { lost = true; miscounted = false; wide = false }) }
     {
         Branch::of(
@@ -260,7 +260,7 @@ fn percent_tree(alloc: Global, place: Span, of: Option<Expr>) -> Result<Option<E
 
 impl Part {
     /// Two parts joined by an infix operator.
-    pub fn joined(alloc: Global, op: Op, left: Part, right: Part) -> Result<Part, AllocError>
+    pub fn infix(alloc: Global, op: Op, left: Part, right: Part) -> Result<Part, AllocError>
         requires left { IsPlaced left }
         requires right { IsPlaced right }
         requires order { left.place.end ≤ right.place.start }
@@ -295,7 +295,7 @@ impl Part {
     }
 
     /// The part with a sign before it; as it is, where the symbol is no sign.
-    pub fn prefixed(self, alloc: Global, sign: Symbol) -> Result<Part, AllocError>
+    pub fn with_sign(self, alloc: Global, sign: Symbol) -> Result<Part, AllocError>
         requires placed { IsPlaced self }
         requires order { sign.span.start ≤ self.place.start }
         ensures made { IfOk result (λ x. (S : Grammar) → x ≡ prefixed_by (built S) (prefix_of sign.sign) sign self) }
@@ -320,7 +320,7 @@ impl Part {
     }
 
     /// The part in parentheses.
-    pub fn enclosed(self, first: Symbol, last: Symbol) -> Part
+    pub fn in_parentheses(self, first: Symbol, last: Symbol) -> Part
         requires placed { IsPlaced self }
         requires before { first.span.start ≤ self.place.start }
         requires behind { self.place.end ≤ last.span.end }

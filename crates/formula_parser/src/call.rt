@@ -115,7 +115,7 @@ fn part_of_call(
 }
 
 /// A call of the function with the name, with these arguments, up to the closing parenthesis.
-pub fn called(
+pub fn call_of_name(
     alloc: Global,
     setting: &Setting,
     name: Symbol,

@@ -116,7 +116,7 @@ fn joined_references<'a>(
     let (union, rest) = references(alloc, setting, symbols)?;
     let place = place_of(&symbols[..symbols.len() - rest.len()]);
     if union.lost {
-        let branch = Branch::lost();
+        let branch = Branch::without_sheet();
         return Ok((Part { branch, place }, rest));
     }
     let part = part_of(Expr {
@@ -144,7 +144,7 @@ fn begins_references(
 }
 
 // References that begin with the word, or what the word is alone.
-fn worded<'a>(
+fn word_leaf<'a>(
     alloc: Global,
     setting: &Setting,
     symbols: &'a [Symbol],
@@ -182,7 +182,7 @@ pub fn leaf<'a>(
             Sign::OpenBrace => array(alloc, setting, *first, rest),
             Sign::Quoted => joined_references(alloc, setting, symbols),
             Sign::OpenSquare => joined_references(alloc, setting, symbols),
-            Sign::Word => worded(alloc, setting, symbols, *first, rest),
+            Sign::Word => word_leaf(alloc, setting, symbols, *first, rest),
             _ => {
                 let part = single(alloc, setting, *first)?;
                 Ok((part, rest))

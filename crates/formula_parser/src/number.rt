@@ -18,7 +18,7 @@ use formula_grammar::{Sign, Symbol};
 use frac128::{Frac, NumeralFault};
 
 // The number with its sign turned, where a minus stands before it.
-fn signed(number: Frac, is_negative: bool) -> Frac
+fn with_sign(number: Frac, is_negative: bool) -> Frac
     ensures { result ≡ (if is_negative then neg_ℚ number else number) }
 {
     if is_negative { number.neg() } else { number }
@@ -37,7 +37,7 @@ pub fn number(
 {
     match Frac::read(setting.slice(symbol)) {
         Ok(number) => {
-            let number = signed(number, is_negative);
+            let number = with_sign(number, is_negative);
             Ok(Some(Expr {
                 span: at,
                 node: Node::Number(number),

@@ -7,7 +7,7 @@ ghost use Rattle.formula_parser.specs.Placed.{AreBefore, AreSymbols, InOrder, Is
 ghost use Rattle.formula_parser.specs.Settings.{seen};
 
 use crate::branch::{Branch, Part};
-use crate::call::called;
+use crate::call::call_of_name;
 use crate::leaf::leaf;
 use crate::setting::Setting;
 use crate::signs::{
@@ -61,7 +61,7 @@ fn level<'a>(alloc: Global, setting: &Setting, depth: u8, at: u8, symbols: &'a [
     let (mut left, mut rest) = level(alloc, setting, depth, at - 1, symbols)?;
     while let Some((op, after)) = next_operator(at, rest) {
         let (right, others) = level(alloc, setting, depth, at - 1, after)?;
-        left = Part::joined(alloc, op, left, right)?;
+        left = Part::infix(alloc, op, left, right)?;
         rest = others;
     }
     Ok((left, rest))
@@ -75,7 +75,7 @@ fn percents<'a>(alloc: Global, setting: &Setting, depth: u8, symbols: &'a [Symbo
     ensures placed { IfOk result (λ x. IsInFront symbols.now x.0 x.1.now) }
     ensures rest { IfOk result (λ x. AreSymbols setting.now.text.now x.1.now) }
 {
-    let (mut part, mut rest) = signed(alloc, setting, depth, symbols)?;
+    let (mut part, mut rest) = signs_and_primary(alloc, setting, depth, symbols)?;
     while let Some((sign, after)) = next_percent(rest) {
         part = part.in_hundredths(alloc, sign)?;
         rest = after;
@@ -85,7 +85,12 @@ fn percents<'a>(alloc: Global, setting: &Setting, depth: u8, symbols: &'a [Symbo
 
 // A part without operators, with the signs before it.
 #[cycle(reading)]
-fn signed<'a>(alloc: Global, setting: &Setting, depth: u8, symbols: &'a [Symbol]) -> Read<'a>
+fn signs_and_primary<'a>(
+    alloc: Global,
+    setting: &Setting,
+    depth: u8,
+    symbols: &'a [Symbol],
+) -> Read<'a>
     requires { AreSymbols setting.now.text.now symbols.now }
     ensures gives { Gives (λ x. (x.0, x.1.now)) result
         (signed_at (built (seen setting.now)) (primaries (seen setting.now) depth) symbols.now) }
@@ -96,7 +101,7 @@ fn signed<'a>(alloc: Global, setting: &Setting, depth: u8, symbols: &'a [Symbol]
     let (mut part, rest) = primary(alloc, setting, depth, &symbols[left..])?;
     while left > 0 {
         left -= 1;
-        part = part.prefixed(alloc, symbols[left])?;
+        part = part.with_sign(alloc, symbols[left])?;
     }
     Ok((part, rest))
 }
@@ -113,7 +118,7 @@ fn primary<'a>(alloc: Global, setting: &Setting, depth: u8, symbols: &'a [Symbol
     match symbols {
         [] => Err(Stop::Syntax),
         [first, rest @ ..] => match first.sign {
-            Sign::Word => worded(alloc, setting, depth, symbols, *first, rest),
+            Sign::Word => call_or_leaf(alloc, setting, depth, symbols, *first, rest),
             Sign::Open => parens(alloc, setting, depth, *first, rest),
             _ => leaf(alloc, setting, symbols),
         },
@@ -123,7 +128,7 @@ fn primary<'a>(alloc: Global, setting: &Setting, depth: u8, symbols: &'a [Symbol
 // A call, where a parenthesis follows the word, or else what begins with the word.
 #[cycle(reading)]
 #[tactic(auto, unfolding(formula_grammar::specs::Reading::word_at))]
-fn worded<'a>(
+fn call_or_leaf<'a>(
     alloc: Global,
     setting: &Setting,
     depth: u8,
@@ -167,7 +172,7 @@ fn parens<'a>(
 {
     let (part, rest) = formula(alloc, setting, depth, symbols)?;
     let (last, after) = close(rest)?;
-    Ok((part.enclosed(first, last), after))
+    Ok((part.in_parentheses(first, last), after))
 }
 
 // A call, from behind its opening parenthesis, where the byte `before` is.
@@ -192,7 +197,7 @@ fn call<'a>(
 {
     let (args, rest) = args_if_any(alloc, setting, depth, before, symbols)?;
     let (last, after) = close(rest)?;
-    let part = called(alloc, setting, name, args, last)?;
+    let part = call_of_name(alloc, setting, name, args, last)?;
     Ok((part, after))
 }
 

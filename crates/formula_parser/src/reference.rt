@@ -134,13 +134,13 @@ fn brackets<'a>(alloc: Global, setting: &Setting, symbols: &'a [Symbol]) -> Read
 {
     let (first, behind) = inner_corner(alloc, setting, symbols)?;
     match second_inner(alloc, setting, &first, behind) {
-        Ok((area, rest)) => closed(setting, area, rest),
+        Ok((area, rest)) => before_bracket(setting, area, rest),
         Err(stop) => Err(stop),
     }
 }
 
 // The area, where a closing bracket stands in front.
-fn closed<'a>(setting: &Setting, area: Option<Area>, symbols: &'a [Symbol]) -> ReadArea<'a>
+fn before_bracket<'a>(setting: &Setting, area: Option<Area>, symbols: &'a [Symbol]) -> ReadArea<'a>
     requires { AreSymbols setting.now.text.now symbols.now }
     ensures gives { Gives {Y = Option Area × List Symbol} (λ x. (x.0, x.1.now)) result (option_map (λ t. (area, t.1)) (one_at is_close_square symbols.now)) }
     ensures rest { IfOk result (λ x. AreSymbols setting.now.text.now x.1.now) }

@@ -90,7 +90,7 @@ pub fn symbols_of(alloc: Global, text: &[u8], tokens: &[Token]) -> Result<Vec<Sy
         .collect(alloc)
 }
 
-fn opened(sign: Sign, open_before: u8) -> u8
+fn open_behind(sign: Sign, open_before: u8) -> u8
     requires { open_before ≤ BRACKETS }
     ensures { result ≡ opened sign open_before }
 {
@@ -107,7 +107,7 @@ pub fn is_too_deep(symbols: &[Symbol]) -> bool
 {
     let mut count: u8 = 0;
     for symbol in symbols {
-        count = opened(symbol.sign, count);
+        count = open_behind(symbol.sign, count);
         if count > BRACKETS {
             return true;
         }

@@ -176,14 +176,14 @@ impl Frac {
     {
         let times = exponent.unsigned_abs();
         if exponent < 0 {
-            self.inverse().repeated(times)
+            self.inverse().power_of_times(times)
         } else {
-            self.repeated(times)
+            self.power_of_times(times)
         }
     }
 
     /// The product of it by itself.
-    fn repeated(self, times: u32) -> Result<Frac, Wide>
+    fn power_of_times(self, times: u32) -> Result<Frac, Wide>
         ensures { MatchResult result (λ f. (f ≡ repeated self times) × IsNarrow (repeated self times)) (λ _. ¬ (IsNarrow (repeated self times))) }
     {
         match self.parts.power(times) {

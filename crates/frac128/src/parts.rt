@@ -57,12 +57,12 @@ impl Parts {
         if d == 0 {
             None
         } else {
-            Parts::reduced((n < 0) != (d < 0), n.unsigned_abs(), d.unsigned_abs())
+            Parts::in_lowest_terms((n < 0) != (d < 0), n.unsigned_abs(), d.unsigned_abs())
         }
     }
 
     /// A fraction of a sign and two magnitudes, unless it is not narrow in lowest terms.
-    fn reduced(negative: bool, n: u128, d: u128) -> Option<Parts>
+    fn in_lowest_terms(negative: bool, n: u128, d: u128) -> Option<Parts>
         requires { 0 < d }
         ensures { MatchOption result (HasNarrow (record { num = signed negative n; den = d }) → ⊥) (λ f. IsNarrowPair f × IsSame f (record { num = signed negative n; den = d })) }
     {

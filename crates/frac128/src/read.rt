@@ -13,7 +13,7 @@ use crate::integers::with_sign;
 use crate::number::Frac;
 use crate::numeral::{Spelled, split};
 use crate::numeral_fault::NumeralFault;
-use crate::significand::{EXPONENT_CAP, exponent, shifted, significand};
+use crate::significand::{EXPONENT_CAP, exponent, significand, with_zeros};
 
 /// `n / d`, where it is narrow.
 fn quotient(n: i128, d: i128) -> Option<Frac>
@@ -26,15 +26,15 @@ fn quotient(n: i128, d: i128) -> Option<Frac>
 }
 
 /// `number` times 10 to the power `zeros`, with a sign.
-fn multiplied(negative: bool, number: u128, zeros: usize) -> Option<Frac>
+fn times_power(negative: bool, number: u128, zeros: usize) -> Option<Frac>
     ensures { IsScaled result negative number (pos zeros) }
 {
-    let size = shifted(number, zeros)?;
+    let size = with_zeros(number, zeros)?;
     quotient(with_sign(negative, size), 1)
 }
 
 /// `number` over 10 to the power `places`, with a sign.
-fn divided(negative: bool, number: u128, places: usize) -> Option<Frac>
+fn over_power(negative: bool, number: u128, places: usize) -> Option<Frac>
     requires number { number < 2 ^ 127 }
     requires places { places ≤ 38 }
     ensures { IsScaled result negative number (neg_ℤ (pos places)) }
@@ -49,8 +49,8 @@ fn divided_twice(negative: bool, number: u128, places: usize) -> Option<Frac>
     requires places { (38 ≤ places) × (places ≤ 76) }
     ensures { IsScaled result negative number (neg_ℤ (pos places)) }
 {
-    let first = divided(negative, number, 38)?;
-    let second = divided(false, 1, places - 38)?;
+    let first = over_power(negative, number, 38)?;
+    let second = over_power(false, 1, places - 38)?;
     match first.mul(second) {
         Ok(product) => Some(product),
         Err(_) => None,
@@ -58,7 +58,7 @@ fn divided_twice(negative: bool, number: u128, places: usize) -> Option<Frac>
 }
 
 /// `number` times 10 to the power `exponent`, with a sign. Beyond the powers 38 and -76 none but 0 is narrow.
-fn scaled(negative: bool, number: u128, exponent: i128) -> Option<Frac>
+fn with_exponent(negative: bool, number: u128, exponent: i128) -> Option<Frac>
     requires { number < 2 ^ 127 }
     ensures { IsScaled result negative number exponent }
 {
@@ -72,10 +72,10 @@ fn scaled(negative: bool, number: u128, exponent: i128) -> Option<Frac>
         return None;
     }
     if exponent >= 0 {
-        return multiplied(negative, number, exponent as usize);
+        return times_power(negative, number, exponent as usize);
     }
     if exponent >= -38 {
-        return divided(negative, number, (-exponent) as usize);
+        return over_power(negative, number, (-exponent) as usize);
     }
     divided_twice(negative, number, (-exponent) as usize)
 }
@@ -107,7 +107,7 @@ fn number_of(spelled: Spelled<'_>) -> Option<Frac>
     let trimmed = significand(spelled.before, spelled.behind)?;
     let marked = exponent(spelled.exponent_negative, spelled.exponent);
     let total = total_exponent(marked, trimmed.zeros, spelled.behind.len(), spelled.percent);
-    scaled(spelled.negative, trimmed.number, total)
+    with_exponent(spelled.negative, trimmed.number, total)
 }
 
 impl Frac {

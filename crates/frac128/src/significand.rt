@@ -20,7 +20,7 @@ const LIMIT: u128 = 1 << 127;
 pub const EXPONENT_CAP: u128 = 1 << 70;
 
 /// `n` times 10 to the power `zeros`, where that is narrow.
-pub fn shifted(n: u128, zeros: usize) -> Option<u128>
+pub fn with_zeros(n: u128, zeros: usize) -> Option<u128>
     ensures { MatchOption result (2 ^ 127 ≤ n * 10 ^ zeros) (λ r. (r ≡ n * 10 ^ zeros) × (r < 2 ^ 127)) }
 {
     if n == 0 {
@@ -53,7 +53,7 @@ fn with_digit(so_far: Trimmed, digit: u8) -> Option<Trimmed>
             zeros,
         });
     }
-    let number = shifted(so_far.number, so_far.zeros + 1)? + (digit - b'0') as u128;
+    let number = with_zeros(so_far.number, so_far.zeros + 1)? + (digit - b'0') as u128;
     if number < LIMIT {
         Some(Trimmed { number, zeros: 0 })
     } else {
@@ -91,7 +91,7 @@ pub fn significand(before: &[u8], behind: &[u8]) -> Option<Trimmed>
 }
 
 /// The whole number of the digits, or the cap where it is above it.
-fn capped(digits: &[u8]) -> u128
+fn number_up_to_cap(digits: &[u8]) -> u128
     requires { AllDigits 10 digits.now }
     ensures { result ≡ min (digits_value 10 digits.now) EXPONENT_CAP }
 {
@@ -108,6 +108,6 @@ pub fn exponent(negative: bool, digits: &[u8]) -> i128
     ensures value { result ≡ signed negative (min (digits_value 10 digits.now) EXPONENT_CAP) }
     ensures small { unsigned_abs result ≤ EXPONENT_CAP }
 {
-    let size = capped(digits) as i128;
+    let size = number_up_to_cap(digits) as i128;
     if negative { -size } else { size }
 }

@@ -52,7 +52,7 @@ fn power(base: Frac, exponent: i128) -> Result<Frac, Wide> {
     base.power(exponent as i32)
 }
 
-fn calculated(call: &str, first: Frac, second: Frac) -> Result<Frac, Wide> {
+fn result_of(call: &str, first: Frac, second: Frac) -> Result<Frac, Wide> {
     match call {
         "add" => first.add(second),
         "sub" => first.sub(second),
@@ -77,7 +77,7 @@ fn show_call(call: &str, first: Frac, second: Frac, to: &mut String) -> Result<(
         "compare" => show(&first.compare(second), to),
         "below" => show(&first.is_below(second), to),
         "equal" => show(&(first == second), to),
-        _ => match calculated(call, first, second) {
+        _ => match result_of(call, first, second) {
             Ok(number) => show(&parts(number), to),
             Err(Wide) => show(&Wide, to),
         },

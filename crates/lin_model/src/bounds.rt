@@ -47,8 +47,8 @@ impl BoundBox {
     pub fn copy(&self, alloc: Global) -> Result<BoundBox, Memory>
         ensures { IfOk result (λ b. b ≡ self.now) }
     {
-        let least = copied(alloc, &self.least)?;
-        let greatest = copied(alloc, &self.greatest)?;
+        let least = copy_bounds(alloc, &self.least)?;
+        let greatest = copy_bounds(alloc, &self.greatest)?;
         Ok(BoundBox { least, greatest })
     }
 
@@ -57,8 +57,8 @@ impl BoundBox {
         requires { decision < length self.now.greatest }
         ensures { IfOk result (λ b. b ≡ lower_part self.now decision bound) }
     {
-        let least = copied(alloc, &self.least)?;
-        let mut greatest = copied(alloc, &self.greatest)?;
+        let least = copy_bounds(alloc, &self.least)?;
+        let mut greatest = copy_bounds(alloc, &self.greatest)?;
         greatest[decision as usize] = Some(lesser(greatest[decision as usize], bound));
         Ok(BoundBox { least, greatest })
     }
@@ -68,8 +68,8 @@ impl BoundBox {
         requires { decision < length self.now.least }
         ensures { IfOk result (λ b. b ≡ upper_part self.now decision bound) }
     {
-        let mut least = copied(alloc, &self.least)?;
-        let greatest = copied(alloc, &self.greatest)?;
+        let mut least = copy_bounds(alloc, &self.least)?;
+        let greatest = copy_bounds(alloc, &self.greatest)?;
         least[decision as usize] = Some(greater(least[decision as usize], bound));
         Ok(BoundBox { least, greatest })
     }
@@ -101,7 +101,7 @@ pub(crate) fn greater(bound: Option<Frac>, other: Frac) -> Frac
     }
 }
 
-fn copied(alloc: Global, bounds: &[Option<Frac>]) -> Result<Vec<Option<Frac>>, Memory>
+fn copy_bounds(alloc: Global, bounds: &[Option<Frac>]) -> Result<Vec<Option<Frac>>, Memory>
     ensures { IfOk result (λ v. v.items ≡ bounds.now) }
 {
     let mut all = Vec::new(alloc);

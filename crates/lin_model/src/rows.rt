@@ -13,7 +13,7 @@ use crate::conditions::Condition;
 use crate::kinds::{Goal, Relation};
 use crate::model::FormRow;
 use crate::stop::BuildStop;
-use crate::tightest::bounded;
+use crate::tightest::decision_of;
 use affine_forms::{Form, FormStop};
 use std::alloc::Global;
 
@@ -51,7 +51,7 @@ fn push_left(
     let right = &sides.1;
     let _left_terms = left.terms();
     let _right_terms = right.terms();
-    match bounded(row, right) {
+    match decision_of(row, right) {
         Some(_) => Ok(()),
         None => push_difference(alloc, left, row.relation(), right, rows),
     }

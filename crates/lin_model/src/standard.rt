@@ -262,14 +262,14 @@ impl LinModel {
         let mut rows = Vec::new(alloc);
         push_rows(alloc, &splits, self.rows(), &mut rows)?;
         push_bounds(alloc, &splits, within.least(), within.greatest(), &mut rows)?;
-        let wanted = self.wanted(alloc, plain)?;
+        let wanted = self.greatest_form(alloc, plain)?;
         let objective = columns_of(alloc, &splits, wanted.terms())?;
         let columns = columns(alloc, &splits)?;
         Ok(Standard::new(columns, objective, wanted.base(), rows))
     }
 
     /// The form that is to be as great as can be: 0 where a value is to be reached, or only a point is wanted.
-    pub fn wanted(&self, alloc: Global, plain: bool) -> Result<Form, Memory>
+    pub fn greatest_form(&self, alloc: Global, plain: bool) -> Result<Form, Memory>
         ensures form { IfOk result (λ f. f ≡ wanted self.now plain) }
     {
         if plain {

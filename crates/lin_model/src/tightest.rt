@@ -26,7 +26,7 @@ fn is_in(decision: u16, list: &[u16]) -> bool
 }
 
 // The decision that a row bounds: its left side is that decision, and its right side a number.
-pub(crate) fn bounded(row: &Condition, right: &Form) -> Option<u16>
+pub(crate) fn decision_of(row: &Condition, right: &Form) -> Option<u16>
     ensures { result ≡ bounded_by row.now.own right.now.terms }
 {
     match row.own() {
@@ -45,7 +45,7 @@ pub(crate) fn bounded(row: &Condition, right: &Form) -> Option<u16>
 fn is_bound_of(row: &Condition, right: &Form, decision: u16) -> bool
     ensures { result ≡ is_number decision (bounded_by row.now.own right.now.terms) }
 {
-    match bounded(row, right) {
+    match decision_of(row, right) {
         None => false,
         Some(other) => other == decision,
     }

@@ -1,6 +1,6 @@
 // Statements and faults of names, each made by the rules by hand.
 use crate::texts::{tell_fault, tell_statement};
-use crate::workbooks::opened;
+use crate::workbooks::open_workbook;
 use cell_refs::SheetId;
 use solver_names::{side_trees, statement};
 use std::fmt::Write;
@@ -210,7 +210,7 @@ const CASES: &[(&[u8], &str)] = &[
 fn what_names_state(rt: HostRuntime) -> Result<(), Fail> {
     let alloc = rt.alloc();
     for (names, want) in CASES {
-        let book = opened(alloc, names)?;
+        let book = open_workbook(alloc, names)?;
         let mut text = String::new(alloc);
         if book.sheets().len() == 0 {
             return Err(Fail::new("there is no sheet"));
@@ -238,7 +238,7 @@ const LIMITS: &[(&[u8], usize, usize)] = &[
 fn as_many_as_there_may_be(rt: HostRuntime) -> Result<(), Fail> {
     let alloc = rt.alloc();
     for (names, cells, rows) in LIMITS {
-        let book = opened(alloc, names)?;
+        let book = open_workbook(alloc, names)?;
         if book.sheets().len() == 0 {
             return Err(Fail::new("there is no sheet"));
         }
@@ -267,7 +267,7 @@ const SIDES: &[(&[u8], &str)] = &[
 fn right_sides_that_are_expressions(rt: HostRuntime) -> Result<(), Fail> {
     let alloc = rt.alloc();
     for (names, want) in SIDES {
-        let book = opened(alloc, names)?;
+        let book = open_workbook(alloc, names)?;
         let mut text = String::new(alloc);
         if book.sheets().len() == 0 {
             return Err(Fail::new("there is no sheet"));

@@ -30,7 +30,7 @@ fn files(alloc: Global) -> Result<Vec<File>, Fail>
 }
 
 // A workbook of two sheets with these names.
-pub(crate) fn opened(alloc: Global, names: &[u8]) -> Result<Workbook, Fail> {
+pub(crate) fn open_workbook(alloc: Global, names: &[u8]) -> Result<Workbook, Fail> {
     if names.len() > 10000 {
         return Err(Fail::new("the names are a long text"));
     }

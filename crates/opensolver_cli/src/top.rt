@@ -21,7 +21,7 @@ use crate::files::open_files;
 use crate::made_up::solve_made_up;
 use crate::script::read_commands;
 use crate::stop::{End, Stop};
-use command_line::{Asked, Job, Named, Pick, asked};
+use command_line::{Asked, Job, Named, Pick, request};
 use node_pick::Picker;
 use sheet_csv::Rows;
 use solver_io::{Folder, Sink, Source};
@@ -52,25 +52,25 @@ pub fn run<F: Folder, S: Source, K: Sink>(
         (seen (F.content folder.new) (F.read_faults folder.new) (F.write_faults folder.new) (F.write_wants folder.new) (S.left script.new) (S.faults script.new) (K.pieces out.new) (K.faults out.new))
         result }
 {
-    let asked = match asked(alloc, words) {
+    let asked = match request(alloc, words) {
         Ok(Some(asked)) => asked,
         Ok(None) => return say(out, USAGE, Status::Usage),
         Err(_) => return Status::Memory,
     };
     match asked {
         Asked::Script(job) => {
-            let mut pick = picked(pickers, job.pick);
+            let mut pick = picker_of(pickers, job.pick);
             run_job(alloc, &job, folder, script, out, &mut pick)
         }
         Asked::MadeUp(size) => {
-            let mut pick = picked(pickers, Pick::Depth);
+            let mut pick = picker_of(pickers, Pick::Depth);
             solve_made_up(alloc, size, out, &mut pick)
         }
     }
 }
 
 // The picker that is asked for; the others are let go.
-fn picked(pickers: Vec<Box<dyn Picker>>, pick: Pick) -> Box<dyn Picker>
+fn picker_of(pickers: Vec<Box<dyn Picker>>, pick: Pick) -> Box<dyn Picker>
     requires three { map (λ p. rule p) pickers.items ≡ depth_first ∷ best_first ∷ oldest_first ∷ [] }
     ensures { rule result ≡ rule_of (pick_read pick) }
 {

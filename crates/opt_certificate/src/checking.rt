@@ -124,7 +124,7 @@ fn check_claim(alloc: Global, of: &LinModel, tree: &Tree, claim: &Claim) -> Resu
     requires sizes { IsOfSize (length of.now.whole) claim.now }
     ensures { (t : Option Certificate) → IsListed tree.now t → Checked of.now t (claim_of claim.now) result }
 {
-    let Ok(wanted) = of.wanted(alloc, false) else {
+    let Ok(wanted) = of.greatest_form(alloc, false) else {
         return Err(CheckStop::Memory);
     };
     match claim {

@@ -137,7 +137,7 @@ fn claim(alloc: Global, shown: &str) -> Result<Claim, Fail> {
 }
 
 // The check's answer; none where the claim is of other decisions.
-fn checked(
+fn check_answer(
     alloc: Global,
     of: &LinModel,
     tree: &Tree,
@@ -168,7 +168,7 @@ fn show_checked(
     to: &mut String,
 ) -> Result<(), Fail> {
     let claim = claim(alloc, claimed)?;
-    show_answer(checked(alloc, of, tree, &claim), to)
+    show_answer(check_answer(alloc, of, tree, &claim), to)
 }
 
 fn show_tried(

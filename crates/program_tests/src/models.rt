@@ -1,6 +1,6 @@
 // Models of small statements of three decisions; the values were worked out by hand.
 
-use crate::statements::{built, model};
+use crate::statements::{model, model_of};
 use crate::texts::{show_number, show_numbers};
 use affine_forms::Form;
 use frac128::Frac;
@@ -117,7 +117,7 @@ fn show(alloc: Global, model: &LinModel, to: &mut String) -> Result<(), Fail> {
 }
 
 fn show_model(alloc: Global, statement: &str, to: &mut String) -> Result<(), Fail> {
-    match built(alloc, 3, statement)? {
+    match model_of(alloc, 3, statement)? {
         Ok(model) => show(alloc, &model, to)?,
         Err(BuildStop::WideRow(row)) => write!(to, "wide {row}")?,
         Err(BuildStop::Memory) => to.push_str("memory")?,
@@ -142,7 +142,7 @@ fn are_same(alloc: Global, one: &str, other: &str) -> Result<bool, Fail> {
 }
 
 fn show_turned(alloc: Global, model: &LinModel, to: &mut String) -> Result<(), Fail> {
-    show_form(&model.wanted(alloc, false)?, to)
+    show_form(&model.greatest_form(alloc, false)?, to)
 }
 
 // A copy of a box of three decisions.

@@ -127,7 +127,7 @@ fn show_pivoted(
     show(alloc, dict, to)
 }
 
-fn pivoted(
+fn after_pivot(
     alloc: Global,
     program: &Standard,
     row: u16,
@@ -142,7 +142,7 @@ fn pivoted(
 fn pivots_change_what_they_must(rt: HostRuntime) -> Result<(), Fail> {
     for (shown, (row, col), wanted) in CASES {
         let mut text = String::new(rt.alloc());
-        pivoted(
+        after_pivot(
             rt.alloc(),
             &program(rt.alloc(), shown)?,
             *row,

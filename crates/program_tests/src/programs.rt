@@ -49,7 +49,7 @@ fn show_rows(rows: &[Inequality], to: &mut String) -> Result<(), Fail> {
 }
 
 // How many columns there are, and the parts.
-fn shown(alloc: Global, program: &Standard) -> Result<String, Fail> {
+fn program_text(alloc: Global, program: &Standard) -> Result<String, Fail> {
     let width = program.columns().len();
     let mut text = format!(in alloc; "{width}:")?;
     show_numbers(program.objective(), &mut text)?;
@@ -62,7 +62,7 @@ fn shown(alloc: Global, program: &Standard) -> Result<String, Fail> {
 #[test]
 fn parts_are_read_back(rt: HostRuntime) -> Result<(), Fail> {
     let program = program(rt.alloc(), "3 5 7: 1 0 4; 0 2 12; 3 2 18")?;
-    let text = shown(rt.alloc(), &program)?;
+    let text = program_text(rt.alloc(), &program)?;
     assert_eq!(rt; text.as_str(), "2: 3 5 7; 1 0 4; 0 2 12; 3 2 18");
     assert!(rt; !are_regular(program.rows(), 3));
     Ok(())

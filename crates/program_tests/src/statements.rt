@@ -126,7 +126,7 @@ fn built_of(
 }
 
 /// The model of a statement, or why it has none.
-pub(crate) fn built(
+pub(crate) fn model_of(
     alloc: Global,
     decisions: u16,
     statement: &str,
@@ -142,7 +142,7 @@ pub(crate) fn built(
 
 /// The model of a statement that has one.
 pub(crate) fn model(alloc: Global, decisions: u16, statement: &str) -> Result<LinModel, Fail> {
-    match built(alloc, decisions, statement)? {
+    match model_of(alloc, decisions, statement)? {
         Ok(model) => Ok(model),
         Err(stop) => Err(stop.into()),
     }

@@ -17,7 +17,7 @@ use std::test::Fail;
 use tableau::{Dict, start};
 
 // The numbers of the two columns of a cell.
-fn mirrored(alloc: Global, number: Frac) -> Result<Vec<Frac>, Fail>
+fn number_and_opposite(alloc: Global, number: Frac) -> Result<Vec<Frac>, Fail>
     ensures { IfOk result (λ v. v.items ≡ number ∷ neg_ℚ number ∷ []) }
 {
     Ok(vec![in alloc; number, number.neg()]?)
@@ -31,9 +31,9 @@ fn of_two_columns(
     second: (Frac, Frac),
 ) -> Result<Standard, Fail> {
     let columns = vec![in alloc; (0, Some(1))]?;
-    let objective = mirrored(alloc, objective)?;
-    let first_row = mirrored(alloc, first.0)?;
-    let second_row = mirrored(alloc, second.0)?;
+    let objective = number_and_opposite(alloc, objective)?;
+    let first_row = number_and_opposite(alloc, first.0)?;
+    let second_row = number_and_opposite(alloc, second.0)?;
     let rows = vec![in alloc;
         Inequality::new(first_row, first.1),
         Inequality::new(second_row, second.1),

@@ -19,7 +19,7 @@ use std::rt::Runtime;
 /// Runs over the real thing, and gives the number in which the run ends. Contracts say nothing of it, since they say nothing of what
 /// the real thing holds: all that is proved of a run stands on `opensolver_cli::run`.
 pub fn run_for_real<R: Runtime + AllocGlobal>(rt: R) -> ExitCode {
-    let status = match ended(rt) {
+    let status = match end_of_run(rt) {
         Ok(status) => status,
         Err(_) => Status::Memory,
     };
@@ -27,7 +27,7 @@ pub fn run_for_real<R: Runtime + AllocGlobal>(rt: R) -> ExitCode {
 }
 
 // Runs over the words, and says how the run ends.
-fn ended<R: Runtime + AllocGlobal>(rt: R) -> Result<Status, AllocError> {
+fn end_of_run<R: Runtime + AllocGlobal>(rt: R) -> Result<Status, AllocError> {
     let words = words(&rt)?;
     let mut folder = DirFolder::new(rt.clone()?);
     let mut script = InSource::new(rt.clone()?);

@@ -6,7 +6,7 @@ use std::alloc::Global;
 use std::test::Fail;
 
 // So many times the byte.
-fn filled(alloc: Global, byte: u8, count: usize) -> Result<Vec<u8>, Fail> {
+fn bytes_of(alloc: Global, byte: u8, count: usize) -> Result<Vec<u8>, Fail> {
     let mut bytes = Vec::new(alloc);
     bytes.resize(count, byte)?;
     Ok(bytes)
@@ -19,8 +19,8 @@ fn ran_over_bytes(
     sheet: &str,
     script: usize,
 ) -> Result<(Status, Vec<u8>), Fail> {
-    let names = filled(alloc, b' ', names)?;
-    let script = filled(alloc, b'\xff', script)?;
+    let names = bytes_of(alloc, b' ', names)?;
+    let script = bytes_of(alloc, b'\xff', script)?;
     let files = [("names.csv", names.as_slice()), (sheet, b"".as_slice())];
     let line = "--names names.csv plan.csv";
     ran(alloc, line, &files, &script, NEVER)

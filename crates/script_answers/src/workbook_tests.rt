@@ -25,7 +25,7 @@ fn at(sheet: u8, row: u16, col: u16) -> Cell {
 }
 
 // A workbook of two sheets, with the texts 1 and x in the first row, a formula in the third, and 7 on the other sheet.
-fn opened(alloc: Global) -> Result<Workbook, Fail> {
+fn open_workbook(alloc: Global) -> Result<Workbook, Fail> {
     let names = b",rate,0.5\nplan,tax,=$A$1:$B$2\nplan,own,what\n,own,7\n";
     let plan = b"1,,x\n,\n,=A1\n".to_vec(alloc)?;
     let data = b",\n7\n".to_vec(alloc)?;
@@ -39,7 +39,7 @@ fn opened(alloc: Global) -> Result<Workbook, Fail> {
 }
 
 // Fails where there is no such sheet.
-fn listed(workbook: &Workbook, cell: Cell) -> Result<(), Fail>
+fn check_sheet(workbook: &Workbook, cell: Cell) -> Result<(), Fail>
     ensures { IfOk result (λ _. cell.sheet.0 < length workbook.now.sheets) }
 {
     if usize::from(cell.sheet.0) >= workbook.sheets().len() {
@@ -50,7 +50,7 @@ fn listed(workbook: &Workbook, cell: Cell) -> Result<(), Fail>
 
 // Puts a text into a cell, and answers the fault.
 fn set(workbook: &mut Workbook, cell: Cell, text: &str) -> Result<Option<EditFault>, Fail> {
-    listed(workbook, cell)?;
+    check_sheet(workbook, cell)?;
     match workbook.set(cell, text) {
         Ok(()) => Ok(None),
         Err(fault) => Ok(Some(fault)),
@@ -73,7 +73,7 @@ fn left_number(workbook: &Workbook, cell: Cell) -> Result<(Frac, Span), Fail> {
 
 #[test]
 fn names_and_what_stands_for_them(rt: HostRuntime) -> Result<(), Fail> {
-    let mut workbook = opened(rt.alloc())?;
+    let mut workbook = open_workbook(rt.alloc())?;
     for (sheet, name, want) in [
         (None, "rate", Some("0.5")),
         (None, "RATE", Some("0.5")),
@@ -94,7 +94,7 @@ fn names_and_what_stands_for_them(rt: HostRuntime) -> Result<(), Fail> {
 
 #[test]
 fn cells_in_their_order(rt: HostRuntime) -> Result<(), Fail> {
-    let mut workbook = opened(rt.alloc())?;
+    let mut workbook = open_workbook(rt.alloc())?;
     for (after, want) in [
         (None, Some(at(0, 0, 0))),
         (Some(at(0, 0, 0)), Some(at(0, 0, 2))),
@@ -174,7 +174,7 @@ fn texts_that_are_replaced(rt: HostRuntime) -> Result<(), Fail> {
     let Some(five) = Frac::new(5, 1) else {
         return Err(Fail::new("five"));
     };
-    let mut workbook = opened(rt.alloc())?;
+    let mut workbook = open_workbook(rt.alloc())?;
     replace(
         rt.alloc(),
         &mut workbook,
@@ -296,7 +296,7 @@ fn a_second_text_without_room(rt: HostRuntime) -> Result<(), Fail> {
 
 #[test]
 fn texts_that_are_put_into_several_cells(rt: HostRuntime) -> Result<(), Fail> {
-    let mut workbook = opened(rt.alloc())?;
+    let mut workbook = open_workbook(rt.alloc())?;
     let pairs = [
         (at(0, 2, 1), "=7/3"),
         (at(1, 4, 0), "TRUE"),

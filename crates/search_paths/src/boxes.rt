@@ -47,7 +47,7 @@ fn greater(bound: Option<Frac>, other: Frac) -> Frac
     }
 }
 
-fn copied(alloc: Global, bounds: &[Option<Frac>]) -> Result<Vec<Option<Frac>>, Memory>
+fn copy_bounds(alloc: Global, bounds: &[Option<Frac>]) -> Result<Vec<Option<Frac>>, Memory>
     ensures { IfOk result (λ v. v.items ≡ bounds.now) }
 {
     let mut all = Vec::new(alloc);
@@ -79,8 +79,8 @@ fn narrow(part: &Part, least: &mut [Option<Frac>], greatest: &mut [Option<Frac>]
 pub fn box_along(alloc: Global, bounds: &BoundBox, path: &[Part]) -> Result<BoundBox, Memory>
     ensures { IfOk result (λ b. b ≡ box_along bounds.now path.now) }
 {
-    let mut least = copied(alloc, bounds.least())?;
-    let mut greatest = copied(alloc, bounds.greatest())?;
+    let mut least = copy_bounds(alloc, bounds.least())?;
+    let mut greatest = copy_bounds(alloc, bounds.greatest())?;
     for part in path {
         narrow(part, &mut least, &mut greatest);
     }

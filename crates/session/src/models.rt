@@ -27,14 +27,14 @@ pub(crate) fn model_of(alloc: Global, book: &Workbook, sheet: SheetId) -> Result
     ensures model { IfOk result (Models book.now sheet.0) }
     ensures said { IfOk result (CanBeSaid book.now.sheets) }
 {
-    match prepared(alloc, book, sheet) {
+    match prepare_sheet(alloc, book, sheet) {
         Ok(prepared) => Ok(Answer::Model(model_lines(alloc, prepared)?)),
-        Err(stop) => told(stop),
+        Err(stop) => answer_without_model(stop),
     }
 }
 
 /// The answer for a sheet without a model.
-pub(crate) fn told(stop: NoModel) -> Result<Answer, Memory>
+pub(crate) fn answer_without_model(stop: NoModel) -> Result<Answer, Memory>
     ensures models { IfOk result (λ answer. (book : State) (sheet : ℕ) → Prepares book sheet (Err stop) → Models book sheet answer) }
     ensures solves { IfOk result (λ answer. (rule : Rule) (before : SessionState) (sheet : ℕ) → Prepares before.book sheet (Err stop) → SolvesSheet rule before sheet answer before) }
     ensures said { IfOk result (λ answer. (book : State) (sheet : ℕ) → Prepares book sheet (Err stop) → StopIsListed book stop → CanBeSaid book.sheets answer) }
@@ -48,18 +48,22 @@ pub(crate) fn told(stop: NoModel) -> Result<Answer, Memory>
 }
 
 /// The linear model of a sheet, with a counter of its own.
-pub(crate) fn prepared(alloc: Global, book: &Workbook, sheet: SheetId) -> Result<Prepared, NoModel>
+pub(crate) fn prepare_sheet(
+    alloc: Global,
+    book: &Workbook,
+    sheet: SheetId,
+) -> Result<Prepared, NoModel>
     requires listed { sheet.0 < length book.now.sheets }
     ensures prepares { Prepares book.now sheet.0 result }
     ensures model { IfOk result (λ p. ModelIsTheSheet book.now (statement_of p.statement) p.model) }
     ensures whole { IfOk result (λ p. IsWhole book.now (statement_of p.statement)) }
     ensures said { IfErr result (StopIsListed book.now) }
 {
-    counted::<Brand>(alloc, Blank::new(1), book, sheet)
+    prepare_counted::<Brand>(alloc, Blank::new(1), book, sheet)
 }
 
 // The same with the counter's beginning.
-fn counted<L: Ledger>(
+fn prepare_counted<L: Ledger>(
     alloc: Global,
     blank: Blank,
     book: &Workbook,

@@ -17,7 +17,7 @@ ghost use Rattle.session.specs.States.{IsSession, opened, with_changed};
 ghost use Rattle.session.specs.Steps.{Applies, Does, IsDone, ModelsSheet, Shows, with_text};
 
 use crate::edits::told_fault;
-use crate::models::{model_of, prepared, told};
+use crate::models::{answer_without_model, model_of, prepare_sheet};
 use crate::paths::steps_of;
 use cell_refs::{Cell, SheetId, SheetNames};
 use cell_values::{Shown, value};
@@ -166,13 +166,13 @@ impl Session {
         ensures memory { OnErr result (IsInterrupted self.now.state (Show address.now) self.now.state) }
     {
         match locate(self.book.sheets(), address) {
-            Ok(cell) => self.shown(cell),
+            Ok(cell) => self.show_cell(cell),
             Err(answer) => Ok(answer),
         }
     }
 
     // The value of a cell, or the wide cell.
-    fn shown(&self, cell: Cell) -> Result<Answer, Memory>
+    fn show_cell(&self, cell: Cell) -> Result<Answer, Memory>
         ensures step { IfOk result (λ answer. Shows self.now.state cell answer self.now.state) }
         ensures said { IfOk result (CanBeSaid self.now.state.book.sheets) }
     {
@@ -219,9 +219,9 @@ impl Session {
         ensures memory { OnErr result (self.new.state ≡ self.old.state) }
         ensures rule { rule pick.new ≡ rule pick.old }
     {
-        match prepared(self.alloc, &self.book, sheet) {
+        match prepare_sheet(self.alloc, &self.book, sheet) {
             Ok(prepared) => self.search(sheet, prepared, pick),
-            Err(stop) => told(stop),
+            Err(stop) => answer_without_model(stop),
         }
     }
 

@@ -37,7 +37,7 @@ pub(crate) fn logical(holds: bool) -> Arg
 }
 
 /// A calculated number as a result.
-pub(crate) fn calculated(outcome: Result<Frac, FuncStop>) -> Result<Arg, FuncStop>
+pub(crate) fn number_answer(outcome: Result<Frac, FuncStop>) -> Result<Arg, FuncStop>
     ensures answer { (c : Calculation ℚ) → Answers c outcome → Answers (counted c) result }
     ensures stop { IsOkUnless outcome stops.Wide → IsOkUnless result stops.Wide }
 {

@@ -18,7 +18,7 @@ use crate::answers::{fault, number};
 use crate::criterion::{Criterion, read};
 use crate::given::{full_elements, value_or_error};
 use crate::items::{columns_of, elements_of, rows_of};
-use crate::sums::summed;
+use crate::sums::sum_answer;
 use crate::tally::Tally;
 use cell_refs::ErrorKind;
 use frac128::Frac;
@@ -51,7 +51,7 @@ fn sum_by(tested: &Arg, criterion: &Arg, others: &Arg) -> Result<Arg, FuncStop>
     if rows_of(tested) != rows_of(others) || columns_of(tested) != columns_of(others) {
         return Ok(fault(ErrorKind::Value));
     }
-    summed(total_met(&criterion, full_elements(tested), full_elements(others)))
+    sum_answer(total_met(&criterion, full_elements(tested), full_elements(others)))
 }
 
 // The sum of the numbers of the second list in the places where the first one meets the criterion, or the first error there.

@@ -48,16 +48,16 @@ fn read_text(text: &str) -> Criterion<'_>
     ensures { (v : Value) → is_met result v ≡ meets_text text.now (relation_in text.now) v }
 {
     match relation_in(text) {
-        None => related(Op::Eq, text),
+        None => by_relation(Op::Eq, text),
         Some((Op::Eq, "")) => Criterion::Nothing,
         Some((Op::Ne, "")) => Criterion::Something,
         Some((relation, "")) => Criterion::Text(relation, ""),
-        Some((relation, rest)) => related(relation, rest),
+        Some((relation, rest)) => by_relation(relation, rest),
     }
 }
 
 // The relation to what a text stands for: a number where it is a numeral, and else itself.
-fn related(relation: Op, text: &str) -> Criterion<'_>
+fn by_relation(relation: Op, text: &str) -> Criterion<'_>
     ensures { (v : Value) → is_met result v ≡ stands_in relation (operand text.now) v }
 {
     match Frac::read(text) {

@@ -64,7 +64,7 @@ fn part_at(
 {
     match (row, column) {
         (Err(kind), _) | (Ok(_), Err(kind)) => Pick::Fault(kind),
-        (Ok(row), Ok(column)) => part(picked(rows, row), picked(cols, column)),
+        (Ok(row), Ok(column)) => part(place_or_all(rows, row), place_or_all(cols, column)),
     }
 }
 
@@ -79,7 +79,7 @@ fn part(rows: Option<(u32, u32)>, columns: Option<(u32, u32)>) -> Pick
 }
 
 // The first and the last of the rows or columns that a place picks.
-fn picked(size: u32, place: i128) -> Option<(u32, u32)>
+fn place_or_all(size: u32, place: i128) -> Option<(u32, u32)>
     requires { 0 < size }
     ensures value { result ≡ picked size place }
     ensures order { IfSome result (λ p. p.0 ≤ p.1) }

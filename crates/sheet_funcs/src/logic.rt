@@ -114,7 +114,7 @@ impl Seen {
     }
 
     // What is among two lists together.
-    fn joined(self, other: Seen) -> Seen
+    fn join(self, other: Seen) -> Seen
         ensures { result ≡ joined self other }
     {
         Seen {
@@ -137,7 +137,7 @@ fn seen_in_all(args: &[Arg]) -> Result<Seen, ErrorKind>
 {
     let mut seen = Seen::nothing();
     for arg in args {
-        seen = seen.joined(seen_in(arg)?);
+        seen = seen.join(seen_in(arg)?);
     }
     Ok(seen)
 }
@@ -161,7 +161,7 @@ fn seen_among(items: &[Value]) -> Result<Seen, ErrorKind>
 {
     let mut seen = Seen::nothing();
     for item in items {
-        seen = seen.joined(seen_at(item)?);
+        seen = seen.join(seen_at(item)?);
     }
     Ok(seen)
 }

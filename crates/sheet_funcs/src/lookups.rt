@@ -16,7 +16,7 @@ use crate::answers::fault;
 use crate::given::{full_elements, value_or_error};
 use crate::items::{columns_of, logical_of, number_of, place_of, rows_of};
 use crate::pick::Pick;
-use crate::search::found;
+use crate::search::place_of_key;
 use crate::table_view::{TableView, across, down, keys_alone};
 use cell_refs::ErrorKind;
 use frac128::Frac;
@@ -70,7 +70,7 @@ fn pick_by(key: &Arg, keys: &Arg, kind: Result<Frac, ErrorKind>) -> Pick
     if rows != 1 && columns != 1 {
         return Pick::Fault(ErrorKind::NotAvailable);
     }
-    let place = found(kind, key, full_elements(keys), 1, rows.max(columns));
+    let place = place_of_key(kind, key, full_elements(keys), 1, rows.max(columns));
     pick_in(keys, place)
 }
 
@@ -179,7 +179,7 @@ fn field_found(
     let place = place_of(place)?;
     let sorted = is_sorted(rest)?;
     let field = field_at(table.fields, place)?;
-    match found(
+    match place_of_key(
         kind_where(sorted),
         key,
         table.items,

@@ -13,7 +13,7 @@ ghost use Rattle.sheet_model.specs.Answers.{Answers};
 ghost use Rattle.sheet_model.specs.declared.stop.FuncStop.TheVariants as stops;
 ghost use Rattle.sheet_model.specs.declared.value.Value.TheVariants.{Empty};
 
-use crate::answers::{area, calculated, fault};
+use crate::answers::{area, fault, number_answer};
 use crate::items::{columns_of, elements_of, first_error, rows_of};
 use crate::steps::{add, multiply};
 use crate::sums::is_number;
@@ -38,7 +38,7 @@ pub fn sumproduct(args: &[Arg]) -> Result<Arg, FuncStop>
     if !are_of_size(first, others) {
         return Ok(fault(ErrorKind::Value));
     }
-    calculated(dot(args, elements_of(first).len()))
+    number_answer(dot(args, elements_of(first).len()))
 }
 
 /// MMULT: the product of two matrices of numbers.

@@ -10,12 +10,12 @@ ghost use Rattle.sheet_model.specs.Operators.{raised};
 ghost use Rattle.sheet_model.specs.declared.grid.Arg.TheVariants.{One};
 ghost use Rattle.sheet_model.specs.declared.stop.FuncStop.TheVariants as stops;
 
-use crate::answers::{calculated, fault, number, whole};
+use crate::answers::{fault, number, number_answer, whole};
 use crate::items::{number_of, place_of};
 use crate::steps::{add, divide, multiply, raise};
 use cell_refs::ErrorKind;
 use frac128::Frac;
-use sheet_model::{Arg, FuncStop, raised};
+use sheet_model::{Arg, FuncStop, power_of};
 
 /// ABS: a number without its sign.
 pub fn abs_(args: &[Arg]) -> Result<Arg, FuncStop>
@@ -44,7 +44,7 @@ pub fn int(args: &[Arg]) -> Result<Arg, FuncStop>
         unreachable!();
     };
     match number_of(arg) {
-        Ok(x) => Ok(number(rounded(x))),
+        Ok(x) => Ok(number(round_whole(x))),
         Err(kind) => Ok(fault(kind)),
     }
 }
@@ -103,7 +103,7 @@ fn magnitude(x: Frac) -> Frac
 }
 
 // A number rounded down, which is as narrow as its numerator.
-fn rounded(x: Frac) -> Frac
+fn round_whole(x: Frac) -> Frac
     ensures { result ≡ rounded x }
 {
     let _numerator = x.num();
@@ -119,8 +119,8 @@ fn remainder(x: Frac, y: Frac) -> Result<Arg, FuncStop>
         return Ok(fault(ErrorKind::Div0));
     }
     let quotient = divide(x, y)?;
-    let multiple = multiply(y, rounded(quotient))?;
-    calculated(add(x, multiple.neg()))
+    let multiple = multiply(y, round_whole(quotient))?;
+    number_answer(add(x, multiple.neg()))
 }
 
 // The power, as the operator has it.
@@ -128,7 +128,7 @@ fn power_value(x: Frac, y: Frac) -> Result<Arg, FuncStop>
     ensures narrow { Answers (turned_into One (raised x y)) result }
     ensures stop { IsOkUnless result stops.Wide }
 {
-    match raised(x, y) {
+    match power_of(x, y) {
         Ok(value) => Ok(Arg::One(value)),
         Err(stop) => Err(stop),
     }
@@ -171,7 +171,7 @@ fn rounded_half_up(x: Frac, places: i32) -> Result<Frac, FuncStop>
     let scale = raise(Frac::from_whole(10), places)?;
     let scaled = multiply(x, scale)?;
     let raised = add(scaled, half())?;
-    divide(rounded(raised), scale)
+    divide(round_whole(raised), scale)
 }
 
 // The number 1/2.

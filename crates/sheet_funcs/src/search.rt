@@ -11,7 +11,7 @@ use sheet_model::{Value, compare};
 use std::cmp::Ordering;
 
 /// Where the key is found among so many elements, the first at the front of all and each a step behind the one before.
-pub(crate) fn found(
+pub(crate) fn place_of_key(
     kind: MatchKind,
     key: &Value,
     items: &[Value],

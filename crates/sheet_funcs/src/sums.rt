@@ -14,7 +14,7 @@ ghost use Rattle.sheet_funcs.specs.Sums.{average_of, count_of, is_number, max_of
 ghost use Rattle.sheet_model.specs.Answers.{Answers};
 ghost use Rattle.sheet_model.specs.declared.stop.FuncStop.TheVariants as stops;
 
-use crate::answers::{calculated, fault, number, whole};
+use crate::answers::{fault, number, number_answer, whole};
 use crate::items::elements_of;
 use crate::steps::divide;
 use crate::tally::Tally;
@@ -29,7 +29,7 @@ pub fn sum(args: &[Arg]) -> Result<Arg, FuncStop>
     ensures narrow { Answers (sum_of args.now) result }
     ensures stop { IsOkUnless result stops.Wide }
 {
-    summed(Tally::Total.of_args(Some(Frac::zero()), args))
+    sum_answer(Tally::Total.of_args(Some(Frac::zero()), args))
 }
 
 /// AVERAGE: the sum divided by how many numbers there are.
@@ -97,7 +97,7 @@ fn mean(sum: Frac, count: i128) -> Result<Arg, FuncStop>
     if count == 0 {
         return Ok(fault(ErrorKind::Div0));
     }
-    calculated(divide(sum, whole(count)))
+    number_answer(divide(sum, whole(count)))
 }
 
 // How many items some arguments have, errors too.
@@ -137,7 +137,7 @@ fn is_item(value: &Value) -> bool
 }
 
 /// A sum as a result: the sum, what stops it where it isn't narrow, or the error that it met.
-pub(crate) fn summed(sum: Result<Option<Frac>, ErrorKind>) -> Result<Arg, FuncStop>
+pub(crate) fn sum_answer(sum: Result<Option<Frac>, ErrorKind>) -> Result<Arg, FuncStop>
     ensures answer { (numbers : Result (List ℚ) ErrorKind) → sum ≡ tally_or_error Total (Some zero_ℚ) numbers → Answers (on_ok numbers (λ xs. counted (total xs))) result }
     ensures stop { IsOkUnless result stops.Wide }
 {

@@ -29,8 +29,8 @@ pub(crate) fn infix_value(alloc: Global, op: Op, a: &Value, b: &Value) -> Result
         Op::Mul => on_numbers(a, b, multiplied),
         Op::Div => on_numbers(a, b, divided),
         Op::Pow => on_numbers(a, b, raised),
-        Op::Cat => joined(alloc, a, b),
-        Op::Eq | Op::Ne | Op::Lt | Op::Le | Op::Gt | Op::Ge => Ok(compared(op, a, b)),
+        Op::Cat => concatenation(alloc, a, b),
+        Op::Eq | Op::Ne | Op::Lt | Op::Le | Op::Gt | Op::Ge => Ok(comparison(op, a, b)),
     }
 }
 
@@ -80,28 +80,28 @@ fn number(outcome: Result<Frac, Wide>) -> Result<Value, FuncStop>
 }
 
 // The sum of two numbers.
-fn added(x: Frac, y: Frac) -> Result<Value, FuncStop>
+fn sum(x: Frac, y: Frac) -> Result<Value, FuncStop>
     ensures { Answers (calculated (sum x y)) result }
 {
     number(x.add(y))
 }
 
 // The difference of two numbers.
-fn subtracted(x: Frac, y: Frac) -> Result<Value, FuncStop>
+fn difference(x: Frac, y: Frac) -> Result<Value, FuncStop>
     ensures { Answers (calculated (sum x (neg_ℚ y))) result }
 {
     number(x.sub(y))
 }
 
 // The product of two numbers.
-fn multiplied(x: Frac, y: Frac) -> Result<Value, FuncStop>
+fn product(x: Frac, y: Frac) -> Result<Value, FuncStop>
     ensures { Answers (calculated (product x y)) result }
 {
     number(x.mul(y))
 }
 
 // The quotient of two numbers.
-fn divided(x: Frac, y: Frac) -> Result<Value, FuncStop>
+fn quotient(x: Frac, y: Frac) -> Result<Value, FuncStop>
     ensures { Answers (divided x y) result }
 {
     if y.is_zero() {
@@ -112,7 +112,7 @@ fn divided(x: Frac, y: Frac) -> Result<Value, FuncStop>
 
 /// The power of two numbers; the error stands for an exponent that isn't whole or isn't from -1000 to 1000, and for a negative
 /// power of 0.
-pub fn raised(x: Frac, y: Frac) -> Result<Value, FuncStop>
+pub fn power_of(x: Frac, y: Frac) -> Result<Value, FuncStop>
     ensures narrow { Answers (raised x y) result }
     ensures stop { IsOkUnless result stops.Wide }
 {
@@ -146,7 +146,7 @@ fn exponent(number: Frac) -> Option<i32>
 }
 
 // The texts of two values, joined.
-fn joined(alloc: Global, a: &Value, b: &Value) -> Result<Value, FuncStop>
+fn concatenation(alloc: Global, a: &Value, b: &Value) -> Result<Value, FuncStop>
     ensures { Answers (done (joined_texts (text_in a.now) (text_in b.now))) result }
 {
     let mut text = match to_text(alloc, a)? {
@@ -161,7 +161,7 @@ fn joined(alloc: Global, a: &Value, b: &Value) -> Result<Value, FuncStop>
 }
 
 // Whether the comparison of two values holds.
-fn compared(op: Op, a: &Value, b: &Value) -> Value
+fn comparison(op: Op, a: &Value, b: &Value) -> Value
     ensures { result ≡ compared op a.now b.now }
 {
     if let Value::Error(kind) = a {

@@ -42,7 +42,7 @@ pub(crate) fn to_text(alloc: Global, value: &Value) -> Result<Result<String, Err
     ensures { IfOk result (λ text. result_map_both string_bytes (λ kind. kind) text ≡ text_in value.now) }
 {
     match value {
-        Value::Number(number) => Ok(Ok(printed(alloc, *number)?)),
+        Value::Number(number) => Ok(Ok(numeral(alloc, *number)?)),
         Value::Text(text) => Ok(Ok(String::from_str(alloc, text.as_str())?)),
         Value::Logical(true) => Ok(Ok(String::from_str(alloc, "TRUE")?)),
         Value::Logical(false) => Ok(Ok(String::from_str(alloc, "FALSE")?)),
@@ -52,7 +52,7 @@ pub(crate) fn to_text(alloc: Global, value: &Value) -> Result<Result<String, Err
 }
 
 // What is printed of a number.
-fn printed(alloc: Global, number: Frac) -> Result<String, Memory>
+fn numeral(alloc: Global, number: Frac) -> Result<String, Memory>
     ensures { IfOk result (λ text. string_bytes text ≡ printed number) }
 {
     let mut text = String::new(alloc);

@@ -9,7 +9,7 @@ mod order;
 mod stop;
 mod value;
 
-pub use arithmetic::raised;
+pub use arithmetic::power_of;
 pub use convert::{to_logical, to_number};
 pub use grid::{Arg, Grid};
 pub use memory::Memory;

@@ -13,7 +13,7 @@ ghost use Rattle.statement_laws.specs.Laws.{IsWhole};
 
 use crate::numbers::{objective, sides};
 use crate::prepared::{NoModel, Prepared};
-use crate::stated::{settled, stated, unrefused};
+use crate::stated::{check_forms, settle, statement_or_stop};
 use affine_forms::Form;
 use cell_refs::SheetId;
 use extract::Steps;
@@ -45,7 +45,7 @@ fn linear_model(
 }
 
 // The model of what is stated, over the forms that are kept for it.
-fn modelled(
+fn model_over(
     alloc: Global,
     book: &Workbook,
     statement: Statement,
@@ -58,7 +58,7 @@ fn modelled(
     ensures whole { IfOk result (λ p. IsWhole book.now (statement_of p.statement)) }
     ensures said { IfErr result (StopIsListed book.now) }
 {
-    unrefused(alloc, book, &statement, forms)?;
+    check_forms(alloc, book, &statement, forms)?;
     let objective = objective(alloc, book, &statement, forms)?;
     let sides = sides(alloc, book, &statement, forms)?;
     match linear_model(alloc, &statement, &objective, &sides) {
@@ -88,7 +88,7 @@ pub fn prepare<L: Ledger>(
     ensures counted { steps.old ≤ steps.new }
     ensures bound { MakesFew book.now sheet.0 steps.old steps.new }
 {
-    let statement = stated(alloc, book, sheet)?;
-    let forms = settled(alloc, book, &statement, steps)?;
-    modelled(alloc, book, statement, &forms)
+    let statement = statement_or_stop(alloc, book, sheet)?;
+    let forms = settle(alloc, book, &statement, steps)?;
+    model_over(alloc, book, statement, &forms)
 }

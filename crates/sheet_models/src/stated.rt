@@ -32,7 +32,11 @@ fn stop_of(fault: NamesFault) -> NoModel
 }
 
 /// What the names of a sheet state, or the first fault in them.
-pub(crate) fn stated(alloc: Global, book: &Workbook, sheet: SheetId) -> Result<Statement, NoModel>
+pub(crate) fn statement_or_stop(
+    alloc: Global,
+    book: &Workbook,
+    sheet: SheetId,
+) -> Result<Statement, NoModel>
     requires listed { sheet.0 < length book.now.sheets }
     ensures statement { IfOk result (λ s. IsStatement book.now (statement_of s)) }
     ensures sheet { IfOk result (λ s. s.sheet ≡ sheet) }
@@ -46,7 +50,7 @@ pub(crate) fn stated(alloc: Global, book: &Workbook, sheet: SheetId) -> Result<S
 }
 
 // No form is kept yet for what is stated.
-fn opened(alloc: Global, book: &Workbook, of: &Statement) -> Result<Forms, Memory>
+fn open_forms(alloc: Global, book: &Workbook, of: &Statement) -> Result<Forms, Memory>
     requires { IsStatement book.now (statement_of of.now) }
     ensures { IfOk result (λ forms. forms ≡ record { decisions = of.now.adj; sides = sides_in book.now of.now.sheet.0; table = no_forms }) }
 {
@@ -55,7 +59,7 @@ fn opened(alloc: Global, book: &Workbook, of: &Statement) -> Result<Forms, Memor
 }
 
 /// The forms of all formulas, and of all sides, each made once.
-pub(crate) fn settled<L: Ledger>(
+pub(crate) fn settle<L: Ledger>(
     alloc: Global,
     book: &Workbook,
     of: &Statement,
@@ -66,7 +70,7 @@ pub(crate) fn settled<L: Ledger>(
     ensures counted { steps.old ≤ steps.new }
     ensures bound { steps.new ≤ steps.old + forms_to_make book.now of.now.sheet.0 of.now.adj }
 {
-    let mut forms = opened(alloc, book, of)?;
+    let mut forms = open_forms(alloc, book, of)?;
     let deps = Deps::open(alloc, book)?;
     forms.settle(book, &deps, steps)?;
     Ok(forms)
@@ -88,7 +92,7 @@ fn refusal(
 }
 
 /// Whether nothing that is needed is refused; the first refusal where something is.
-pub(crate) fn unrefused(
+pub(crate) fn check_forms(
     alloc: Global,
     book: &Workbook,
     of: &Statement,

@@ -8,7 +8,7 @@ use node_pick::Picker;
 use std::alloc::Global;
 
 // What a search of the model comes to, which may spend so many units.
-pub(crate) fn searched(
+pub(crate) fn search(
     alloc: Global,
     model: LinModel,
     budget: u64,

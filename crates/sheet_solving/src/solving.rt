@@ -8,7 +8,7 @@ ghost use Rattle.solver_names.specs.Answers.{statement_of};
 ghost use Rattle.statement_laws.specs.Laws.{IsWhole};
 
 use crate::path::by_cells;
-use crate::searched::searched;
+use crate::searched::search;
 use crate::solved::Solved;
 use crate::told::write;
 use branch_bound::{Progress, SearchStop};
@@ -42,7 +42,7 @@ pub fn solve(
         model,
         ..
     } = of;
-    match searched(alloc, model, budget, pick) {
+    match search(alloc, model, budget, pick) {
         Ok(Progress::Optimal(point, value)) => write(alloc, book, &statement, &point, value),
         Ok(Progress::Infeasible) => Ok(Solved::Infeasible),
         Ok(Progress::Unbounded(_, _)) => Ok(Solved::Unbounded),

@@ -19,7 +19,7 @@ use workbook::Workbook;
 use write_back::{PutFault, put};
 
 // The objective's number, where there is an objective, by that of the search, which seeks the greatest.
-fn told(objective: Option<Cell>, goal: Goal, value: Frac) -> Option<Frac>
+fn objective_value(objective: Option<Cell>, goal: Goal, value: Frac) -> Option<Frac>
     ensures { result ≡ option_map (λ _. value_told (goal_of goal) value) objective }
 {
     match objective {
@@ -49,7 +49,7 @@ pub(crate) fn write(
     ensures memory { OnErr result (book.new ≡ book.old) }
 {
     match put(alloc, book, &statement.adj, point) {
-        Ok(()) => Ok(Solved::Optimal(told(statement.objective, statement.goal, value))),
+        Ok(()) => Ok(Solved::Optimal(objective_value(statement.objective, statement.goal, value))),
         Err(PutFault::NoRoom(cell)) => Ok(Solved::NoRoom(cell)),
         Err(PutFault::Memory) => Err(Memory),
     }

@@ -30,7 +30,7 @@ fn files(alloc: Global, plan: &[u8], other: &[u8]) -> Result<Vec<File>, Fail>
 }
 
 /// The workbook of two sheets and some names.
-pub(crate) fn opened(
+pub(crate) fn open_workbook(
     alloc: Global,
     plan: &[u8],
     other: &[u8],

@@ -1,6 +1,6 @@
 // Values of cells as they are defined. What is expected follows from the rules by hand.
 
-use crate::books::opened;
+use crate::books::open_workbook;
 use cell_refs::{Cell, SheetId};
 use cell_values::known_in_rounds;
 use dep_table::Deps;
@@ -11,7 +11,7 @@ use std::test::Fail;
 use workbook::Workbook;
 
 // The narrow value that the definition gives to the first cell, if it has one.
-fn defined(alloc: Global, workbook: &Workbook) -> Result<Option<Value>, Fail> {
+fn value_by_definition(alloc: Global, workbook: &Workbook) -> Result<Option<Value>, Fail> {
     let cell = Cell {
         sheet: SheetId(0),
         row: 0,
@@ -60,8 +60,11 @@ fn values_by_the_definition(rt: HostRuntime) -> Result<(), Fail> {
         ("=B1,=C1,1\n", "1"),
         ("=B1+C1,=D1*2,5,=C1+1\n", "17"),
     ] {
-        let workbook = opened(rt.alloc(), sheet.as_bytes(), b"", b"")?;
-        assert!(rt; is_shown(defined(rt.alloc(), &workbook)?, want)?, "{sheet}");
+        let workbook = open_workbook(rt.alloc(), sheet.as_bytes(), b"", b"")?;
+        assert!(rt;
+            is_shown(value_by_definition(rt.alloc(), &workbook)?, want)?,
+            "{sheet}"
+        );
     }
     Ok(())
 }

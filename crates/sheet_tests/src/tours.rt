@@ -1,6 +1,6 @@
 // Circular cells and orders of small workbooks. What is expected follows from the rules by hand.
 
-use crate::books::opened;
+use crate::books::open_workbook;
 use cell_refs::{Cell, SheetId};
 use dep_table::{CellSet, Deps, Tour};
 use std::alloc::Global;
@@ -73,8 +73,8 @@ const OTHER_A2: Cell = Cell {
 };
 
 // The tour of a workbook of two sheets, with these leaves.
-fn toured(alloc: Global, plan: &[u8], other: &[u8], leaves: &[Cell]) -> Result<Tour, Fail> {
-    let workbook = opened(alloc, plan, other, b"plan,tax,=$A$1:$B$2\n")?;
+fn tour_of(alloc: Global, plan: &[u8], other: &[u8], leaves: &[Cell]) -> Result<Tour, Fail> {
+    let workbook = open_workbook(alloc, plan, other, b"plan,tax,=$A$1:$B$2\n")?;
     let deps = Deps::open(alloc, &workbook)?;
     let mut set = CellSet::new(alloc);
     for leaf in leaves {
@@ -189,7 +189,7 @@ fn tours(rt: HostRuntime) -> Result<(), Fail> {
             1,
         ),
     ] {
-        let tour = toured(rt.alloc(), plan.as_bytes(), other.as_bytes(), leaves)?;
+        let tour = tour_of(rt.alloc(), plan.as_bytes(), other.as_bytes(), leaves)?;
         assert!(rt; has_all(&tour.circular, circular), "{plan}");
         assert!(rt; has_none(&tour.circular, &tour.order), "{plan}");
         assert!(rt; tour.order.len() == count, "{plan}");
@@ -200,7 +200,7 @@ fn tours(rt: HostRuntime) -> Result<(), Fail> {
 
 #[test]
 fn circular_cells(rt: HostRuntime) -> Result<(), Fail> {
-    let workbook = opened(rt.alloc(), b"=A1,=1\n", b"1\n", b"")?;
+    let workbook = open_workbook(rt.alloc(), b"=A1,=1\n", b"1\n", b"")?;
     let deps = Deps::open(rt.alloc(), &workbook)?;
     let circular = deps.circular(rt.alloc(), &CellSet::new(rt.alloc()))?;
     assert!(rt; circular.has(A1) && !circular.has(B1));

@@ -66,7 +66,12 @@ pub fn infeasible(alloc: Global, of: &Standard, dict: &Dict) -> Result<LpAnswer,
 }
 
 /// The answer where no row bounds what enters.
-pub fn unbounded(alloc: Global, of: &Standard, dict: &Dict, col: u16) -> Result<LpAnswer, Memory>
+pub fn unbounded_answer(
+    alloc: Global,
+    of: &Standard,
+    dict: &Dict,
+    col: u16,
+) -> Result<LpAnswer, Memory>
     requires reached { IsReached of.now dict.now }
     requires end { IsUnboundedEnd dict.now col }
     ensures { IfOk result (λ a. IsAnswer of.now dict.now a) }
@@ -78,7 +83,7 @@ pub fn unbounded(alloc: Global, of: &Standard, dict: &Dict, col: u16) -> Result<
 }
 
 /// A list of the same variables.
-fn copied(alloc: Global, variables: &[u16]) -> Result<Vec<u16>, Memory>
+fn copy_variables(alloc: Global, variables: &[u16]) -> Result<Vec<u16>, Memory>
     ensures { IfOk result (λ v. v.items ≡ variables.now) }
 {
     let mut made = Vec::new(alloc);
@@ -96,7 +101,7 @@ pub fn wide(alloc: Global, dict: &Dict, row: u16, col: u16) -> LpStop
     requires column { col < length dict.now.nonbasic }
     ensures { (left : ℕ) → 0 < left → IsStop dict.now left result }
 {
-    match copied(alloc, dict.basis()) {
+    match copy_variables(alloc, dict.basis()) {
         Ok(basis) => LpStop::WidePivot(basis, dict.basic(row), dict.column(col)),
         Err(_) => LpStop::Memory,
     }

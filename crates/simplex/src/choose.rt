@@ -6,7 +6,7 @@ ghost use Rattle.simplex.specs.Choices.{IsReachedOfSome};
 
 use crate::begin::worst;
 use crate::enter::entering;
-use crate::leave::{blocked, leaving};
+use crate::leave::{blocking_row, leaving};
 use crate::read::{column_with, row_with};
 use linear_programs::Standard;
 use tableau::Dict;
@@ -31,7 +31,7 @@ fn next_of_one(dict: &Dict, row: u16) -> Next
     let _height = dict.height();
     match entering(dict, dict.auxiliary()) {
         Some(col) => {
-            if let Some(wide) = blocked(dict, col) {
+            if let Some(wide) = blocking_row(dict, col) {
                 return Next::Pivot(wide, col);
             }
             match leaving(dict, col) {
@@ -51,7 +51,7 @@ fn next_of_two(dict: &Dict) -> Next
     let _height = dict.height();
     match entering(dict, dict.objective()) {
         Some(col) => {
-            if let Some(wide) = blocked(dict, col) {
+            if let Some(wide) = blocking_row(dict, col) {
                 return Next::Pivot(wide, col);
             }
             match leaving(dict, col) {

@@ -45,7 +45,7 @@ fn blocked_step(dict: &Dict, col: u16, best: Option<u16>, row: u16) -> Option<u1
 }
 
 /// The row of least number among those whose ratio is not narrow.
-pub fn blocked(dict: &Dict, col: u16) -> Option<u16>
+pub fn blocking_row(dict: &Dict, col: u16) -> Option<u16>
     requires { col < length dict.now.nonbasic }
     ensures { MatchOption result (AllNarrow dict.now col) (λ r. BlockedOf dict.now col (length dict.now.basic) r) }
 {

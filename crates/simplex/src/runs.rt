@@ -5,7 +5,7 @@ ghost use Rattle.dictionaries.specs.Bland.{NextPivot};
 ghost use Rattle.dictionaries.specs.Run.{Follow, Leads, IsReached};
 ghost use Rattle.simplex.specs.Solved.{IsAnswer, IsStop};
 
-use crate::answer::{LpAnswer, LpStop, best, in_memory, infeasible, unbounded, wide};
+use crate::answer::{LpAnswer, LpStop, best, in_memory, infeasible, unbounded_answer, wide};
 use crate::choose::{Next, choose_next};
 use frac128::Wide;
 use linear_programs::Standard;
@@ -52,7 +52,7 @@ pub fn resume(
         match choose_next(of, dict) {
             Next::Best => return in_memory(best(alloc, of, dict)),
             Next::Infeasible => return in_memory(infeasible(alloc, of, dict)),
-            Next::Unbounded(col) => return in_memory(unbounded(alloc, of, dict, col)),
+            Next::Unbounded(col) => return in_memory(unbounded_answer(alloc, of, dict, col)),
             Next::Pivot(row, col) => {
                 if work.left == 0 {
                     return Err(LpStop::Spent);

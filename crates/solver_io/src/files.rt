@@ -33,7 +33,7 @@ fn place_of(files: &[(String, Vec<u8>)], name: &str) -> Option<usize>
 }
 
 // The bytes of the first file of this name.
-pub(crate) fn held<'a>(files: &'a [(String, Vec<u8>)], name: &str) -> Option<&'a [u8]>
+pub(crate) fn content_of<'a>(files: &'a [(String, Vec<u8>)], name: &str) -> Option<&'a [u8]>
     ensures { option_map (λ s. s.now) result ≡ finmap.get (files_of files.now) name.now }
 {
     match place_of(files, name) {

@@ -267,7 +267,7 @@ pub(crate) fn first_fault(names: &Names) -> Option<Fault>
 }
 
 /// The fault as it is told.
-pub(crate) fn told(
+pub(crate) fn named_fault(
     alloc: Global,
     book: &Workbook,
     sheet: SheetId,
@@ -283,13 +283,13 @@ pub(crate) fn told(
         Fault::Sizes(k, left, right) => Ok(NamesFault::SizeMismatch(k, left, right)),
         Fault::NotDecision(k, cell) => Ok(NamesFault::NotDecision(k, cell)),
         Fault::Option(name) => Ok(NamesFault::BadOption(name.text(alloc)?)),
-        Fault::TooManyDecisions(count) => Ok(NamesFault::TooManyDecisions(counted(count)?)),
-        Fault::TooManyRows(count) => Ok(NamesFault::TooManyRows(counted(count)?)),
+        Fault::TooManyDecisions(count) => Ok(NamesFault::TooManyDecisions(as_count(count)?)),
+        Fault::TooManyRows(count) => Ok(NamesFault::TooManyRows(as_count(count)?)),
     }
 }
 
 // How many cells or rows there are: 32 sheets have far fewer cells than 2^32, and so have the rows of 256 constraints.
-fn counted(count: usize) -> Result<u32, Memory>
+fn as_count(count: usize) -> Result<u32, Memory>
     ensures { IfOk result (λ many. many ≡ count) }
 {
     match u32::try_from(count) {

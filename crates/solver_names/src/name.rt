@@ -36,9 +36,9 @@ impl Name {
             Name::Value => plain(alloc, "solver_val"),
             Name::Negative => plain(alloc, "solver_neg"),
             Name::Count => plain(alloc, "solver_num"),
-            Name::Left(k) => numbered(alloc, "solver_lhs", k),
-            Name::Code(k) => numbered(alloc, "solver_rel", k),
-            Name::Right(k) => numbered(alloc, "solver_rhs", k),
+            Name::Left(k) => with_number(alloc, "solver_lhs", k),
+            Name::Code(k) => with_number(alloc, "solver_rel", k),
+            Name::Right(k) => with_number(alloc, "solver_rhs", k),
         }
     }
 
@@ -53,7 +53,7 @@ impl Name {
         ensures short { IfOk result (λ text. IfSome text (λ t. length t.now ≤ TEXT_BYTES)) }
     {
         let name = self.text(alloc)?;
-        book.named(alloc, Some(sheet), name.as_str())
+        book.text_of_name(alloc, Some(sheet), name.as_str())
     }
 }
 
@@ -65,7 +65,7 @@ fn plain(alloc: Global, word: &str) -> Result<String, Memory>
 }
 
 // A name with a number behind it.
-fn numbered(alloc: Global, word: &str, k: u16) -> Result<String, Memory>
+fn with_number(alloc: Global, word: &str, k: u16) -> Result<String, Memory>
     ensures { IfOk result (λ s. string_bytes s ≡ word.now ++ decimal k) }
 {
     let mut name = String::from_str(alloc, word)?;

@@ -31,7 +31,7 @@ fn one_less(span: Span) -> Span
 
 // The tree with each span one byte before.
 #[cycle(placing)]
-fn placed(alloc: Global, expr: &Expr) -> Result<Expr, Memory>
+fn one_byte_before(alloc: Global, expr: &Expr) -> Result<Expr, Memory>
     ensures { IfOk result (λ e. e ≡ placed expr.now) }
 {
     expr.soundness();
@@ -49,12 +49,12 @@ fn placed(alloc: Global, expr: &Expr) -> Result<Expr, Memory>
         Node::Name(name) => Node::Name(name.clone()?),
         Node::Unknown(name, args) => Node::Unknown(name.clone()?, all_placed(alloc, args)?),
         Node::Call(func, args) => Node::Call(*func, all_placed(alloc, args)?),
-        Node::Plus(of) => Node::Plus(Box::new(alloc, placed(alloc, of)?)?),
-        Node::Minus(of) => Node::Minus(Box::new(alloc, placed(alloc, of)?)?),
-        Node::Percent(of) => Node::Percent(Box::new(alloc, placed(alloc, of)?)?),
+        Node::Plus(of) => Node::Plus(Box::new(alloc, one_byte_before(alloc, of)?)?),
+        Node::Minus(of) => Node::Minus(Box::new(alloc, one_byte_before(alloc, of)?)?),
+        Node::Percent(of) => Node::Percent(Box::new(alloc, one_byte_before(alloc, of)?)?),
         Node::Infix(op, left, right) => {
-            let left = Box::new(alloc, placed(alloc, left)?)?;
-            let right = Box::new(alloc, placed(alloc, right)?)?;
+            let left = Box::new(alloc, one_byte_before(alloc, left)?)?;
+            let right = Box::new(alloc, one_byte_before(alloc, right)?)?;
             Node::Infix(*op, left, right)
         }
     };
@@ -67,7 +67,7 @@ fn all_placed(alloc: Global, exprs: &[Expr]) -> Result<Vec<Expr>, Memory>
 {
     let mut all = Vec::new(alloc);
     for expr in exprs {
-        all.push(placed(alloc, expr)?)?;
+        all.push(one_byte_before(alloc, expr)?)?;
     }
     Ok(all)
 }
@@ -86,7 +86,7 @@ fn in_text(
     if text.starts_with('=') {
         return Ok(tree.copy(alloc)?);
     }
-    placed(alloc, tree)
+    one_byte_before(alloc, tree)
 }
 
 // Adds the right side of a constraint, where it is an expression.

@@ -15,7 +15,7 @@ ghost use Rattle.solver_names.specs.Texts.{or_else};
 use crate::cells::Cells;
 use crate::constraints::{Code, Constraint};
 use crate::fault::NamesFault;
-use crate::faults::{first_fault, told};
+use crate::faults::{first_fault, named_fault};
 use crate::names::{Names, names_of};
 use crate::rows::rows_of;
 use crate::said::Said;
@@ -102,7 +102,7 @@ fn numbers_among(alloc: Global, others: &Cells, cells: &[Cell]) -> Result<Vec<u1
 }
 
 // The numbers of the cells that stand on the left of a constraint of this code.
-fn marked(
+fn numbers_of_code(
     alloc: Global,
     code: Code,
     constraints: &[Constraint],
@@ -146,7 +146,7 @@ fn is_not_negative(said: &Said<u16>) -> bool
 }
 
 // The statement of names without a fault.
-fn stated(alloc: Global, sheet: SheetId, names: Names) -> Result<Statement, Memory>
+fn statement_by(alloc: Global, sheet: SheetId, names: Names) -> Result<Statement, Memory>
     requires { first (faults (read_of names)) ≡ None }
     ensures stated { IfOk result (λ s. statement_of s ≡ told.stated sheet.0 (read_of names)) }
     ensures sheet { IfOk result (λ s. s.sheet ≡ sheet) }
@@ -158,10 +158,10 @@ fn stated(alloc: Global, sheet: SheetId, names: Names) -> Result<Statement, Memo
     let constraints = names.constraints;
     let adj = decisions_of(alloc, names.decisions).into_adj();
     let rows = rows_of(alloc, &constraints)?;
-    let whole = marked(alloc, Code::Whole, &constraints, adj.cells())?;
-    let binary = marked(alloc, Code::Binary, &constraints, adj.cells())?;
+    let whole = numbers_of_code(alloc, Code::Whole, &constraints, adj.cells())?;
+    let binary = numbers_of_code(alloc, Code::Binary, &constraints, adj.cells())?;
     let at_least = Code::Related(Relation::AtLeast);
-    let explicit = marked(alloc, at_least, &constraints, adj.cells())?;
+    let explicit = numbers_of_code(alloc, at_least, &constraints, adj.cells())?;
     Ok(Statement {
         sheet,
         adj,
@@ -184,7 +184,7 @@ pub fn statement(alloc: Global, book: &Workbook, sheet: SheetId) -> Result<State
 {
     let names = names_of(alloc, book, sheet)?;
     if let Some(fault) = first_fault(&names) {
-        return Err(told(alloc, book, sheet, fault)?);
+        return Err(named_fault(alloc, book, sheet, fault)?);
     }
-    Ok(stated(alloc, sheet, names)?)
+    Ok(statement_by(alloc, sheet, names)?)
 }

@@ -12,7 +12,7 @@ use memory::Memory;
 use std::alloc::Global;
 
 /// As many numbers as `count` says, from the first on.
-fn numbered(alloc: Global, from: u16, count: u16) -> Result<Vec<u16>, Memory>
+fn numbers_from(alloc: Global, from: u16, count: u16) -> Result<Vec<u16>, Memory>
     requires { from + count < 2 ^ 16 }
     ensures { IfOk result (λ v. v.items ≡ range_with_len from count) }
 {
@@ -40,8 +40,8 @@ fn first_dictionary(alloc: Global, of: &Standard) -> Result<Dict, Memory>
 {
     let columns = of.objective().len() as u16;
     let count = of.rows().len() as u16;
-    let basic = numbered(alloc, columns + 1, count)?;
-    let non_basic = numbered(alloc, 0, columns + 1)?;
+    let basic = numbers_from(alloc, columns + 1, count)?;
+    let non_basic = numbers_from(alloc, 0, columns + 1)?;
     let rows = first_rows(alloc, of.rows())?;
     let objective = Row::of_objective(alloc, of.constant(), of.objective())?;
     let auxiliary = Row::of_auxiliary(alloc, columns as usize)?;

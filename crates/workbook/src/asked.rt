@@ -14,7 +14,7 @@ use std::alloc::Global;
 
 impl Workbook {
     /// The text for which a name stands, on the sheet or in the whole workbook, in one look-up.
-    pub fn named(
+    pub fn text_of_name(
         &self,
         alloc: Global,
         sheet: Option<SheetId>,

@@ -35,7 +35,7 @@ pub(crate) struct Scope<'a> {
 }
 
 // What a text stands for on a sheet.
-fn spelled(
+fn meaning_of(
     alloc: Global,
     sheets: &SheetNames,
     home: SheetId,
@@ -105,7 +105,7 @@ pub(crate) fn stands_for(alloc: Global, scope: &Scope, name: &str) -> Result<Opt
     ensures on_sheet { IfOk result (λ m. IfSome m IsMeantOnSheet) }
 {
     match text_for(alloc, scope, name)? {
-        Some(text) => spelled(alloc, scope.sheets, scope.home, text),
+        Some(text) => meaning_of(alloc, scope.sheets, scope.home, text),
         None => Ok(None),
     }
 }

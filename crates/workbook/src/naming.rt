@@ -17,7 +17,7 @@ use std::alloc::Global;
 /// A formula with what its names stand for in their places; none where one stands for nothing, or where there is no function of
 /// that name.
 #[cycle(naming)]
-pub(crate) fn named(alloc: Global, scope: &Scope, expr: &Expr) -> Result<Option<Expr>, Memory>
+pub(crate) fn with_names(alloc: Global, scope: &Scope, expr: &Expr) -> Result<Option<Expr>, Memory>
     requires listed { scope.now.home.0 < length scope.now.sheets.now }
     requires short { All IsShort (names_in scope.now) }
     ensures { IfOk result (λ found. found
@@ -29,14 +29,14 @@ pub(crate) fn named(alloc: Global, scope: &Scope, expr: &Expr) -> Result<Option<
         Node::Name(name) => in_place(alloc, scope, span, name.as_str()),
         Node::Unknown(_, _) => Ok(None),
         Node::Call(func, args) => Ok(call(span, *func, all_named(alloc, scope, span, args)?)),
-        Node::Plus(of) => Ok(plus(span, boxed(alloc, scope, of)?)),
-        Node::Minus(of) => Ok(minus(span, boxed(alloc, scope, of)?)),
-        Node::Percent(of) => Ok(percent(span, boxed(alloc, scope, of)?)),
+        Node::Plus(of) => Ok(plus(span, box_with_names(alloc, scope, of)?)),
+        Node::Minus(of) => Ok(minus(span, box_with_names(alloc, scope, of)?)),
+        Node::Percent(of) => Ok(percent(span, box_with_names(alloc, scope, of)?)),
         Node::Infix(op, left, right) => {
-            let Some(left) = boxed(alloc, scope, left)? else {
+            let Some(left) = box_with_names(alloc, scope, left)? else {
                 return Ok(None);
             };
-            Ok(infix(span, *op, left, boxed(alloc, scope, right)?))
+            Ok(infix(span, *op, left, box_with_names(alloc, scope, right)?))
         }
         _ => Ok(Some(expr.copy(alloc)?)),
     }
@@ -44,7 +44,7 @@ pub(crate) fn named(alloc: Global, scope: &Scope, expr: &Expr) -> Result<Option<
 
 // The same in a box.
 #[cycle(naming)]
-fn boxed(alloc: Global, scope: &Scope, expr: &Expr) -> Result<Option<Box<Expr>>, Memory>
+fn box_with_names(alloc: Global, scope: &Scope, expr: &Expr) -> Result<Option<Box<Expr>>, Memory>
     requires listed { scope.now.home.0 < length scope.now.sheets.now }
     requires short { All IsShort (names_in scope.now) }
     ensures found { IfOk result (λ found. option_map (λ b. b.value) found
@@ -52,7 +52,7 @@ fn boxed(alloc: Global, scope: &Scope, expr: &Expr) -> Result<Option<Box<Expr>>,
     ensures span { IfOk result (λ found. IfSome found (λ b. span_of b.value ≡ span_of expr.now)) }
     ensures sound { IfOk result (λ found. IfSome found (λ b. IsSound b.value)) }
 {
-    let Some(made) = named(alloc, scope, expr)? else {
+    let Some(made) = with_names(alloc, scope, expr)? else {
         return Ok(None);
     };
     made.soundness();
@@ -77,7 +77,7 @@ fn all_named(
 {
     let mut found = Vec::new(alloc);
     for expr in exprs {
-        let Some(made) = named(alloc, scope, expr)? else {
+        let Some(made) = with_names(alloc, scope, expr)? else {
             return Ok(None);
         };
         made.soundness();

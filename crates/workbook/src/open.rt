@@ -33,7 +33,7 @@ impl Workbook {
         let rows = read_files(alloc, files)?;
         let texts = texts_of(alloc, &rows)?;
         let names = names_of(alloc, &sheets, names)?;
-        let Ok(workbook) = filled(Workbook::empty(alloc, sheets, names), texts) else {
+        let Ok(workbook) = with_texts(Workbook::empty(alloc, sheets, names), texts) else {
             return Err(OpenFault::Memory);
         };
         Ok(workbook)
@@ -233,7 +233,7 @@ pub fn sheet_in(sheets: &SheetNames, text: &str) -> Option<Option<SheetId>>
 }
 
 // The workbook with all texts in their cells, the last of them first.
-fn filled(mut workbook: Workbook, mut texts: Vec<(Cell, Text)>) -> Result<Workbook, Memory>
+fn with_texts(mut workbook: Workbook, mut texts: Vec<(Cell, Text)>) -> Result<Workbook, Memory>
     requires { TextsFit workbook texts.items }
     ensures { IfOk result (λ w. w ≡ record workbook { contents = put_all texts.items workbook.contents }) }
 {

@@ -12,7 +12,7 @@ use crate::change::Change;
 use crate::held::{Held, Said};
 use crate::named::{Meant, Scope, stands_for};
 use crate::names::Names;
-use crate::naming::named;
+use crate::naming::with_names;
 use crate::say::said_of;
 use crate::users::Users;
 use crate::uses::uses;
@@ -34,7 +34,7 @@ pub(crate) struct Edit<'a> {
 
 /// What is said after the edit of the cells that say something else; no cell is looked at but those in whose formulas the name may
 /// stand, and no other formula's tree is made anew.
-pub(crate) fn renamed(
+pub(crate) fn sayings_after(
     alloc: Global,
     edit: &Edit,
     users: &Users,
@@ -94,13 +94,13 @@ fn resaid_at(
     ensures { IfOk result (λ said. ResaidAt edit.now.sheets.now edit.now.before.now (names_with edit.now) cell (held_at cells.now.entries cell) said) }
 {
     match cells.get(&cell) {
-        Some(held) => resaid(alloc, edit, cell, held),
+        Some(held) => saying_after(alloc, edit, cell, held),
         None => Ok(None),
     }
 }
 
 // The same of a text.
-fn resaid(alloc: Global, edit: &Edit, cell: Cell, held: &Held) -> Result<Option<Said>, Memory>
+fn saying_after(alloc: Global, edit: &Edit, cell: Cell, held: &Held) -> Result<Option<Said>, Memory>
     requires held { IsHeld edit.now.sheets.now edit.now.before.now cell held.now }
     requires others { OthersStay edit.now.name.now edit.now.before.now (names_with edit.now) }
     requires short { All IsShort edit.now.before.now }
@@ -122,7 +122,7 @@ fn resaid(alloc: Global, edit: &Edit, cell: Cell, held: &Held) -> Result<Option<
         names: edit.before,
         change: Some(edit.change),
     };
-    let said = said_of(named(alloc, &scope, spelled)?);
+    let said = said_of(with_names(alloc, &scope, spelled)?);
     Ok(other_said(said, &held.said))
 }
 

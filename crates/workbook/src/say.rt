@@ -13,7 +13,7 @@ ghost use Rattle.workbook.specs.Scoped.{IsShort};
 
 use crate::held::{Held, Said};
 use crate::named::Scope;
-use crate::naming::named;
+use crate::naming::with_names;
 use crate::uses::uses;
 use crate::words::{is_formula, logical};
 use cell_refs::Cell;
@@ -82,7 +82,7 @@ fn formula(
         Err(ParseFault::Memory) => return Err(Memory),
         Err(_) => return Ok((None, Said::Malformed)),
     };
-    let said = said_of(named(alloc, scope, &expr)?);
+    let said = said_of(with_names(alloc, scope, &expr)?);
     if uses(&expr, None) {
         return Ok((Some(Box::new(alloc, expr)?), said));
     }
@@ -116,7 +116,7 @@ pub(crate) fn tree(alloc: Global, scope: &Scope, text: &str) -> Result<Option<Ex
         Err(ParseFault::Memory) => return Err(Memory),
         Err(_) => return Ok(None),
     };
-    named(alloc, scope, &expr)
+    with_names(alloc, scope, &expr)
 }
 
 // What another text says.

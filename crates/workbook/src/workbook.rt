@@ -20,7 +20,7 @@ use crate::change::Change;
 use crate::held::{Held, put_in, put_over, say_otherwise, take_away};
 use crate::named::Scope;
 use crate::names::Names;
-use crate::renamed::{Edit, cells_of, renamed};
+use crate::renamed::{Edit, cells_of, sayings_after};
 use crate::say::hold;
 use crate::users::Users;
 use crate::words::{is_formula, one};
@@ -203,14 +203,14 @@ impl Workbook {
     {
         let mut held = Vec::new(self.alloc);
         for (cell, text) in texts {
-            let entry = self.held(cell, text)?;
+            let entry = self.held_with(cell, text)?;
             held.push((cell, entry))?;
         }
         Ok(held)
     }
 
     // What is held of a cell that has a text, with another text in its place.
-    fn held(&self, cell: Cell, text: Text) -> Result<Held, Memory>
+    fn held_with(&self, cell: Cell, text: Text) -> Result<Held, Memory>
         requires { CanReplace self.now.contents (cell, text) }
         ensures text { IfOk result (λ held. held.text ≡ text) }
         ensures fits { IfOk result (λ held. IsExchange self.now (cell, held)) }
@@ -275,7 +275,7 @@ impl Workbook {
             change: &change,
             name: change.name.as_str(),
         };
-        let said = renamed(self.alloc, &edit, &self.users, &self.cells)?;
+        let said = sayings_after(self.alloc, &edit, &self.users, &self.cells)?;
         let cells = cells_of(self.alloc, &said)?;
         self.names.change(self.alloc, change)?;
         say_otherwise(&mut self.cells, said);

@@ -31,12 +31,12 @@ fn text_of(alloc: Global, number: Frac) -> Result<String, Memory>
     ensures narrow { IsNarrow number }
 {
     let _num = number.num();
-    let text = written(alloc, number)?;
+    let text = text_for_cell(alloc, number)?;
     Ok(text)
 }
 
 // The number as it is printed, with an equals sign before it where a slash stands in it.
-fn written(alloc: Global, number: Frac) -> Result<String, Memory>
+fn text_for_cell(alloc: Global, number: Frac) -> Result<String, Memory>
     ensures { IfOk result (λ text. string_bytes text ≡ number_text number) }
 {
     let mut text = String::new(alloc);

@@ -18,7 +18,7 @@ pub(crate) fn all_looks(alloc: Global, args: &[Part]) -> Result<Vec<Cell>, Memor
 }
 
 /// A list of the same cells.
-pub(crate) fn copied(alloc: Global, cells: &[Cell]) -> Result<Vec<Cell>, Memory>
+pub(crate) fn copy_cells(alloc: Global, cells: &[Cell]) -> Result<Vec<Cell>, Memory>
     ensures { IfOk result (λ copies. copies.items ≡ cells.now) }
 {
     let mut copies = Vec::new(alloc);

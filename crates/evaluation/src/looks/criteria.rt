@@ -8,7 +8,7 @@ ghost use Rattle.sheet_funcs.specs.Criteria.{met};
 ghost use Rattle.sheet_model.specs.Grids.{IsFull};
 ghost use Rattle.sheet_model.specs.declared.value.Value.TheVariants.{Error};
 
-use crate::looks::arguments::{all_looks, copied, push_all};
+use crate::looks::arguments::{all_looks, copy_cells, push_all};
 use crate::part::Part;
 use cell_grids::Reference;
 use cell_refs::Cell;
@@ -26,7 +26,7 @@ pub(crate) fn sumif_looks(alloc: Global, args: &[Part]) -> Result<Vec<Cell>, Mem
     let Some(grid) = &summed.reference else {
         return all_looks(alloc, args);
     };
-    let mut looks = copied(alloc, &tested.looks)?;
+    let mut looks = copy_cells(alloc, &tested.looks)?;
     push_all(&criterion.looks, &mut looks)?;
     push_summed(grid, tested, criterion, &mut looks)?;
     Ok(looks)

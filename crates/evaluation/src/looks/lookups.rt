@@ -11,7 +11,7 @@ ghost use Rattle.sheet_funcs.specs.Within.{IsWithin};
 
 use crate::calls::{narrow_called, whole_part};
 use crate::cells::Cells;
-use crate::looks::arguments::{copied, outcomes, push_all, push_looks};
+use crate::looks::arguments::{copy_cells, outcomes, push_all, push_looks};
 use crate::looks::picks::picked_part;
 use crate::part::Part;
 use crate::values::values_of;
@@ -46,7 +46,7 @@ pub(crate) fn lookup_part<C: Cells>(
         });
     };
     if across {
-        return record_part(alloc, cells, &grid.exchanged(alloc)?, key, rest);
+        return record_part(alloc, cells, &grid.transpose(alloc)?, key, rest);
     }
     record_part(alloc, cells, grid, key, rest)
 }
@@ -62,7 +62,7 @@ fn lookup(across: bool) -> Func
 fn looks_of_all(alloc: Global, table: &Part, key: &Part, rest: &[Part]) -> Result<Vec<Cell>, Memory>
     ensures { IfOk result (λ looks. looks.items ≡ all_looks (table.now ∷ key.now ∷ rest.now)) }
 {
-    let mut looks = copied(alloc, &table.looks)?;
+    let mut looks = copy_cells(alloc, &table.looks)?;
     push_all(&key.looks, &mut looks)?;
     push_looks(rest, &mut looks)?;
     Ok(looks)
@@ -78,7 +78,7 @@ fn record_part<C: Cells>(
 ) -> Result<Part, Memory>
     ensures { IfOk result (λ part. part ≡ record { looks = record_looks by_value (C.known cells.now) grid.now (key.now ∷ rest.now); outcome = record_outcome (C.known cells.now) grid.now (key.now ∷ rest.now); reference = None }) }
 {
-    let mut looks = copied(alloc, &key.looks)?;
+    let mut looks = copy_cells(alloc, &key.looks)?;
     push_looks(rest, &mut looks)?;
     let keys = grid.first_column(alloc)?;
     push_all(&keys, &mut looks)?;
@@ -107,11 +107,17 @@ fn found_part<C: Cells>(
     let Some(others) = outcomes(alloc, rest)? else {
         return Ok(Part::without(looks));
     };
-    picked_part(alloc, cells, grid, looks, found(grid, keys, key, &others))
+    picked_part(
+        alloc,
+        cells,
+        grid,
+        looks,
+        pick_by_key(grid, keys, key, &others),
+    )
 }
 
 // What is found by a key and further arguments.
-fn found(grid: &Reference, keys: &[Value], key: &Arg, others: &[Arg]) -> Pick
+fn pick_by_key(grid: &Reference, keys: &[Value], key: &Arg, others: &[Arg]) -> Pick
     requires { length keys.now ≡ grid.now.rows }
     ensures pick { result ≡ record_pick grid.now.columns keys.now (key.now ∷ others.now) }
     ensures within { IsWithin grid.now.rows grid.now.columns result }

@@ -63,7 +63,7 @@ pub(crate) fn picked_part<C: Cells>(
     ensures { IfOk result (λ part. part ≡ record { looks = looks.items ++ picked_cells grid.now pick; outcome = picked_outcome (C.known cells.now) grid.now pick; reference = None }) }
 {
     let mut looks = looks;
-    let picked = grid.picked(alloc, pick)?;
+    let picked = grid.cells_in(alloc, pick)?;
     let outcome = picked_outcome(alloc, cells, grid, pick, &picked)?;
     push_all(&picked, &mut looks)?;
     Ok(Part {

@@ -8,4 +8,4 @@ pub returns-clause-answer : goal.returns-clause-answer
 returns-clause-answer c = search rules
 
 pub returns-clause-right : goal.returns-clause-right
-returns-clause-right c = call_true func.Transpose transpose_is_right c.args.args.now (Ok c.in_ok-transposed.field-0) c.requires.open_argument (returns-clause-answer c)
+returns-clause-right c = call_true func.Transpose transpose_is_right c.args.args.now (Ok c.in_ok-transpose_elements.field-0) c.requires.open_argument (returns-clause-answer c)

@@ -12,5 +12,5 @@ returns c =
     let d = c.args.deciding in
     let ts = truths_of 0 c.args.args.now in
     rw c.as_one.ensures
-    (then_answers One (of_truths d ts (first_error ts)) c.concluded.result
-    (subst (λ t. Answers t c.concluded.result) (ap (concluded d) c.in_ok-seen.ensures ∙ concluded_all d ts) c.concluded.ensures))
+    (then_answers One (of_truths d ts (first_error ts)) c.conclusion.result
+    (subst (λ t. Answers t c.conclusion.result) (ap (concluded d) c.in_ok-seen.ensures ∙ concluded_all d ts) c.conclusion.ensures))

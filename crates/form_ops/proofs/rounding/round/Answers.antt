@@ -8,4 +8,4 @@ pub returns-clause-answer : goal.returns-clause-answer
 returns-clause-answer c = search rules
 
 pub returns-clause-right : goal.returns-clause-right
-returns-clause-right c = call_true func.Round round_is_right c.args.args.now c.rounded.result c.requires.open_argument (returns-clause-answer c)
+returns-clause-right c = call_true func.Round round_is_right c.args.args.now c.round_open.result c.requires.open_argument (returns-clause-answer c)

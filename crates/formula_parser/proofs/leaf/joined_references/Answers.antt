@@ -22,14 +22,14 @@ slice_bounds-place_of-count c =
 pub returns-then-union-clause-gives : goal.returns-then-union-clause-gives
 returns-then-union-clause-gives c =
     let place : c.place_of-place.result ≡ place_of (take (length c.args.symbols.now - length c.in_ok-union.rest.now) c.args.symbols.now) = same_place c.args.symbols.now _ (length c.args.symbols.now - length c.in_ok-union.rest.now) c.place_of-place.result c.place_of-place.ensures (omega arith) in
-    let part : Part = record { branch = c.lost-branch.result; place = c.place_of-place.result } in
-    union_lost (seen c.args.setting.now) c.args.symbols.now c.in_ok-union.union.areas.items c.in_ok-union.union.lost c.in_ok-union.rest.now c.in_ok-union.ensures.gives c.if-union.true part place (λ tree. c.lost-branch.ensures tree)
+    let part : Part = record { branch = c.without_sheet-branch.result; place = c.place_of-place.result } in
+    union_lost (seen c.args.setting.now) c.args.symbols.now c.in_ok-union.union.areas.items c.in_ok-union.union.lost c.in_ok-union.rest.now c.in_ok-union.ensures.gives c.if-union.true part place (λ tree. c.without_sheet-branch.ensures tree)
 
 pub returns-then-union-clause-placed : goal.returns-then-union-clause-placed
 returns-then-union-clause-placed c =
     let place : c.place_of-place.result ≡ place_of (take (length c.args.symbols.now - length c.in_ok-union.rest.now) c.args.symbols.now) = same_place c.args.symbols.now _ (length c.args.symbols.now - length c.in_ok-union.rest.now) c.place_of-place.result c.place_of-place.ensures (omega arith) in
-    let part : Part = record { branch = c.lost-branch.result; place = c.place_of-place.result } in
-    union_front (seen c.args.setting.now) c.args.symbols.now c.in_ok-union.union.areas.items c.in_ok-union.union.lost c.in_ok-union.rest.now c.in_ok-union.ensures.gives c.requires part (union_lost (seen c.args.setting.now) c.args.symbols.now c.in_ok-union.union.areas.items c.in_ok-union.union.lost c.in_ok-union.rest.now c.in_ok-union.ensures.gives c.if-union.true part place (λ tree. c.lost-branch.ensures tree))
+    let part : Part = record { branch = c.without_sheet-branch.result; place = c.place_of-place.result } in
+    union_front (seen c.args.setting.now) c.args.symbols.now c.in_ok-union.union.areas.items c.in_ok-union.union.lost c.in_ok-union.rest.now c.in_ok-union.ensures.gives c.requires part (union_lost (seen c.args.setting.now) c.args.symbols.now c.in_ok-union.union.areas.items c.in_ok-union.union.lost c.in_ok-union.rest.now c.in_ok-union.ensures.gives c.if-union.true part place (λ tree. c.without_sheet-branch.ensures tree))
 
 pub invariant_of-part_of : goal.invariant_of-part_of
 invariant_of-part_of c =

@@ -41,7 +41,7 @@ returns-in-OpenSquare-clause-gives c =
 
 pub returns-in-Word-clause-gives : goal.returns-in-Word-clause-gives
 returns-in-Word-clause-gives c =
-    same_gives _ _ _ _ (sym (leaf_word (seen c.args.setting.now) _ c.args.symbols.now (take (length c.args.symbols.now - 1) (drop 1 c.args.symbols.now)) (first_others c.args.symbols.now _ c.in-len1-up.len_at_least) c.in-Word.is)) c.worded.ensures.gives
+    same_gives _ _ _ _ (sym (leaf_word (seen c.args.setting.now) _ c.args.symbols.now (take (length c.args.symbols.now - 1) (drop 1 c.args.symbols.now)) (first_others c.args.symbols.now _ c.in-len1-up.len_at_least) c.in-Word.is)) c.word_leaf.ensures.gives
 
 pub returns-in_ok-part-in_default : goal.returns-in_ok-part-in_default
 returns-in_ok-part-in_default c = record {

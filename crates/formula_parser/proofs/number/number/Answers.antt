@@ -9,8 +9,8 @@ use Rattle.formula_parser.proofs.number.number.Goals as goal
 
 pub returns-in-Ok : goal.returns-in-Ok
 returns-in-Ok c =
-    subst (λ (b : List ℕ). option_map (λ n. item_of (signed_number c.args.is_negative c.args.at n)) (reading b) ≡ Some (Some (Number c.args.at c.signed-number.result))) c.slice.ensures
-    (narrow_read c.args.is_negative c.args.at c.slice.result.now c.in-Ok.number c.signed-number.result c.in-Ok.ensures.ok c.signed-number.ensures)
+    subst (λ (b : List ℕ). option_map (λ n. item_of (signed_number c.args.is_negative c.args.at n)) (reading b) ≡ Some (Some (Number c.args.at c.with_sign-number.result))) c.slice.ensures
+    (narrow_read c.args.is_negative c.args.at c.slice.result.now c.in-Ok.number c.with_sign-number.result c.in-Ok.ensures.ok c.with_sign-number.ensures)
 
 pub returns-in-Err-TooWide : goal.returns-in-Err-TooWide
 returns-in-Err-TooWide c =

@@ -11,7 +11,7 @@ returns-in_err-first-clause-gives c =
 
 pub returns-in-Ok-clause-gives : goal.returns-in-Ok-clause-gives
 returns-in-Ok-clause-gives c =
-    gives_as _ c.closed.result _ _ c.closed.ensures.gives
+    gives_as _ c.before_bracket.result _ _ c.before_bracket.ensures.gives
     (brackets_then (seen c.args.setting.now) c.args.symbols.now (corner_of c.in_ok-first.first) c.in_ok-first.behind.now c.in-Ok.area c.in-Ok.rest.now c.in_ok-first.ensures.gives c.in-Ok.ensures.gives)
 
 pub returns-clause-gives : goal.returns-clause-gives

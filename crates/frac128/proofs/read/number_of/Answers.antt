@@ -28,7 +28,7 @@ returns c =
     sum ∙ ap (λ x. pos t.zeros +ℤ ((x -ℤ pos b) -ℤ pos p)) c.exponent-marked.ensures.value in
     let zeros_fit : t.zeros < 2 ^ 64 = search rules in
     let behind_fits : b < 2 ^ 64 = search rules in
-    let answer : IsScaled c.scaled.result s.negative t.number (power_of t.zeros s.exponent_negative (min v (2 ^ 70)) b p) =
-    subst (IsScaled c.scaled.result s.negative t.number) total_is (simp to_z-of_z at c.scaled.ensures) in
-    numeral-answer c.scaled.result n t.number t.zeros c.in_ok-trimmed.ensures.2 (omega (arith, c.in_ok-trimmed.ensures.0, c.in_ok-trimmed.ensures.1))
-    (capped-answer c.scaled.result s.negative t.number t.zeros b p v s.exponent_negative c.in_ok-trimmed.ensures.1 zeros_fit behind_fits (percent_small s.percent) answer)
+    let answer : IsScaled c.with_exponent.result s.negative t.number (power_of t.zeros s.exponent_negative (min v (2 ^ 70)) b p) =
+    subst (IsScaled c.with_exponent.result s.negative t.number) total_is (simp to_z-of_z at c.with_exponent.ensures) in
+    numeral-answer c.with_exponent.result n t.number t.zeros c.in_ok-trimmed.ensures.2 (omega (arith, c.in_ok-trimmed.ensures.0, c.in_ok-trimmed.ensures.1))
+    (capped-answer c.with_exponent.result s.negative t.number t.zeros b p v s.exponent_negative c.in_ok-trimmed.ensures.1 zeros_fit behind_fits (percent_small s.percent) answer)

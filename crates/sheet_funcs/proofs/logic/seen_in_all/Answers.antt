@@ -13,5 +13,5 @@ returns-in_err-seen_in c =
 
 pub loop-arg-preserved : goal.loop-arg-preserved
 loop-arg-preserved c =
-    rw c.joined-seen.ensures
+    rw c.join-seen.ensures
     (sees_more logicals_in _ c.loop-arg.seen _ c.arg-item.result _ c.in_ok-seen_in.field-0 (rest_from c.args.args.now c.loop-arg.arg-index c.arg-item.result (omega arith) c.arg-item.is) c.loop-arg.invariant c.in_ok-seen_in.ensures)

@@ -14,7 +14,7 @@ returns-clause-pick c =
       | else-rows-ne1-via-else-rows-ne1 w ↦ inl (sym c.rows_of-rows.ensures ∙ w.if-rows-ne1.false)
     ] in
     c.pick_in.ensures
-    ∙ line_pick c.args.key.now c.args.keys.now c.in-Ok.key.now c.in-Ok-kind.number c.full_elements.result.now c.max.result c.found-place.result c.in-Ok.ensures c.full_elements.ensures.full line
+    ∙ line_pick c.args.key.now c.args.keys.now c.in-Ok.key.now c.in-Ok-kind.number c.full_elements.result.now c.max.result c.place_of_key-place.result c.in-Ok.ensures c.full_elements.ensures.full line
     c.full_elements.ensures.items (c.max.ensures ∙ ap (λ n. max n c.columns_of-columns.result) c.rows_of-rows.ensures ∙ ap (max g.rows) c.columns_of-columns.ensures)
-    (c.found-place.ensures.place ∙ ap (λ k. found k c.in-Ok.key.now (spaced c.full_elements.result.now 1 c.max.result)) c.kind_of-kind.ensures)
+    (c.place_of_key-place.ensures.place ∙ ap (λ k. found k c.in-Ok.key.now (spaced c.full_elements.result.now 1 c.max.result)) c.kind_of-kind.ensures)
     ∙ ap (lookup_pick c.args.key.now c.args.keys.now) (sym c.in-Ok-kind.is)

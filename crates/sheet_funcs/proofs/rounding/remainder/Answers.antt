@@ -12,10 +12,10 @@ returns-in_err-quotient-clause-answer c =
 
 pub returns-in_err-multiple-clause-answer : goal.returns-in_err-multiple-clause-answer
 returns-in_err-multiple-clause-answer c =
-    multiple_stops c.args.x c.args.y c.in_ok-quotient.quotient c.rounded.result _ c.from_residual-in_err-multiple.result (sym (is_zero-told c.is_zero.result _ c.is_zero.ensures) ∙ c.if-is_zero.false)
-    c.from_residual-in_err-multiple.ensures.1 c.in_ok-quotient.ensures c.rounded.ensures c.in_err-multiple.ensures
+    multiple_stops c.args.x c.args.y c.in_ok-quotient.quotient c.round_whole.result _ c.from_residual-in_err-multiple.result (sym (is_zero-told c.is_zero.result _ c.is_zero.ensures) ∙ c.if-is_zero.false)
+    c.from_residual-in_err-multiple.ensures.1 c.in_ok-quotient.ensures c.round_whole.ensures c.in_err-multiple.ensures
 
 pub returns-clause-answer : goal.returns-clause-answer
 returns-clause-answer c =
-    remainder_answers c.args.x c.args.y c.in_ok-quotient.quotient c.rounded.result c.in_ok-multiple.multiple c.neg.result c.add.result c.calculated.result
-    (sym (is_zero-told c.is_zero.result _ c.is_zero.ensures) ∙ c.if-is_zero.false) c.in_ok-quotient.ensures c.rounded.ensures c.in_ok-multiple.ensures c.neg.ensures c.add.ensures c.calculated.ensures.answer
+    remainder_answers c.args.x c.args.y c.in_ok-quotient.quotient c.round_whole.result c.in_ok-multiple.multiple c.neg.result c.add.result c.number_answer.result
+    (sym (is_zero-told c.is_zero.result _ c.is_zero.ensures) ∙ c.if-is_zero.false) c.in_ok-quotient.ensures c.round_whole.ensures c.in_ok-multiple.ensures c.neg.ensures c.add.ensures c.number_answer.ensures.answer

@@ -14,4 +14,4 @@ divide-requires c h =
 pub returns-clause-answer : goal.returns-clause-answer
 returns-clause-answer c = λ xs narrow many.
     let same : to_z w128 (of_z w128 c.args.count) ≡ c.args.count = omega (arith, ints) in
-    mean_answers xs c.args.sum c.whole.result c.divide.result c.calculated.result (λ e. c.if-count-eq0.false (ap (of_z w128) (many ∙ e))) (c.whole.ensures ∙ ap whole_ℚ (same ∙ many)) narrow c.divide.ensures c.calculated.ensures.answer
+    mean_answers xs c.args.sum c.whole.result c.divide.result c.number_answer.result (λ e. c.if-count-eq0.false (ap (of_z w128) (many ∙ e))) (c.whole.ensures ∙ ap whole_ℚ (same ∙ many)) narrow c.divide.ensures c.number_answer.ensures.answer

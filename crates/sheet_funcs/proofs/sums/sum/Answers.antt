@@ -8,7 +8,7 @@ use Rattle.sheet_funcs.proofs.sums.sum.Goals as goal
 
 pub returns-clause-narrow : goal.returns-clause-narrow
 returns-clause-narrow c =
-    c.summed.ensures.answer (numbers_of c.args.args.now) (c.of_args.ensures ∙ ap (λ x. tally_or_error Total (Some x) (numbers_of c.args.args.now)) c.zero.ensures)
+    c.sum_answer.ensures.answer (numbers_of c.args.args.now) (c.of_args.ensures ∙ ap (λ x. tally_or_error Total (Some x) (numbers_of c.args.args.now)) c.zero.ensures)
 
 pub returns-clause-exact : goal.returns-clause-exact
-returns-clause-exact c = answer-exact (sum_of c.args.args.now) c.summed.result (returns-clause-narrow c)
+returns-clause-exact c = answer-exact (sum_of c.args.args.now) c.sum_answer.result (returns-clause-narrow c)

@@ -13,4 +13,4 @@ returns-in-Ok-clause-step g c =
 
 pub returns-in-Err-clause-said : goal.returns-in-Err-clause-said
 returns-in-Err-clause-said g c =
-    rw (← c.self.view_is) (if_ok_map c.told.result _ _ (λ a h. h c.self.inside.book c.args.sheet.0 c.in-Err.ensures.prepares c.in-Err.ensures.said) c.told.ensures.said)
+    rw (← c.self.view_is) (if_ok_map c.answer_without_model.result _ _ (λ a h. h c.self.inside.book c.args.sheet.0 c.in-Err.ensures.prepares c.in-Err.ensures.said) c.answer_without_model.ensures.said)

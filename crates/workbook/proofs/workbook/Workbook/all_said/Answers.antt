@@ -9,8 +9,8 @@ use Rattle.workbook.specs.Held.{text_entry}
 use Rattle.workbook.specs.Replacing.{CanReplace}
 use Rattle.workbook.proofs.workbook.Workbook.all_said.Goals as goal
 
-pub held-requires : goal.held-requires
-held-requires c =
+pub held_with-requires : goal.held_with-requires
+held_with-requires c =
     let turn = YieldsList-turn (YieldsList-from_vec {s = c.into_iter-cell-iterator.result} c.args.texts.items (search rules) (search rules))
     c.loop-cell.yielded c.loop-cell.cell-iterator c.loop-cell.yielded_by c.next.result c.next.new.self (c.in-Some.cell, c.in-Some.text) c.in-Some.is c.next.ensures.steps in
     subst (CanReplace c.args.self.now.contents) (sym turn.1)

@@ -14,13 +14,13 @@ use Rattle.workbook.proofs.Keeping.{the_state}
 use Rattle.workbook.proofs.Resaid.{kept_resaid, same_contents, say_otherwise}
 use Rattle.workbook.proofs.workbook.Workbook.rename.Goals as goal
 
-pub renamed-requires-clause-others : goal.renamed-requires-clause-others
-renamed-requires-clause-others c =
+pub sayings_after-requires-clause-others : goal.sayings_after-requires-clause-others
+sayings_after-requires-clause-others c =
     subst (λ name. OthersStay name c.self.inside.names (after_change c.self.inside.names c.args.change)) (sym c.as_str.ensures.value)
     (others_changed c.self.inside.names c.args.change)
 
-pub renamed-requires-clause-short_after : goal.renamed-requires-clause-short_after
-renamed-requires-clause-short_after c = subst (λ (s : State). All IsShort (after_change s.names c.args.change)) (sym c.self.view_is) c.requires.short
+pub sayings_after-requires-clause-short_after : goal.sayings_after-requires-clause-short_after
+sayings_after-requires-clause-short_after c = subst (λ (s : State). All IsShort (after_change s.names c.args.change)) (sym c.self.view_is) c.requires.short
 
 pub invariant_of-self-2 : goal.invariant_of-self-2
 invariant_of-self-2 c =
