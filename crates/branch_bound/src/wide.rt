@@ -26,11 +26,7 @@ fn steps(alloc: Global, path: &[Part]) -> Result<Vec<(u16, bool, i128)>, Memory>
 fn copy_variables(alloc: Global, variables: &[u16]) -> Result<Vec<u16>, Memory>
     ensures { IfOk result (λ v. v.items ≡ variables.now) }
 {
-    let mut made = Vec::new(alloc);
-    for variable in variables {
-        made.push(*variable)?;
-    }
-    Ok(made)
+    Ok(Vec::from_slice(alloc, variables)?)
 }
 
 // The stop at the node's next pivot, which is not narrow.

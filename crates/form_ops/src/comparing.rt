@@ -11,7 +11,7 @@ use crate::operand::{Number, comparable};
 use crate::results::{as_test, fault, logical};
 use cell_refs::Op;
 use form_values::{Abs, OpRefusal, Rel};
-use sheet_model::Value;
+use sheet_model::{Value, asks_for};
 use std::alloc::Global;
 use std::cmp::Ordering;
 
@@ -82,20 +82,5 @@ fn relation_of(op: Op) -> Rel
         Op::Ge => Rel::Ge,
         Op::Gt => Rel::Gt,
         Op::Eq | Op::Add | Op::Sub | Op::Mul | Op::Div | Op::Pow | Op::Cat => Rel::Eq,
-    }
-}
-
-// Whether a comparison holds of values in this order.
-fn asks_for(op: Op, order: Ordering) -> bool
-    ensures { result ≡ asks_for op order }
-{
-    match op {
-        Op::Eq => order.is_eq(),
-        Op::Ne => order.is_ne(),
-        Op::Lt => order.is_lt(),
-        Op::Le => order.is_le(),
-        Op::Gt => order.is_gt(),
-        Op::Ge => order.is_ge(),
-        Op::Add | Op::Sub | Op::Mul | Op::Div | Op::Pow | Op::Cat => false,
     }
 }

@@ -3,7 +3,7 @@ ghost use Rattle.std.specs.Prelude.{◌≡◌, ◌≤◌, ◌^◌, ◌∷◌, If
 ghost use Rattle.std.specs.List.{filter_map, list_all};
 ghost use Rattle.std.specs.Option.{option_to_list};
 ghost use Rattle.form_ops.specs.SeenLogicals.{concluded, nothing_seen, open_logical, opened_with, seen_all, seen_with};
-ghost use Rattle.form_table.specs.Logic.{element_truth, junction, known, not_abs, not_form, of_logical, opened, reversed, truth_of, truths_in, truths_of};
+ghost use Rattle.form_table.specs.Logic.{element_truth, junction, known, not_abs, not_form, of_logical, opened, truth_of, truths_in, truths_of};
 ghost use Rattle.form_ops.specs.Truths.{IsTrueCall};
 ghost use Rattle.form_table.specs.Table.{row_of};
 ghost use Rattle.form_values.specs.Known.{all_known};
@@ -74,21 +74,7 @@ fn other_logical(alloc: Global, value: &Abs) -> Result<Abs, Memory>
             Err(kind) => Ok(fault(kind)),
         },
         Abs::Affine(form) => Ok(Abs::Test(form.copy(alloc)?, Rel::Eq)),
-        Abs::Test(form, relation) => Ok(Abs::Test(form.copy(alloc)?, complement(*relation))),
-    }
-}
-
-// The relation that holds where another doesn't.
-fn complement(relation: Rel) -> Rel
-    ensures { result ≡ reversed relation }
-{
-    match relation {
-        Rel::Lt => Rel::Ge,
-        Rel::Le => Rel::Gt,
-        Rel::Eq => Rel::Ne,
-        Rel::Ne => Rel::Eq,
-        Rel::Ge => Rel::Lt,
-        Rel::Gt => Rel::Le,
+        Abs::Test(form, relation) => Ok(Abs::Test(form.copy(alloc)?, relation.complement())),
     }
 }
 

@@ -104,9 +104,5 @@ pub(crate) fn greater(bound: Option<Frac>, other: Frac) -> Frac
 fn copy_bounds(alloc: Global, bounds: &[Option<Frac>]) -> Result<Vec<Option<Frac>>, Memory>
     ensures { IfOk result (λ v. v.items ≡ bounds.now) }
 {
-    let mut all = Vec::new(alloc);
-    for bound in bounds {
-        all.push(*bound)?;
-    }
-    Ok(all)
+    Ok(Vec::from_slice(alloc, bounds)?)
 }

@@ -86,11 +86,7 @@ pub fn unbounded_answer(
 fn copy_variables(alloc: Global, variables: &[u16]) -> Result<Vec<u16>, Memory>
     ensures { IfOk result (λ v. v.items ≡ variables.now) }
 {
-    let mut made = Vec::new(alloc);
-    for variable in variables {
-        made.push(*variable)?;
-    }
-    Ok(made)
+    Ok(Vec::from_slice(alloc, variables)?)
 }
 
 /// The stop at a pivot that is not narrow.

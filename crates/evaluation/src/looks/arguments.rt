@@ -21,9 +21,7 @@ pub(crate) fn all_looks(alloc: Global, args: &[Part]) -> Result<Vec<Cell>, Memor
 pub(crate) fn copy_cells(alloc: Global, cells: &[Cell]) -> Result<Vec<Cell>, Memory>
     ensures { IfOk result (λ copies. copies.items ≡ cells.now) }
 {
-    let mut copies = Vec::new(alloc);
-    push_all(cells, &mut copies)?;
-    Ok(copies)
+    Ok(Vec::from_slice(alloc, cells)?)
 }
 
 /// Puts all that some arguments look at behind other cells.
@@ -40,9 +38,7 @@ pub(crate) fn push_looks(args: &[Part], to: &mut Vec<Cell>) -> Result<(), Memory
 pub(crate) fn push_all(cells: &[Cell], to: &mut Vec<Cell>) -> Result<(), Memory>
     ensures { OnOk result (to.new.items ≡ to.old.items ++ cells.now) }
 {
-    for cell in cells {
-        to.push(*cell)?;
-    }
+    to.extend_from_slice(cells)?;
     Ok(())
 }
 
