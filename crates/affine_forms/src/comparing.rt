@@ -41,7 +41,8 @@ pub(crate) fn are_scaled(
     k: Frac,
     others: &[(u16, Frac)],
 ) -> Result<bool, Wide>
-    ensures { AnswersInPlace (turned_into (same_terms terms.now) (scaled_terms k others.now)) result }
+    ensures { AnswersInPlace
+        (turned_into (same_terms terms.now) (scaled_terms k others.now)) result }
 {
     let mut same = true;
     let mut i = 0;
@@ -58,7 +59,8 @@ pub(crate) fn are_scaled(
 
 // Whether a term stands at a place.
 fn is_at(terms: &[(u16, Frac)], i: usize, j: u16, c: Frac) -> bool
-    ensures { (others : List (ℕ × ℚ)) → same_terms (drop i terms.now) ((j, c) ∷ others) ≡ (result && same_terms (drop (i + 1) terms.now) others) }
+    ensures { (others : List (ℕ × ℚ)) → same_terms (drop i terms.now) ((j, c) ∷ others)
+        ≡ (result && same_terms (drop (i + 1) terms.now) others) }
 {
     if i < terms.len() {
         let term = terms[i];

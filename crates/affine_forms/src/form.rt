@@ -128,8 +128,10 @@ impl Form {
     /// The sum, coefficient by coefficient.
     pub fn add(&self, alloc: Global, other: &Form) -> Result<Form, FormStop>
         ensures answer { Answers (added self.now other.now) result }
-        ensures in_place { IfErr result (λ stop. stop ≡ stops.Memory → NeedsRoom (added self.now other.now)) }
-        ensures few { IfErr result (λ stop. stop ≡ stops.Memory → 2 < length self.now.terms + length other.now.terms) }
+        ensures in_place { IfErr result (λ stop. stop ≡ stops.Memory
+            → NeedsRoom (added self.now other.now)) }
+        ensures few { IfErr result (λ stop. stop ≡ stops.Memory
+            → 2 < length self.now.terms + length other.now.terms) }
     {
         let base = add(self.base(), other.base())?;
         let terms = sum_of_terms(alloc, self.terms(), other.terms())?;
@@ -139,8 +141,10 @@ impl Form {
     /// The difference: the sum with the other's sign turned.
     pub fn sub(&self, alloc: Global, other: &Form) -> Result<Form, FormStop>
         ensures answer { Answers (subtracted self.now other.now) result }
-        ensures in_place { IfErr result (λ stop. stop ≡ stops.Memory → NeedsRoom (done (negated other.now)) ⊎ NeedsRoom (subtracted self.now other.now)) }
-        ensures few { IfErr result (λ stop. stop ≡ stops.Memory → 2 < length self.now.terms + length other.now.terms) }
+        ensures in_place { IfErr result (λ stop. stop ≡ stops.Memory
+            → NeedsRoom (done (negated other.now)) ⊎ NeedsRoom (subtracted self.now other.now)) }
+        ensures few { IfErr result (λ stop. stop ≡ stops.Memory
+            → 2 < length self.now.terms + length other.now.terms) }
     {
         let turned = other.neg(alloc)?;
         self.add(alloc, &turned)
@@ -149,7 +153,8 @@ impl Form {
     /// So many times the form.
     pub fn scale(&self, alloc: Global, k: Frac) -> Result<Form, FormStop>
         ensures answer { Answers (scaled k self.now) result }
-        ensures in_place { IfErr result (λ stop. stop ≡ stops.Memory → NeedsRoom (scaled k self.now)) }
+        ensures in_place { IfErr result (λ stop. stop ≡ stops.Memory
+            → NeedsRoom (scaled k self.now)) }
         ensures few { IfErr result (λ stop. stop ≡ stops.Memory → 2 < length self.now.terms) }
     {
         let base = multiply(self.base(), k)?;
@@ -160,10 +165,13 @@ impl Form {
     /// Adds the other in place. Where its terms lie behind those of the form, they are put there and nothing is moved, so that a
     /// long sum in the order of the decisions takes one pass.
     pub fn add_to(&mut self, alloc: Global, other: &Form) -> Result<(), FormStop>
-        ensures answer { Answers (added self.old other.now) (result_map_both (λ _. self.new) (λ stop. stop) result) }
+        ensures answer { Answers (added self.old other.now)
+            (result_map_both (λ _. self.new) (λ stop. stop) result) }
         ensures unchanged { OnErr result (self.new ≡ self.old) }
-        ensures in_place { IfErr result (λ stop. stop ≡ stops.Memory → NeedsRoom (added self.old other.now)) }
-        ensures few { IfErr result (λ stop. stop ≡ stops.Memory → 2 < length self.old.terms + length other.now.terms) }
+        ensures in_place { IfErr result (λ stop. stop ≡ stops.Memory
+            → NeedsRoom (added self.old other.now)) }
+        ensures few { IfErr result (λ stop. stop ≡ stops.Memory
+            → 2 < length self.old.terms + length other.now.terms) }
     {
         let base = add(self.base, other.base())?;
         add_terms(&mut self.terms, alloc, other.terms())?;
@@ -173,10 +181,13 @@ impl Form {
 
     /// Adds so many times the other in place: all products are made first, and then added.
     pub fn add_product(&mut self, alloc: Global, k: Frac, other: &Form) -> Result<(), FormStop>
-        ensures answer { Answers (added_product self.old k other.now) (result_map_both (λ _. self.new) (λ stop. stop) result) }
+        ensures answer { Answers (added_product self.old k other.now)
+            (result_map_both (λ _. self.new) (λ stop. stop) result) }
         ensures unchanged { OnErr result (self.new ≡ self.old) }
-        ensures in_place { IfErr result (λ stop. stop ≡ stops.Memory → NeedsRoom (scaled k other.now) ⊎ NeedsRoom (added_product self.old k other.now)) }
-        ensures few { IfErr result (λ stop. stop ≡ stops.Memory → 2 < length self.old.terms + length other.now.terms) }
+        ensures in_place { IfErr result (λ stop. stop ≡ stops.Memory
+            → NeedsRoom (scaled k other.now) ⊎ NeedsRoom (added_product self.old k other.now)) }
+        ensures few { IfErr result (λ stop. stop ≡ stops.Memory
+            → 2 < length self.old.terms + length other.now.terms) }
     {
         let product = other.scale(alloc, k)?;
         self.add_to(alloc, &product)

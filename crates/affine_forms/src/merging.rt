@@ -20,8 +20,10 @@ pub(crate) fn sum_of_terms(
     right: &[(u16, Frac)],
 ) -> Result<Terms, FormStop>
     ensures narrow { Answers (merged left.now right.now) result }
-    ensures in_place { IfErr result (λ stop. stop ≡ stops.Memory → NeedsRoomFor (merged left.now right.now)) }
-    ensures few { IfErr result (λ stop. stop ≡ stops.Memory → 2 < length left.now + length right.now) }
+    ensures in_place { IfErr result (λ stop. stop ≡ stops.Memory
+        → NeedsRoomFor (merged left.now right.now)) }
+    ensures few { IfErr result (λ stop. stop ≡ stops.Memory
+        → 2 < length left.now + length right.now) }
 {
     let mut terms = Terms::new(alloc);
     let mut i = 0;
@@ -66,7 +68,8 @@ pub(crate) fn multiple_of_terms(
     terms: &[(u16, Frac)],
 ) -> Result<Terms, FormStop>
     ensures narrow { Answers (scaled_terms k terms.now) result }
-    ensures in_place { IfErr result (λ stop. stop ≡ stops.Memory → NeedsRoomFor (scaled_terms k terms.now)) }
+    ensures in_place { IfErr result (λ stop. stop ≡ stops.Memory
+        → NeedsRoomFor (scaled_terms k terms.now)) }
     ensures few { IfErr result (λ stop. stop ≡ stops.Memory → 2 < length terms.now) }
 {
     let mut products = Terms::new(alloc);

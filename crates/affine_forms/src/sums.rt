@@ -21,10 +21,13 @@ pub(crate) fn add_terms(
     more: &[(u16, Frac)],
 ) -> Result<(), FormStop>
     requires { RiseFrom 0 terms.old }
-    ensures answer { Answers (merged terms.old more.now) (result_map_both (λ _. terms.new) (λ stop. stop) result) }
+    ensures answer { Answers (merged terms.old more.now)
+        (result_map_both (λ _. terms.new) (λ stop. stop) result) }
     ensures unchanged { OnErr result (terms.new ≡ terms.old) }
-    ensures in_place { IfErr result (λ stop. stop ≡ stops.Memory → NeedsRoomFor (merged terms.old more.now)) }
-    ensures few { IfErr result (λ stop. stop ≡ stops.Memory → 2 < length terms.old + length more.now) }
+    ensures in_place { IfErr result (λ stop. stop ≡ stops.Memory
+        → NeedsRoomFor (merged terms.old more.now)) }
+    ensures few { IfErr result (λ stop. stop ≡ stops.Memory
+        → 2 < length terms.old + length more.now) }
 {
     if lie_behind(terms.as_slice(), more) {
         terms.append(more)?;

@@ -25,8 +25,11 @@ fn numbers_in(from: &[Frac], room: Vec<Frac>) -> Vec<Frac>
 pub(crate) fn end_of_search(model: &LinModel, frontier: &Frontier, room: Room) -> Progress
     requires point { length room.point.items ≡ length model.now.whole }
     requires direction { length room.direction.items ≡ length model.now.whole }
-    requires found { (f : Found) → frontier.now.found ≡ Some f → length f.point.items ≡ length model.now.whole }
-    requires way { (w : Way) → frontier.now.way ≡ Some w → (length w.point.items ≡ length model.now.whole) × (length w.direction.items ≡ length model.now.whole) }
+    requires found { (f : Found) → frontier.now.found ≡ Some f
+        → length f.point.items ≡ length model.now.whole }
+    requires way { (w : Way) → frontier.now.way ≡ Some w
+        → (length w.point.items ≡ length model.now.whole)
+        × (length w.direction.items ≡ length model.now.whole) }
     ensures { IsTold model.now (state_of frontier.now None) result }
 {
     match &frontier.found {

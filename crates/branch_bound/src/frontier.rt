@@ -56,11 +56,13 @@ pub(crate) fn wait_part(frontier: &mut Frontier, parent: &NodeInfo, part: Part, 
     requires room { HasRoom frontier.old 1 }
     requires parent { IsListed frontier.old.paths.paths parent.now }
     requires few { length frontier.old.paths.paths < 2 ^ 32 }
-    ensures state { state_of frontier.new None ≡ with_child (state_of frontier.old None) (waiting_of frontier.old.paths.paths parent.now) part value }
+    ensures state { state_of frontier.new None ≡ with_child (state_of frontier.old None)
+        (waiting_of frontier.old.paths.paths parent.now) part value }
     ensures orderly { IsOrderly frontier.new }
     ensures room { (n : ℕ) → HasRoom frontier.old (n + 1) → HasRoom frontier.new n }
     ensures parent { IsListed frontier.new.paths.paths parent.now }
-    ensures kept { waiting_of frontier.new.paths.paths parent.now ≡ waiting_of frontier.old.paths.paths parent.now }
+    ensures kept { waiting_of frontier.new.paths.paths parent.now
+        ≡ waiting_of frontier.old.paths.paths parent.now }
     ensures one_more { length frontier.new.paths.paths ≡ length frontier.old.paths.paths + 1 }
 {
     let number = frontier.paths.len() as u64;
@@ -79,7 +81,8 @@ pub(crate) fn wait_root(frontier: &mut Frontier)
     ensures state { state_of frontier.new None ≡ with_root (state_of frontier.old None) }
     ensures orderly { IsOrderly frontier.new }
     ensures room { HasRoom frontier.new 0 }
-    ensures kept { (info : NodeInfo) → info.number < length frontier.old.paths.paths → waiting_of frontier.new.paths.paths info ≡ waiting_of frontier.old.paths.paths info }
+    ensures kept { (info : NodeInfo) → info.number < length frontier.old.paths.paths
+        → waiting_of frontier.new.paths.paths info ≡ waiting_of frontier.old.paths.paths info }
     ensures one_more { length frontier.new.paths.paths ≡ length frontier.old.paths.paths + 1 }
 {
     let number = frontier.paths.len() as u64;
@@ -97,7 +100,8 @@ pub(crate) fn keep(frontier: &mut Frontier, info: &NodeInfo, pivots: u64)
     requires orderly { IsOrderly frontier.old }
     requires room { HasRoom frontier.old 0 }
     requires there { info.now.number < length frontier.old.paths.paths }
-    ensures state { state_of frontier.new None ≡ with_opened (state_of frontier.old None) (waiting_of frontier.old.paths.paths info.now) pivots }
+    ensures state { state_of frontier.new None ≡ with_opened (state_of frontier.old None)
+        (waiting_of frontier.old.paths.paths info.now) pivots }
     ensures orderly { IsOrderly frontier.new }
     ensures paths { frontier.new.paths ≡ frontier.old.paths }
 {

@@ -39,7 +39,8 @@ fn program_of(
     info: &NodeInfo,
 ) -> Result<Standard, Memory>
     requires { info.now.number < length frontier.now.paths.paths }
-    ensures program { IfOk result (λ p. p ≡ trails.node_program model.now (option_map way_of frontier.now.way) (waiting_of frontier.now.paths.paths info.now)) }
+    ensures program { IfOk result (λ p. p ≡ trails.node_program model.now
+        (option_map way_of frontier.now.way) (waiting_of frontier.now.paths.paths info.now)) }
     ensures columns { IfOk result (λ p. length p.columns ≡ length model.now.whole) }
 {
     let _whole = model.whole();
@@ -105,9 +106,11 @@ pub(crate) fn open(
     requires waits { frontier.old.waiting.items ≢ [] }
     requires rising { IsRising frontier.old.waiting.items }
     requires orderly { IsOrderly frontier.old }
-    ensures opened { IfOk result (λ w. IsOpened model.now frontier.old frontier.new (rule pick.old) (Hears (heard pick.old) (heard pick.new)) w) }
+    ensures opened { IfOk result (λ w. IsOpened model.now frontier.old frontier.new
+        (rule pick.old) (Hears (heard pick.old) (heard pick.new)) w) }
     ensures err { OnErr result (IsSame frontier.old frontier.new) }
-    ensures asked { OnErr result (IsAsked (heard pick.old) (heard pick.new) frontier.old.waiting.items) }
+    ensures asked { OnErr result
+        (IsAsked (heard pick.old) (heard pick.new) frontier.old.waiting.items) }
     ensures orderly { IsOrderly frontier.new }
     ensures paths { frontier.new.paths.paths ≡ frontier.old.paths.paths }
     ensures rule { rule pick.new ≡ rule pick.old }

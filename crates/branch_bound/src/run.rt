@@ -19,7 +19,8 @@ impl Search {
         pick: &mut Box<dyn Picker>,
     ) -> Result<Progress, SearchStop>
         requires { self.old.answered ≡ false }
-        ensures trail { IsContinued (rule pick.old) (HearsUntil (heard pick.old) (heard pick.new) self.new.state result) units self.old self.new }
+        ensures trail { IsContinued (rule pick.old) (HearsUntil (heard pick.old)
+            (heard pick.new) self.new.state result) units self.old self.new }
         ensures ends { EndsAs self.old.units units self.new result }
         ensures rule { rule pick.new ≡ rule pick.old }
     {

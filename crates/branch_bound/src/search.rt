@@ -63,7 +63,13 @@ impl Search {
     /// A search of the model that has opened no node, and may spend so many units.
     pub fn begin(alloc: Global, of: LinModel, budget: u64) -> Result<Search, Memory>
         requires { budget ≤ 1000000 }
-        ensures { IfOk result (λ s. s ≡ record { model = of; budget = budget; units = 0; state = trails.start; answered = false }) }
+        ensures { IfOk result (λ s. s ≡ record {
+          model = of;
+          budget = budget;
+          units = 0;
+          state = trails.start;
+          answered = false;
+        }) }
     {
         let mut paths = Paths::new(alloc);
         paths.reserve(1)?;
@@ -142,9 +148,11 @@ impl Search {
     pub(crate) fn step(&mut self, alloc: Global, pick: &mut Box<dyn Picker>) -> Result<(), StepStop>
         requires open { ¬ (HasEnded self.old) }
         requires units { self.old.units < 1000000 }
-        ensures ok { OnOk result (Grew self.old.model (rule pick.old) self.old.state self.new.state (Hears (heard pick.old) (heard pick.new))) }
+        ensures ok { OnOk result (Grew self.old.model (rule pick.old) self.old.state self.new.state
+            (Hears (heard pick.old) (heard pick.new))) }
         ensures counted { OnOk result (self.new.units ≡ self.old.units + 1) }
-        ensures same { (self.new.model ≡ self.old.model) × (self.new.budget ≡ self.old.budget) × (self.new.answered ≡ self.old.answered) }
+        ensures same { (self.new.model ≡ self.old.model)
+            × (self.new.budget ≡ self.old.budget) × (self.new.answered ≡ self.old.answered) }
         ensures stop { IfErr result (λ e. (self.new ≡ self.old) × IsStepStop self.new.state e) }
         ensures heard { IfErr result (HearsStop (heard pick.old) (heard pick.new) self.old.state) }
         ensures rule { rule pick.new ≡ rule pick.old }

@@ -32,10 +32,12 @@ fn close(frontier: &mut Frontier, info: &NodeInfo, pivots: u64, pick: &mut Box<d
     requires room { HasRoom frontier.old 2 }
     requires orderly { IsOrderly frontier.old }
     requires node { IsListed frontier.old.paths.paths info.now }
-    ensures ended { state_of frontier.new None ≡ trails.ended (state_of frontier.old None) (waiting_of frontier.old.paths.paths info.now) pivots trees.empty }
+    ensures ended { state_of frontier.new None ≡ trails.ended (state_of frontier.old None)
+        (waiting_of frontier.old.paths.paths info.now) pivots trees.empty }
     ensures orderly { IsOrderly frontier.new }
     ensures rule { rule pick.new ≡ rule pick.old }
-    ensures heard { Hears (heard pick.old) (heard pick.new) (news (news_of info.now.number (length frontier.old.paths.paths) (trees.empty)) ∷ []) }
+    ensures heard { Hears (heard pick.old) (heard pick.new)
+        (news (news_of info.now.number (length frontier.old.paths.paths) (trees.empty)) ∷ []) }
 {
     keep(frontier, info, pivots);
     pick.told(NodeEvent::Closed(info.number));
@@ -46,10 +48,13 @@ fn find(frontier: &mut Frontier, work: Work, value: Frac, pick: &mut Box<dyn Pic
     requires room { HasRoom frontier.old 2 }
     requires orderly { IsOrderly frontier.old }
     requires node { IsListed frontier.old.paths.paths work.info }
-    ensures ended { state_of frontier.new None ≡ trails.ended (state_of frontier.old None) (waiting_of frontier.old.paths.paths work.info) work.pivots (trees.whole work.point.items value) }
+    ensures ended { state_of frontier.new None
+        ≡ trails.ended (state_of frontier.old None) (waiting_of frontier.old.paths.paths work.info)
+        work.pivots (trees.whole work.point.items value) }
     ensures orderly { IsOrderly frontier.new }
     ensures rule { rule pick.new ≡ rule pick.old }
-    ensures heard { Hears (heard pick.old) (heard pick.new) (news (news_of work.info.number (length frontier.old.paths.paths) (trees.whole work.point.items value)) ∷ []) }
+    ensures heard { Hears (heard pick.old) (heard pick.new) (news (news_of work.info.number
+        (length frontier.old.paths.paths) (trees.whole work.point.items value)) ∷ []) }
 {
     let number = work.info.number;
     keep(frontier, &work.info, work.pivots);
@@ -76,10 +81,12 @@ fn split(
     requires few { length frontier.old.paths.paths + 1 < 2 ^ 32 }
     requires floor { IsNarrowWhole floor }
     requires above { IsNarrowWhole (floor +ℤ pos 1) }
-    ensures ended { state_of frontier.new None ≡ trails.ended (state_of frontier.old None) (waiting_of frontier.old.paths.paths info.now) pivots (trees.split decision floor value) }
+    ensures ended { state_of frontier.new None ≡ trails.ended (state_of frontier.old None)
+        (waiting_of frontier.old.paths.paths info.now) pivots (trees.split decision floor value) }
     ensures orderly { IsOrderly frontier.new }
     ensures rule { rule pick.new ≡ rule pick.old }
-    ensures heard { Hears (heard pick.old) (heard pick.new) (news (news_of info.now.number (length frontier.old.paths.paths) (trees.split decision floor value)) ∷ []) }
+    ensures heard { Hears (heard pick.old) (heard pick.new) (news (news_of info.now.number
+        (length frontier.old.paths.paths) (trees.split decision floor value)) ∷ []) }
 {
     let first = frontier.paths.len() as u64;
     wait_part(frontier, info, Part::lower(decision, floor), value);
@@ -94,10 +101,14 @@ fn escape(frontier: &mut Frontier, work: Work, pick: &mut Box<dyn Picker>)
     requires orderly { IsOrderly frontier.old }
     requires node { IsListed frontier.old.paths.paths work.info }
     requires few { length frontier.old.paths.paths + 1 < 2 ^ 32 }
-    ensures ended { state_of frontier.new None ≡ trails.ended (state_of frontier.old None) (waiting_of frontier.old.paths.paths work.info) work.pivots (trees.endless work.point.items work.direction.items) }
+    ensures ended { state_of frontier.new None
+        ≡ trails.ended (state_of frontier.old None) (waiting_of frontier.old.paths.paths work.info)
+        work.pivots (trees.endless work.point.items work.direction.items) }
     ensures orderly { IsOrderly frontier.new }
     ensures rule { rule pick.new ≡ rule pick.old }
-    ensures heard { Hears (heard pick.old) (heard pick.new) (news (news_of work.info.number (length frontier.old.paths.paths) (trees.endless work.point.items work.direction.items)) ∷ []) }
+    ensures heard { Hears (heard pick.old) (heard pick.new)
+        (news (news_of work.info.number (length frontier.old.paths.paths)
+        (trees.endless work.point.items work.direction.items)) ∷ []) }
 {
     let number = work.info.number;
     wait_root(frontier);
@@ -116,10 +127,14 @@ fn finish(frontier: &mut Frontier, work: Work, end: NodeEnd, pick: &mut Box<dyn 
     requires node { IsListed frontier.old.paths.paths work.info }
     requires few { length frontier.old.paths.paths + 1 < 2 ^ 32 }
     requires narrow { HasNarrowParts end }
-    ensures ended { state_of frontier.new None ≡ trails.ended (state_of frontier.old None) (waiting_of frontier.old.paths.paths work.info) work.pivots (end_at end work.point.items work.direction.items) }
+    ensures ended { state_of frontier.new None
+        ≡ trails.ended (state_of frontier.old None) (waiting_of frontier.old.paths.paths work.info)
+        work.pivots (end_at end work.point.items work.direction.items) }
     ensures orderly { IsOrderly frontier.new }
     ensures rule { rule pick.new ≡ rule pick.old }
-    ensures heard { Hears (heard pick.old) (heard pick.new) (news (news_of work.info.number (length frontier.old.paths.paths) (end_at end work.point.items work.direction.items)) ∷ []) }
+    ensures heard { Hears (heard pick.old) (heard pick.new)
+        (news (news_of work.info.number (length frontier.old.paths.paths)
+        (end_at end work.point.items work.direction.items)) ∷ []) }
 {
     match end {
         NodeEnd::Empty => close(frontier, &work.info, work.pivots, pick),
@@ -148,7 +163,9 @@ pub(crate) fn settle(
     requires ready { IsReady model.now frontier.old work }
     requires orderly { IsOrderly frontier.old }
     requires few { length frontier.old.paths.paths + 1 < 2 ^ 32 }
-    ensures becomes { Became model.now (state_of frontier.old None) (waiting_of frontier.old.paths.paths work.info) work.pivots work.dict (state_of frontier.new result) (Hears (heard pick.old) (heard pick.new)) }
+    ensures becomes { Became model.now (state_of frontier.old None)
+        (waiting_of frontier.old.paths.paths work.info) work.pivots work.dict
+        (state_of frontier.new result) (Hears (heard pick.old) (heard pick.new)) }
     ensures ready { IsReadyIf model.now frontier.new result }
     ensures orderly { IsOrderly frontier.new }
     ensures rule { rule pick.new ≡ rule pick.old }

@@ -28,7 +28,8 @@ pub(crate) fn pivot(work: &mut Work) -> Result<(), (u16, u16)>
     requires reached { IsReached work.old.program work.old.dict }
     requires going { ¬ (HasEnded work.old.dict) }
     requires small { work.old.pivots + 1 < 2 ^ 64 }
-    ensures made { MatchResult result (λ _. IsPivoted work.old work.new) (λ e. (work.new ≡ work.old) × NextPivot work.old.dict e.0 e.1 × ¬ (IsNarrowPivot work.old.dict e.0 e.1)) }
+    ensures made { MatchResult result (λ _. IsPivoted work.old work.new) (λ e. (work.new ≡ work.old)
+        × NextPivot work.old.dict e.0 e.1 × ¬ (IsNarrowPivot work.old.dict e.0 e.1)) }
     ensures reached { IsReached work.new.program work.new.dict }
 {
     match choose_next(&work.program, &work.dict) {

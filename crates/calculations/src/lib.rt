@@ -13,5 +13,6 @@ pub fn narrow_is_exact<A>()
 
 /// One calculation behind another is narrow where the first is and the second is at its answer, which it then has.
 pub fn narrow_in_order<A, B>()
-    ensures { (c : Calculation A) (f : A → Calculation B) → narrow (followed_by c f) ≡ option_and_then (λ a. narrow (f a)) (narrow c) }
+    ensures { (c : Calculation A) (f : A → Calculation B) → narrow (followed_by c f)
+        ≡ option_and_then (λ a. narrow (f a)) (narrow c) }
 {}

@@ -51,7 +51,8 @@ fn push_row(
     requires row { row < grid.now.rows }
     requires order { left ≤ right }
     requires right { right < grid.now.columns }
-    ensures { OnOk result (to.new.items ≡ to.old.items ++ flat_map (λ column. cell_in grid.now row column) (from_to left right)) }
+    ensures { OnOk result (to.new.items
+        ≡ to.old.items ++ flat_map (λ column. cell_in grid.now row column) (from_to left right)) }
 {
     prove!(right < grid.cols);
     for column in left..right + 1 {

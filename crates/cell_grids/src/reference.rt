@@ -26,7 +26,8 @@ impl Model for Reference {
 
     ghost view = { λ g. record { rows = g.rows; columns = g.cols; cells = g.cells.items } };
 
-    ghost invariant = { λ g. IsFullGrid (record { rows = g.rows; columns = g.cols; cells = g.cells.items }) };
+    ghost invariant = { λ g.
+        IsFullGrid (record { rows = g.rows; columns = g.cols; cells = g.cells.items }) };
 }
 
 impl Reference {
@@ -90,7 +91,8 @@ impl Reference {
     // Some cells in one column.
     fn in_column(cells: Vec<Cell>) -> Result<Reference, Memory>
         requires { 0 < length cells.items }
-        ensures { IfOk result (λ g. g ≡ record { rows = length cells.items; columns = 1; cells = cells.items }) }
+        ensures { IfOk result (λ g. g
+            ≡ record { rows = length cells.items; columns = 1; cells = cells.items }) }
     {
         let Ok(rows) = u32::try_from(cells.len()) else {
             return Err(Memory);

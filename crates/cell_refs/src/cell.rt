@@ -37,7 +37,13 @@ impl Model for Area {
 
     ghost invariant = { λ a. IsOnSheet (area_of a) };
 
-    ghost inverse = { λ x. record { sheet = x.sheet; top = x.top; left = x.left; further_rows = x.further_rows; further_columns = x.further_columns } };
+    ghost inverse = { λ x. record {
+      sheet = x.sheet;
+      top = x.top;
+      left = x.left;
+      further_rows = x.further_rows;
+      further_columns = x.further_columns;
+    } };
 }
 
 impl Area {

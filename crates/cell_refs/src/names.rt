@@ -34,7 +34,8 @@ impl Model for SheetNames {
 
     ghost view = { λ s. map string_bytes s.names.items };
 
-    ghost invariant = { λ s. (length s.names.items ≤ SHEETS) × AreDistinct (map string_bytes s.names.items) };
+    ghost invariant = { λ s. (length s.names.items ≤ SHEETS)
+        × AreDistinct (map string_bytes s.names.items) };
 }
 
 impl SheetNames {
@@ -61,7 +62,8 @@ impl SheetNames {
 
     /// Adds a sheet of this name behind the others.
     pub fn add(&mut self, name: &str) -> Result<SheetId, NameFault>
-        ensures ok { IfOk result (λ id. (id.0 ≡ length self.old) × (self.new ≡ self.old ++ name.now ∷ [])) }
+        ensures ok { IfOk result (λ id. (id.0 ≡ length self.old)
+            × (self.new ≡ self.old ++ name.now ∷ [])) }
         ensures taken { IsErrOf result NameFault.Taken ↔ ((id : ℕ) × IsNamed self.old name.now id) }
         ensures full { IsErrOf result NameFault.Full ↔
             (((id : ℕ) → ¬ (IsNamed self.old name.now id)) × (length self.old ≡ SHEETS)) }
@@ -96,7 +98,8 @@ impl SheetNames {
     #[tactic(auto, using(crate::proofs::Places::told))]
     pub fn find(&self, name: &str) -> Option<SheetId>
         ensures found { IfSome result (λ id. IsNamed self.now name.now id.0) }
-        ensures only { IfSome result (λ id. (other : ℕ) → IsNamed self.now name.now other → other ≡ id.0) }
+        ensures only { IfSome result (λ id. (other : ℕ) → IsNamed self.now name.now other
+            → other ≡ id.0) }
         ensures none { IfNone result ((id : ℕ) → ¬ (IsNamed self.now name.now id)) }
         ensures place { option_map (λ id. id.0) result ≡ place_in self.now name.now }
     {
@@ -110,7 +113,8 @@ impl SheetNames {
 // The first place of a name that is the same but for case.
 fn place_of(names: &[String], name: &str) -> Option<usize>
     ensures found { IfSome result (IsNamed (map string_bytes names.now) name.now) }
-    ensures first { IfSome result (λ place. (k : ℕ) → k < place → ¬ (IsNamed (map string_bytes names.now) name.now k)) }
+    ensures first { IfSome result (λ place. (k : ℕ) → k < place
+        → ¬ (IsNamed (map string_bytes names.now) name.now k)) }
     ensures none { IfNone result ((id : ℕ) → ¬ (IsNamed (map string_bytes names.now) name.now id)) }
 {
     for (place, other) in names.iter().enumerate() {

@@ -26,9 +26,11 @@ pub(crate) fn circular_rows(
     circular: &CellSet,
     keeps_looks: bool,
 ) -> Result<BTreeMap<Cell, Row>, Memory>
-    requires { (a : Cell) → set.contains circular.now a ≡ true → is_circular (book_of book.now) nothing a ≡ true }
+    requires { (a : Cell) → set.contains circular.now a ≡ true
+        → is_circular (book_of book.now) nothing a ≡ true }
     ensures right { IfOk result (λ rows. AreRows (book_of book.now) keeps_looks rows.entries) }
-    ensures all { IfOk result (λ rows. (a : Cell) → set.contains circular.now a ≡ true → HasRow rows.entries a) }
+    ensures all { IfOk result (λ rows. (a : Cell) → set.contains circular.now a ≡ true
+        → HasRow rows.entries a) }
 {
     let mut rows = BTreeMap::new(alloc);
     let cells = circular.cells(alloc)?;
@@ -49,7 +51,8 @@ fn put_circular(
     requires circular { is_circular (book_of book.now) nothing cell ≡ true }
     requires right { AreRows (book_of book.now) keeps_looks rows.old.entries }
     ensures right { OnOk result (AreRows (book_of book.now) keeps_looks rows.new.entries) }
-    ensures kept { OnOk result ((a : Cell) → HasRow rows.old.entries a → HasRow rows.new.entries a) }
+    ensures kept { OnOk result ((a : Cell) → HasRow rows.old.entries a
+        → HasRow rows.new.entries a) }
     ensures put { OnOk result (HasRow rows.new.entries cell) }
 {
     let Some(tree) = book.tree(cell) else {
@@ -67,7 +70,8 @@ fn put_circular(
 
 // All cells to which a circular cell's tree refers, if these are kept.
 fn circular_looks(alloc: Global, tree: &Expr, keeps_looks: bool) -> Result<Vec<Cell>, Memory>
-    ensures { IfOk result (λ cells. cells.items ≡ kept_looks keeps_looks (flat_map cells_of (references_of tree.now))) }
+    ensures { IfOk result (λ cells. cells.items
+        ≡ kept_looks keeps_looks (flat_map cells_of (references_of tree.now))) }
 {
     if keeps_looks {
         return referred_cells(alloc, tree);

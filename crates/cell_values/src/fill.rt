@@ -31,8 +31,10 @@ pub(crate) fn fill(
     requires order { IsOrder (book_of book.now) nothing order.now }
     requires right { AreRows (book_of book.now) keeps_looks rows.old.entries }
     ensures right { OnOk result (AreRows (book_of book.now) keeps_looks rows.new.entries) }
-    ensures kept { OnOk result ((a : Cell) → HasRow rows.old.entries a → HasRow rows.new.entries a) }
-    ensures filled { OnOk result ((p : ℕ) (a : Cell) → slice_get order.now p ≡ Some a → HasRow rows.new.entries a) }
+    ensures kept { OnOk result ((a : Cell) → HasRow rows.old.entries a
+        → HasRow rows.new.entries a) }
+    ensures filled { OnOk result ((p : ℕ) (a : Cell) → slice_get order.now p ≡ Some a
+        → HasRow rows.new.entries a) }
 {
     for &cell in order {
         put_row(alloc, book, cell, keeps_looks, rows)?;
@@ -49,11 +51,14 @@ fn put_row(
     rows: &mut BTreeMap<Cell, Row>,
 ) -> Result<(), Memory>
     requires free { is_circular (book_of book.now) nothing cell ≡ false }
-    requires ready { (b : Cell) → refers (entry (book_of book.now) cell) b ≡ true → is_formula (entry (book_of book.now) b) ≡ true → HasRow rows.old.entries b }
+    requires ready { (b : Cell) → refers (entry (book_of book.now) cell) b ≡ true
+        → is_formula (entry (book_of book.now) b) ≡ true → HasRow rows.old.entries b }
     requires right { AreRows (book_of book.now) keeps_looks rows.old.entries }
     ensures right { OnOk result (AreRows (book_of book.now) keeps_looks rows.new.entries) }
-    ensures kept { OnOk result ((a : Cell) → HasRow rows.old.entries a → HasRow rows.new.entries a) }
-    ensures filled { OnOk result (is_formula (entry (book_of book.now) cell) ≡ true → HasRow rows.new.entries cell) }
+    ensures kept { OnOk result ((a : Cell) → HasRow rows.old.entries a
+        → HasRow rows.new.entries a) }
+    ensures filled { OnOk result (is_formula (entry (book_of book.now) cell) ≡ true
+        → HasRow rows.new.entries cell) }
 {
     let Some(tree) = book.tree(cell) else {
         return Ok(());
@@ -65,7 +70,8 @@ fn put_row(
 
 // The row of a formula over those of others.
 fn row_of(alloc: Global, seen: &Seen, tree: &Expr, keeps_looks: bool) -> Result<Row, Memory>
-    ensures { IfOk result (λ row. IsComputed (seen_in (book_of seen.now.book.now) seen.now.rows.now.entries) tree.now keeps_looks row) }
+    ensures { IfOk result (λ row. IsComputed
+        (seen_in (book_of seen.now.book.now) seen.now.rows.now.entries) tree.now keeps_looks row) }
 {
     let part = evaluate(alloc, seen, tree)?;
     let looks = kept_looks(alloc, part.looks(), keeps_looks)?;

@@ -51,11 +51,14 @@ fn rows_of(
     tour: &Tour,
     keeps_looks: bool,
 ) -> Result<BTreeMap<Cell, Row>, Memory>
-    requires circular { (a : Cell) → set.contains tour.now.circular a ≡ true → is_circular (book_of book.now) nothing a ≡ true }
+    requires circular { (a : Cell) → set.contains tour.now.circular a ≡ true
+        → is_circular (book_of book.now) nothing a ≡ true }
     requires order { IsOrder (book_of book.now) nothing tour.now.order.items }
     ensures right { IfOk result (λ rows. AreRows (book_of book.now) keeps_looks rows.entries) }
-    ensures circular { IfOk result (λ rows. (a : Cell) → set.contains tour.now.circular a ≡ true → HasRow rows.entries a) }
-    ensures order { IfOk result (λ rows. (p : ℕ) (a : Cell) → slice_get tour.now.order.items p ≡ Some a → HasRow rows.entries a) }
+    ensures circular { IfOk result (λ rows. (a : Cell) → set.contains tour.now.circular a ≡ true
+        → HasRow rows.entries a) }
+    ensures order { IfOk result (λ rows. (p : ℕ) (a : Cell) → slice_get tour.now.order.items p
+        ≡ Some a → HasRow rows.entries a) }
 {
     let mut rows = circular_rows(alloc, book, &tour.circular, keeps_looks)?;
     fill(alloc, book, &tour.order, keeps_looks, &mut rows)?;
@@ -71,12 +74,16 @@ fn wide_cell(
     rows: &BTreeMap<Cell, Row>,
     cell: Cell,
 ) -> Result<Option<Cell>, Memory>
-    requires circular { HasCircular (book_of book.now) nothing (Reaches (book_of book.now) nothing cell) (set.contains tour.now.circular) }
+    requires circular { HasCircular (book_of book.now) nothing
+        (Reaches (book_of book.now) nothing cell) (set.contains tour.now.circular) }
     requires order { IsOrder (book_of book.now) nothing tour.now.order.items }
-    requires free { HasFree (book_of book.now) nothing (Reaches (book_of book.now) nothing cell) tour.now.order.items }
+    requires free { HasFree (book_of book.now) nothing
+        (Reaches (book_of book.now) nothing cell) tour.now.order.items }
     requires right { AreRows (book_of book.now) false rows.now.entries }
-    requires rows { (b : Cell) → Reaches (book_of book.now) nothing cell b → is_formula (entry (book_of book.now) b) ≡ true → HasRow rows.now.entries b }
-    ensures { IfOk result (λ wide. MatchOption wide (NoneIsWide (book_of book.now) no_overriding cell) (IsLeastWide (book_of book.now) no_overriding cell)) }
+    requires rows { (b : Cell) → Reaches (book_of book.now) nothing cell b
+        → is_formula (entry (book_of book.now) b) ≡ true → HasRow rows.now.entries b }
+    ensures { IfOk result (λ wide. MatchOption wide (NoneIsWide (book_of book.now)
+        no_overriding cell) (IsLeastWide (book_of book.now) no_overriding cell)) }
 {
     if !some_wide(rows) {
         return Ok(None);

@@ -52,9 +52,12 @@ fn round<C: Cells>(
     circular: &CellSet,
     before: &C,
 ) -> Result<BTreeMap<Cell, Row>, Memory>
-    requires circular { (a : Cell) → set.contains circular.now a ≡ is_circular (book_of book.now) nothing a }
-    requires formulas { (p : ℕ) (a : Cell) → slice_get formulas.now p ≡ Some a → is_formula (entry (book_of book.now) a) ≡ true }
-    requires all { (a : Cell) → is_formula (entry (book_of book.now) a) ≡ true → (p : ℕ) × (slice_get formulas.now p ≡ Some a) }
+    requires circular { (a : Cell) → set.contains circular.now a
+        ≡ is_circular (book_of book.now) nothing a }
+    requires formulas { (p : ℕ) (a : Cell) → slice_get formulas.now p ≡ Some a
+        → is_formula (entry (book_of book.now) a) ≡ true }
+    requires all { (a : Cell) → is_formula (entry (book_of book.now) a) ≡ true
+        → (p : ℕ) × (slice_get formulas.now p ≡ Some a) }
     ensures { IfOk result (λ rows. IsRound (book_of book.now) (C.known before.now) rows.entries) }
 {
     let mut rows = BTreeMap::new(alloc);
@@ -73,10 +76,13 @@ fn put_value<C: Cells>(
     cell: Cell,
     rows: &mut BTreeMap<Cell, Row>,
 ) -> Result<(), Memory>
-    requires circular { (a : Cell) → set.contains circular.now a ≡ is_circular (book_of book.now) nothing a }
+    requires circular { (a : Cell) → set.contains circular.now a
+        ≡ is_circular (book_of book.now) nothing a }
     requires formula { is_formula (entry (book_of book.now) cell) ≡ true }
-    ensures kept { OnOk result ((a : Cell) → HasValue (book_of book.now) (C.known before.now) rows.old.entries a → HasValue (book_of book.now) (C.known before.now) rows.new.entries a) }
-    ensures put { OnOk result (HasValue (book_of book.now) (C.known before.now) rows.new.entries cell) }
+    ensures kept { OnOk result ((a : Cell) → HasValue (book_of book.now) (C.known before.now)
+        rows.old.entries a → HasValue (book_of book.now) (C.known before.now) rows.new.entries a) }
+    ensures put { OnOk result
+        (HasValue (book_of book.now) (C.known before.now) rows.new.entries cell) }
 {
     let value = formula_value(alloc, book, circular, before, cell)?;
     let row = Row {
@@ -96,9 +102,11 @@ fn formula_value<C: Cells>(
     before: &C,
     cell: Cell,
 ) -> Result<Option<Value>, Memory>
-    requires circular { (a : Cell) → set.contains circular.now a ≡ is_circular (book_of book.now) nothing a }
+    requires circular { (a : Cell) → set.contains circular.now a
+        ≡ is_circular (book_of book.now) nothing a }
     requires formula { is_formula (entry (book_of book.now) cell) ≡ true }
-    ensures { IfOk result (λ value. value ≡ known_over (book_of book.now) no_overriding (C.known before.now) cell) }
+    ensures { IfOk result (λ value. value
+        ≡ known_over (book_of book.now) no_overriding (C.known before.now) cell) }
 {
     if circular.has(cell) {
         return Ok(Some(Value::Error(ErrorKind::Circular)));

@@ -23,7 +23,8 @@ impl Cells for Seen<'_> {
     ghost known = { λ s. seen_in (book_of s.book.now) s.rows.now.entries };
 
     fn value(&self, alloc: Global, cell: Cell) -> Result<Option<Value>, Memory>
-        ensures { IfOk result (λ value. value ≡ seen_in (book_of self.now.book.now) self.now.rows.now.entries cell) }
+        ensures { IfOk result (λ value. value
+            ≡ seen_in (book_of self.now.book.now) self.now.rows.now.entries cell) }
     {
         match self.book.kind(cell) {
             Kind::Empty => Ok(Some(Value::Empty)),
@@ -42,14 +43,16 @@ impl Cells for Seen<'_> {
 impl Seen<'_> {
     /// Whether all of these cells have a value.
     pub(crate) fn all_known(&self, cells: &[Cell]) -> bool
-        ensures { result ≡ are_known (seen_in (book_of self.now.book.now) self.now.rows.now.entries) cells.now }
+        ensures { result
+            ≡ are_known (seen_in (book_of self.now.book.now) self.now.rows.now.entries) cells.now }
     {
         cells.iter().all(|cell| self.is_known(*cell))
     }
 
     // Whether a cell has a value.
     fn is_known(&self, cell: Cell) -> bool
-        ensures { result ≡ is_some (seen_in (book_of self.now.book.now) self.now.rows.now.entries cell) }
+        ensures { result
+            ≡ is_some (seen_in (book_of self.now.book.now) self.now.rows.now.entries cell) }
     {
         match self.book.kind(cell) {
             Kind::Formula => has_value(self.rows, cell),

@@ -80,7 +80,8 @@ fn has_files(matches: &ArgMatches<'_>) -> bool
 
 // The words that stand without an option, if there are some.
 fn file_words<'b, 'a>(matches: &'b ArgMatches<'a>) -> Option<&'b [&'a str]>
-    ensures { option_map (λ s. map (λ f. f.now) s.now) result ≡ all_of (codes "files") (given matches.now) }
+    ensures { option_map (λ s. map (λ f. f.now) s.now) result
+        ≡ all_of (codes "files") (given matches.now) }
 {
     matches.get_strs("files")
 }

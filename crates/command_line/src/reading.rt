@@ -16,7 +16,8 @@ use std::alloc::Global;
 
 /// What the words ask for; none where they are of another form. The words stand without the program's name.
 pub fn request(alloc: Global, words: &[String]) -> Result<Option<Asked>, Memory>
-    ensures asked { IfOk result (λ a. option_map asked_read a ≡ line.asked_of (line.texts_of words.now)) }
+    ensures asked { IfOk result (λ a. option_map asked_read a
+        ≡ line.asked_of (line.texts_of words.now)) }
     ensures sound { IfOk result (λ a. IfSome a IsSound) }
 {
     let Some(matches) = matches_in(alloc, words)? else {
@@ -30,7 +31,8 @@ pub fn request(alloc: Global, words: &[String]) -> Result<Option<Asked>, Memory>
 
 // A workbook of this size that is made up, where nothing else is given.
 fn made_up(matches: &ArgMatches<'_>, size: &str) -> Option<Asked>
-    ensures asked { option_map asked_read result ≡ line.asked_by (given matches.now) (Some size.now) }
+    ensures asked { option_map asked_read result
+        ≡ line.asked_by (given matches.now) (Some size.now) }
     ensures sound { IfSome result IsSound }
 {
     if more_is_given(matches) {
@@ -42,7 +44,8 @@ fn made_up(matches: &ArgMatches<'_>, size: &str) -> Option<Asked>
 
 // A script over the files that are given.
 fn script(alloc: Global, matches: &ArgMatches<'_>) -> Result<Option<Asked>, Memory>
-    ensures asked { IfOk result (λ a. option_map asked_read a ≡ line.asked_by (given matches.now) None) }
+    ensures asked { IfOk result (λ a. option_map asked_read a
+        ≡ line.asked_by (given matches.now) None) }
     ensures sound { IfOk result (λ a. IfSome a IsSound) }
 {
     let Some(budget) = budget_of(value_of(matches, "budget")) else {
@@ -63,9 +66,11 @@ fn script(alloc: Global, matches: &ArgMatches<'_>) -> Result<Option<Asked>, Memo
 
 // The file of the names and the files of the sheets, where both are given.
 fn named_in(alloc: Global, matches: &ArgMatches<'_>) -> Result<Option<Named>, Memory>
-    ensures named { IfOk result (λ n. option_map named_of n ≡ line.named_by (first_of (codes "names") (given matches.now)) (line.files_in (given matches.now))) }
+    ensures named { IfOk result (λ n. option_map named_of n ≡ line.named_by
+        (first_of (codes "names") (given matches.now)) (line.files_in (given matches.now))) }
     ensures some { IfOk result (λ n. IfSome n (λ m. 0 < length m.sheets.items)) }
-    ensures sheets { IfOk result (λ n. IfSome n (λ m. All (λ w. line.is_sheet (string_bytes w) ≡ true) m.sheets.items)) }
+    ensures sheets { IfOk result
+        (λ n. IfSome n (λ m. All (λ w. line.is_sheet (string_bytes w) ≡ true) m.sheets.items)) }
 {
     let Some(names) = value_of(matches, "names") else {
         return Ok(None);

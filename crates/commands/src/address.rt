@@ -20,8 +20,10 @@ pub(crate) fn at_last_mark(text: &str) -> Option<(&str, &str)>
 fn last_mark(text: &[u8]) -> Option<usize>
     ensures within { IfSome result (λ i. i < length text.now) }
     ensures mark { IfSome result (λ i. is_mark (slice_index text.now i) ≡ true) }
-    ensures last { IfSome result (λ i. (k : ℕ) → i < k → k < length text.now → is_mark (slice_index text.now k) ≡ false) }
-    ensures none { IfNone result ((k : ℕ) → k < length text.now → is_mark (slice_index text.now k) ≡ false) }
+    ensures last { IfSome result (λ i. (k : ℕ) → i < k
+        → k < length text.now → is_mark (slice_index text.now k) ≡ false) }
+    ensures none { IfNone result ((k : ℕ) → k < length text.now
+        → is_mark (slice_index text.now k) ≡ false) }
 {
     let mut last = None;
     for (i, byte) in text.iter().enumerate() {

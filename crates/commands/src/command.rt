@@ -61,8 +61,10 @@ impl Command {
 
     // The command of a word and one text behind it.
     fn with_one(alloc: Global, word: &str, text: &str) -> Result<Command, Memory>
-        ensures command { IfOk result (λ c. spoken c ≡ in_table word.now (λ x. Unknown) with_one text.now) }
-        ensures memory { OnErr result (HasText (in_table word.now (λ x. Unknown) with_one text.now)) }
+        ensures command { IfOk result (λ c. spoken c
+            ≡ in_table word.now (λ x. Unknown) with_one text.now) }
+        ensures memory { OnErr result
+            (HasText (in_table word.now (λ x. Unknown) with_one text.now)) }
     {
         if word == "clear" {
             return Ok(Command::Clear(String::from_str(alloc, text)?));
@@ -84,8 +86,10 @@ impl Command {
 
     // The command of a word and two texts behind it.
     fn with_two(alloc: Global, word: &str, first: &str, second: &str) -> Result<Command, Memory>
-        ensures command { IfOk result (λ c. spoken c ≡ in_table word.now (λ x y. Unknown) with_two first.now second.now) }
-        ensures memory { OnErr result (HasText (in_table word.now (λ x y. Unknown) with_two first.now second.now)) }
+        ensures command { IfOk result (λ c. spoken c
+            ≡ in_table word.now (λ x y. Unknown) with_two first.now second.now) }
+        ensures memory { OnErr result
+            (HasText (in_table word.now (λ x y. Unknown) with_two first.now second.now)) }
     {
         if word == "set" {
             let first = String::from_str(alloc, first)?;
@@ -108,8 +112,10 @@ impl Command {
         second: &str,
         third: &str,
     ) -> Result<Command, Memory>
-        ensures command { IfOk result (λ c. spoken c ≡ in_table word.now (λ x y z. Unknown) with_three first.now second.now third.now) }
-        ensures memory { OnErr result (HasText (in_table word.now (λ x y z. Unknown) with_three first.now second.now third.now)) }
+        ensures command { IfOk result (λ c. spoken c
+            ≡ in_table word.now (λ x y z. Unknown) with_three first.now second.now third.now) }
+        ensures memory { OnErr result (HasText
+            (in_table word.now (λ x y z. Unknown) with_three first.now second.now third.now)) }
     {
         if word == "name" {
             let first = String::from_str(alloc, first)?;

@@ -26,7 +26,8 @@ pub fn line(alloc: Global, answer: &Answer, sheets: &SheetNames) -> Result<Strin
 // Appends an answer.
 fn say(answer: &Answer, sheets: &SheetNames, to: &mut String) -> Result<(), Memory>
     requires { CanBeSaid sheets.now answer.now }
-    ensures { OnOk result (string_bytes to.new ≡ string_bytes to.old ++ said sheets.now answer.now) }
+    ensures { OnOk result (string_bytes to.new
+        ≡ string_bytes to.old ++ said sheets.now answer.now) }
 {
     match answer {
         Answer::Done => say_text("ok", to),
@@ -60,7 +61,8 @@ fn say(answer: &Answer, sheets: &SheetNames, to: &mut String) -> Result<(), Memo
 
 // Appends an optimum, with its value if it has one.
 fn say_optimal(value: Option<Frac>, to: &mut String) -> Result<(), Memory>
-    ensures { OnOk result (string_bytes to.new ≡ string_bytes to.old ++ said [] (Answer.Optimal value)) }
+    ensures { OnOk result (string_bytes to.new
+        ≡ string_bytes to.old ++ said [] (Answer.Optimal value)) }
 {
     let Some(number) = value else {
         return say_text("optimal", to);

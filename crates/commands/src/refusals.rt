@@ -36,7 +36,8 @@ fn say_texts(word: &str, text: &str, to: &mut String) -> Result<(), Memory>
 
 /// Appends a word and a number.
 pub(crate) fn say_number(word: &str, number: u64, to: &mut String) -> Result<(), Memory>
-    ensures { OnOk result (string_bytes to.new ≡ string_bytes to.old ++ (word.now ++ decimal number)) }
+    ensures { OnOk result (string_bytes to.new
+        ≡ string_bytes to.old ++ (word.now ++ decimal number)) }
 {
     to.push_str(word)?;
     let mut digits = Buffer::new();
@@ -57,7 +58,8 @@ fn say_signed(number: i128, to: &mut String) -> Result<(), Memory>
 #[tactic(auto, using(model_lines::proofs::Cells::cell_said))]
 fn say_cell(cell: &Cell, sheets: &SheetNames, to: &mut String) -> Result<(), Memory>
     requires { IsListed sheets.now cell.now }
-    ensures { OnOk result (string_bytes to.new ≡ string_bytes to.old ++ cell_with_sheet sheets.now cell.now) }
+    ensures { OnOk result (string_bytes to.new
+        ≡ string_bytes to.old ++ cell_with_sheet sheets.now cell.now) }
 {
     print_cell(cell, sheets, to)
 }
@@ -70,7 +72,8 @@ pub(crate) fn say_with_cell(
     to: &mut String,
 ) -> Result<(), Memory>
     requires { IsListed sheets.now cell.now }
-    ensures { OnOk result (string_bytes to.new ≡ string_bytes to.old ++ (word.now ++ cell_with_sheet sheets.now cell.now)) }
+    ensures { OnOk result (string_bytes to.new
+        ≡ string_bytes to.old ++ (word.now ++ cell_with_sheet sheets.now cell.now)) }
 {
     to.push_str(word)?;
     say_cell(cell, sheets, to)
@@ -85,7 +88,8 @@ pub(crate) fn say_names(
     to: &mut String,
 ) -> Result<(), Memory>
     requires { FaultIsListed sheets.now fault.now }
-    ensures { OnOk result (string_bytes to.new ≡ string_bytes to.old ++ (codes "refused names " ++ names_text sheets.now fault.now)) }
+    ensures { OnOk result (string_bytes to.new
+        ≡ string_bytes to.old ++ (codes "refused names " ++ names_text sheets.now fault.now)) }
 {
     to.push_str("refused names ")?;
     say_fault(fault, sheets, to)?;
@@ -95,7 +99,8 @@ pub(crate) fn say_names(
 // Appends the number of a fault, and its parts.
 fn say_fault(fault: &NamesFault, sheets: &SheetNames, to: &mut String) -> Result<(), Memory>
     requires { FaultIsListed sheets.now fault.now }
-    ensures { OnOk result (string_bytes to.new ≡ string_bytes to.old ++ names_text sheets.now fault.now) }
+    ensures { OnOk result (string_bytes to.new
+        ≡ string_bytes to.old ++ names_text sheets.now fault.now) }
 {
     match fault {
         NamesFault::NoNames => say_text("1", to),
@@ -118,7 +123,8 @@ fn say_fault(fault: &NamesFault, sheets: &SheetNames, to: &mut String) -> Result
 
 // Appends a constraint and its code, between quotes.
 fn say_code(constraint: u16, code: &str, to: &mut String) -> Result<(), Memory>
-    ensures { OnOk result (string_bytes to.new ≡ string_bytes to.old ++ (codes "4 " ++ (decimal constraint ++ (codes " \"" ++ (code.now ++ codes "\""))))) }
+    ensures { OnOk result (string_bytes to.new ≡ string_bytes to.old
+        ++ (codes "4 " ++ (decimal constraint ++ (codes " \"" ++ (code.now ++ codes "\""))))) }
 {
     say_number("4 ", u64::from(constraint), to)?;
     say_texts(" \"", code, to)?;
@@ -127,7 +133,8 @@ fn say_code(constraint: u16, code: &str, to: &mut String) -> Result<(), Memory>
 
 // Appends a constraint and the numbers of cells of its sides.
 fn say_sizes(constraint: u16, left: u32, right: u32, to: &mut String) -> Result<(), Memory>
-    ensures { OnOk result (string_bytes to.new ≡ string_bytes to.old ++ (codes "5 " ++ (decimal constraint ++ (codes " " ++ (decimal left ++ (codes " " ++ decimal right)))))) }
+    ensures { OnOk result (string_bytes to.new ≡ string_bytes to.old ++ (codes "5 "
+        ++ (decimal constraint ++ (codes " " ++ (decimal left ++ (codes " " ++ decimal right)))))) }
 {
     say_number("5 ", u64::from(constraint), to)?;
     say_number(" ", u64::from(left), to)?;
@@ -143,7 +150,8 @@ pub(crate) fn say_form(
     to: &mut String,
 ) -> Result<(), Memory>
     requires { RefusalIsListed sheets.now refusal.now }
-    ensures { OnOk result (string_bytes to.new ≡ string_bytes to.old ++ (codes "refused " ++ refusal_text sheets.now refusal.now)) }
+    ensures { OnOk result (string_bytes to.new
+        ≡ string_bytes to.old ++ (codes "refused " ++ refusal_text sheets.now refusal.now)) }
 {
     to.push_str("refused ")?;
     say_refusal(refusal, sheets, to)
@@ -152,7 +160,8 @@ pub(crate) fn say_form(
 // Appends the word of a refusal, and its parts.
 fn say_refusal(refusal: &FormRefusal, sheets: &SheetNames, to: &mut String) -> Result<(), Memory>
     requires { RefusalIsListed sheets.now refusal.now }
-    ensures { OnOk result (string_bytes to.new ≡ string_bytes to.old ++ refusal_text sheets.now refusal.now) }
+    ensures { OnOk result (string_bytes to.new
+        ≡ string_bytes to.old ++ refusal_text sheets.now refusal.now) }
 {
     match refusal {
         FormRefusal::Malformed(cell) => say_with_cell("malformed ", cell, sheets, to),
@@ -178,7 +187,8 @@ fn say_with_place(
     to: &mut String,
 ) -> Result<(), Memory>
     requires { PlaceIsListed sheets.now place.now }
-    ensures { OnOk result (string_bytes to.new ≡ string_bytes to.old ++ (word.now ++ place_text sheets.now place.now)) }
+    ensures { OnOk result (string_bytes to.new
+        ≡ string_bytes to.old ++ (word.now ++ place_text sheets.now place.now)) }
 {
     to.push_str(word)?;
     match place {
@@ -189,7 +199,8 @@ fn say_with_place(
 
 // Appends a space and a place in a text.
 fn say_span(at: Span, to: &mut String) -> Result<(), Memory>
-    ensures { OnOk result (string_bytes to.new ≡ string_bytes to.old ++ (codes " " ++ span_text at)) }
+    ensures { OnOk result (string_bytes to.new
+        ≡ string_bytes to.old ++ (codes " " ++ span_text at)) }
 {
     say_number(" ", u64::from(at.start), to)?;
     say_number("-", u64::from(at.end), to)
@@ -206,7 +217,8 @@ pub(crate) fn say_pivot(
     to: &mut String,
 ) -> Result<(), Memory>
     requires { All (StepIsListed sheets.now) path.now }
-    ensures { OnOk result (string_bytes to.new ≡ string_bytes to.old ++ (codes "refused wide-pivot " ++ pivot_text sheets.now path.now basis.now place.0 place.1)) }
+    ensures { OnOk result (string_bytes to.new ≡ string_bytes to.old ++ (codes "refused wide-pivot "
+        ++ pivot_text sheets.now path.now basis.now place.0 place.1)) }
 {
     to.push_str("refused wide-pivot ")?;
     say_path(path, sheets, to)?;
@@ -220,7 +232,8 @@ pub(crate) fn say_pivot(
 // Appends the steps from the root, with commas between them.
 fn say_path(path: &[PathStep], sheets: &SheetNames, to: &mut String) -> Result<(), Memory>
     requires { AllByRecursion (StepIsListed sheets.now) path.now }
-    ensures { OnOk result (string_bytes to.new ≡ string_bytes to.old ++ path_text sheets.now path.now) }
+    ensures { OnOk result (string_bytes to.new
+        ≡ string_bytes to.old ++ path_text sheets.now path.now) }
 {
     let [first, rest @ ..] = path else {
         return say_text("root", to);
@@ -233,7 +246,8 @@ fn say_path(path: &[PathStep], sheets: &SheetNames, to: &mut String) -> Result<(
 // Appends steps, each behind a comma.
 fn say_further_steps(steps: &[PathStep], sheets: &SheetNames, to: &mut String) -> Result<(), Memory>
     requires { AllByRecursion (StepIsListed sheets.now) steps.now }
-    ensures { OnOk result (string_bytes to.new ≡ string_bytes to.old ++ preceded (map (step_text sheets.now) steps.now)) }
+    ensures { OnOk result (string_bytes to.new
+        ≡ string_bytes to.old ++ preceded (map (step_text sheets.now) steps.now)) }
 {
     match steps {
         [] => Ok(()),
@@ -248,7 +262,8 @@ fn say_further_steps(steps: &[PathStep], sheets: &SheetNames, to: &mut String) -
 // Appends a step: the cell, and the bound that it sets.
 fn say_step(step: &PathStep, sheets: &SheetNames, to: &mut String) -> Result<(), Memory>
     requires { StepIsListed sheets.now step.now }
-    ensures { OnOk result (string_bytes to.new ≡ string_bytes to.old ++ step_text sheets.now step.now) }
+    ensures { OnOk result (string_bytes to.new
+        ≡ string_bytes to.old ++ step_text sheets.now step.now) }
 {
     say_cell(&step.cell, sheets, to)?;
     say_sign(step.upper, to)?;
@@ -265,7 +280,8 @@ fn say_sign(upper: bool, to: &mut String) -> Result<(), Memory>
 
 // Appends the columns of a basis, with commas between them.
 fn say_basis(basis: &[u16], to: &mut String) -> Result<(), Memory>
-    ensures { OnOk result (string_bytes to.new ≡ string_bytes to.old ++ join_with_byte 44 (map decimal basis.now)) }
+    ensures { OnOk result (string_bytes to.new
+        ≡ string_bytes to.old ++ join_with_byte 44 (map decimal basis.now)) }
 {
     let [first, rest @ ..] = basis else {
         return Ok(());
@@ -277,7 +293,8 @@ fn say_basis(basis: &[u16], to: &mut String) -> Result<(), Memory>
 
 // Appends columns, each behind a comma.
 fn say_further_columns(columns: &[u16], to: &mut String) -> Result<(), Memory>
-    ensures { OnOk result (string_bytes to.new ≡ string_bytes to.old ++ preceded (map decimal columns.now)) }
+    ensures { OnOk result (string_bytes to.new
+        ≡ string_bytes to.old ++ preceded (map decimal columns.now)) }
 {
     match columns {
         [] => Ok(()),

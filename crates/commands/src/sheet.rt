@@ -10,7 +10,8 @@ use cell_refs::{SheetId, SheetNames, without_dollar};
 /// The sheet that stands before an address, as `plan`, `$plan` or `'My Plan'`: nothing where the text spells no name, and
 /// `Some(None)` where no sheet has the name that it spells.
 pub(crate) fn sheet_before(sheets: &SheetNames, text: &str) -> Option<Option<SheetId>>
-    ensures place { option_map (option_map (λ s. s.0)) result ≡ option_map (place_in sheets.now) (sheet_in text.now) }
+    ensures place { option_map (option_map (λ s. s.0)) result
+        ≡ option_map (place_in sheets.now) (sheet_in text.now) }
     ensures listed { IfSome result (λ found. IfSome found (λ s. s.0 < length sheets.now)) }
 {
     let name = without_dollar(text);
@@ -23,7 +24,8 @@ pub(crate) fn sheet_before(sheets: &SheetNames, text: &str) -> Option<Option<She
 // The same of a text that is no word.
 #[tactic(auto, using(crate::proofs::Naming::closed_name, crate::proofs::Naming::open_name, crate::proofs::Naming::no_quotes))]
 fn sheet_in_quotes(sheets: &SheetNames, text: &[u8]) -> Option<Option<SheetId>>
-    ensures place { option_map (option_map (λ s. s.0)) result ≡ option_map (place_in sheets.now) (in_quotes text.now) }
+    ensures place { option_map (option_map (λ s. s.0)) result
+        ≡ option_map (place_in sheets.now) (in_quotes text.now) }
     ensures listed { IfSome result (λ found. IfSome found (λ s. s.0 < length sheets.now)) }
 {
     match text {
@@ -79,7 +81,8 @@ fn is_closed(text: &[u8]) -> bool
 
 // The sheet whose name stands behind the opening quote.
 fn find_quoted(sheets: &SheetNames, text: &[u8]) -> Option<SheetId>
-    ensures place { option_map (λ s. s.0) result ≡ option_and_then (place_in sheets.now) (unquoted text.now) }
+    ensures place { option_map (λ s. s.0) result
+        ≡ option_and_then (place_in sheets.now) (unquoted text.now) }
     ensures listed { IfSome result (λ s. s.0 < length sheets.now) }
 {
     for place in 0..sheets.len() {
@@ -110,7 +113,8 @@ fn is_quoted(name: &[u8], text: &[u8]) -> bool
 
 // The next byte of a name in quotes, and what is left behind it; nothing where the name has ended.
 fn next_quoted(text: &[u8]) -> Option<(u8, &[u8])>
-    ensures some { IfSome result (λ p. unquoted text.now ≡ option_map (λ name. p.0 ∷ name) (unquoted p.1.now)) }
+    ensures some { IfSome result (λ p. unquoted text.now
+        ≡ option_map (λ name. p.0 ∷ name) (unquoted p.1.now)) }
     ensures none { IfNone result (IfSome (unquoted text.now) (λ name. name ≡ [])) }
 {
     let [byte, later @ ..] = text else {

@@ -73,7 +73,8 @@ impl Deps {
     /// references.
     pub fn tour(&self, alloc: Global, leaves: &CellSet) -> Result<Tour, Memory>
         ensures circular { IfOk result (λ t. (book : Book) → AreReferencesOf self.now book
-            → (a : Cell) → set.contains t.circular a ≡ is_circular book (set.contains leaves.now) a) }
+            → (a : Cell) → set.contains t.circular a
+            ≡ is_circular book (set.contains leaves.now) a) }
         ensures order { IfOk result (λ t. (book : Book) → AreReferencesOf self.now book
             → IsOrder book (set.contains leaves.now) t.order.items) }
         ensures all { IfOk result (λ t. (book : Book) → AreReferencesOf self.now book
@@ -89,11 +90,13 @@ impl Deps {
     /// The same where those alone are wanted to which references lead from a cell. What else they lead to may be there as well.
     pub fn tour_from(&self, alloc: Global, leaves: &CellSet, from: Cell) -> Result<Tour, Memory>
         ensures circular { IfOk result (λ t. (book : Book) → AreReferencesOf self.now book
-            → HasCircular book (set.contains leaves.now) (Reaches book (set.contains leaves.now) from) (set.contains t.circular)) }
+            → HasCircular book (set.contains leaves.now)
+            (Reaches book (set.contains leaves.now) from) (set.contains t.circular)) }
         ensures order { IfOk result (λ t. (book : Book) → AreReferencesOf self.now book
             → IsOrder book (set.contains leaves.now) t.order.items) }
         ensures all { IfOk result (λ t. (book : Book) → AreReferencesOf self.now book
-            → HasFree book (set.contains leaves.now) (Reaches book (set.contains leaves.now) from) t.order.items) }
+            → HasFree book (set.contains leaves.now)
+            (Reaches book (set.contains leaves.now) from) t.order.items) }
     {
         let formulas = self.formulas.as_slice();
         let flags = flags_of(alloc, formulas, leaves)?;
@@ -113,12 +116,15 @@ fn tour_of(
     requires sorted { AreSorted formulas.now }
     requires leaves { length leaves.now ≡ length formulas.now }
     requires wanted { length wanted.now ≡ length formulas.now }
-    ensures circular { IfOk result (λ t. (book : Book) (is_leaf : Cell → Bool) → AreReferencesOf (references_in formulas.now) book
+    ensures circular { IfOk result (λ t. (book : Book) (is_leaf : Cell → Bool)
+        → AreReferencesOf (references_in formulas.now) book
         → leaves.now ≡ map (λ (f : Formula). is_leaf f.cell) formulas.now
         → HasCircular book is_leaf (IsWanted formulas.now wanted.now) (set.contains t.circular)) }
-    ensures order { IfOk result (λ t. (book : Book) (is_leaf : Cell → Bool) → AreReferencesOf (references_in formulas.now) book
+    ensures order { IfOk result (λ t. (book : Book) (is_leaf : Cell → Bool)
+        → AreReferencesOf (references_in formulas.now) book
         → leaves.now ≡ map (λ (f : Formula). is_leaf f.cell) formulas.now
-        → IsOrder book is_leaf t.order.items × HasFree book is_leaf (IsWanted formulas.now wanted.now) t.order.items) }
+        → IsOrder book is_leaf t.order.items
+        × HasFree book is_leaf (IsWanted formulas.now wanted.now) t.order.items) }
 {
     let toured = tour_wanted(alloc, formulas, leaves, wanted)?;
     let circular = circular_cells(alloc, formulas, &toured.marks)?;
@@ -136,7 +142,8 @@ fn wanted_from(
     requires sorted { AreSorted formulas.now }
     requires leaves { length leaves.now ≡ length formulas.now }
     ensures length { IfOk result (λ wanted. length wanted.items ≡ length formulas.now) }
-    ensures from { IfOk result (λ wanted. (i : ℕ) (f : Formula) → slice_get formulas.now i ≡ Some f → f.cell ≡ from
+    ensures from { IfOk result (λ wanted. (i : ℕ) (f : Formula) → slice_get formulas.now i
+        ≡ Some f → f.cell ≡ from
         → slice_index_or wanted.items i false ≡ true) }
     ensures closed { IfOk result (λ wanted. IsClosed (edge formulas.now leaves.now) wanted.items) }
 {
@@ -149,8 +156,10 @@ fn wanted_from(
 
 // The place of the formula of a cell.
 fn place_of(formulas: &[Formula], cell: Cell) -> Option<usize>
-    ensures none { IfNone result ((i : ℕ) (f : Formula) → slice_get formulas.now i ≡ Some f → f.cell ≢ cell) }
-    ensures some { IfSome result (λ i. (f : Formula) × (slice_get formulas.now i ≡ Some f) × (f.cell ≡ cell)) }
+    ensures none { IfNone result ((i : ℕ) (f : Formula) → slice_get formulas.now i
+        ≡ Some f → f.cell ≢ cell) }
+    ensures some { IfSome result (λ i. (f : Formula) × (slice_get formulas.now i ≡ Some f)
+        × (f.cell ≡ cell)) }
 {
     for place in 0..formulas.len() {
         if formulas[place].cell.cmp(&cell).is_eq() {
@@ -162,7 +171,8 @@ fn place_of(formulas: &[Formula], cell: Cell) -> Option<usize>
 
 // For each formula, whether its cell is among the leaves.
 fn flags_of(alloc: Global, formulas: &[Formula], leaves: &CellSet) -> Result<Vec<bool>, Memory>
-    ensures { IfOk result (λ flags. flags.items ≡ map (λ (f : Formula). set.contains leaves.now f.cell) formulas.now) }
+    ensures { IfOk result (λ flags. flags.items
+        ≡ map (λ (f : Formula). set.contains leaves.now f.cell) formulas.now) }
 {
     let mut flags = Vec::new(alloc);
     for formula in formulas {
@@ -177,7 +187,8 @@ fn circular_cells(alloc: Global, formulas: &[Formula], marks: &[Mark]) -> Result
     ensures sound { IfOk result (λ found. (a : Cell) → set.contains found a ≡ true
         → (i : ℕ) × (f : Formula) × (slice_get formulas.now i ≡ Some f) × (f.cell ≡ a)
         × (mark_at marks.now i ≡ Mark.Circular)) }
-    ensures complete { IfOk result (λ found. (i : ℕ) (f : Formula) → slice_get formulas.now i ≡ Some f
+    ensures complete { IfOk result (λ found. (i : ℕ) (f : Formula)
+        → slice_get formulas.now i ≡ Some f
         → mark_at marks.now i ≡ Mark.Circular → set.contains found f.cell ≡ true) }
 {
     let mut found = CellSet::new(alloc);
@@ -195,7 +206,8 @@ fn cells_at(alloc: Global, formulas: &[Formula], places: &[usize]) -> Result<Vec
     requires { (p : ℕ) → p < length places.now → slice_index places.now p < length formulas.now }
     ensures count { IfOk result (λ found. vec_len found ≡ length places.now) }
     ensures each { IfOk result (λ found. (p : ℕ) → p < length places.now
-        → slice_get found.items p ≡ option_map (λ (f : Formula). f.cell) (slice_get formulas.now (slice_index places.now p))) }
+        → slice_get found.items p ≡ option_map (λ (f : Formula). f.cell)
+        (slice_get formulas.now (slice_index places.now p))) }
 {
     let mut found = Vec::new(alloc);
     for &place in places {

@@ -29,13 +29,16 @@ pub(crate) fn next_reference(
     requires node { node < length formulas.now }
     requires leaves { length leaves.now ≡ length formulas.now }
     requires within { from.place ≤ length formulas.now }
-    ensures none { IfNone result ((a j : ℕ) → number (length formulas.now) from ≤ a * length formulas.now + j
+    ensures none { IfNone result ((a j : ℕ) → number (length formulas.now) from
+        ≤ a * length formulas.now + j
         → slot formulas.now leaves.now node a j ≡ false) }
     ensures slot { IfSome result (λ c. slot formulas.now leaves.now node c.area c.place ≡ true) }
-    ensures place { IfSome result (λ c. (number (length formulas.now) from ≤ number (length formulas.now) c)
+    ensures place { IfSome result
+        (λ c. (number (length formulas.now) from ≤ number (length formulas.now) c)
         × (c.place < length formulas.now)
         × (number (length formulas.now) c < most_slots formulas.now)) }
-    ensures first { IfSome result (λ c. (a j : ℕ) → number (length formulas.now) from ≤ a * length formulas.now + j
+    ensures first { IfSome result (λ c. (a j : ℕ) → number (length formulas.now) from
+        ≤ a * length formulas.now + j
         → a * length formulas.now + j < number (length formulas.now) c
         → slot formulas.now leaves.now node a j ≡ false) }
 {
@@ -56,10 +59,12 @@ pub(crate) fn next_reference(
 // The first formula from a place on that an area has.
 fn first_within(formulas: &[Formula], area: &Area, from: usize) -> Option<usize>
     requires { AreSorted formulas.now }
-    ensures none { IfNone result ((k : ℕ) → from ≤ k → reaches area.now (slice_get formulas.now k) ≡ false) }
+    ensures none { IfNone result ((k : ℕ) → from ≤ k
+        → reaches area.now (slice_get formulas.now k) ≡ false) }
     ensures reached { IfSome result (λ j. reaches area.now (slice_get formulas.now j) ≡ true) }
     ensures place { IfSome result (λ j. (from ≤ j) × (j < length formulas.now)) }
-    ensures first { IfSome result (λ j. (k : ℕ) → from ≤ k → k < j → reaches area.now (slice_get formulas.now k) ≡ false) }
+    ensures first { IfSome result (λ j. (k : ℕ) → from ≤ k → k < j
+        → reaches area.now (slice_get formulas.now k) ≡ false) }
 {
     let mut place = from;
     while place < formulas.len() {
@@ -80,9 +85,11 @@ fn first_not_before(formulas: &[Formula], from: usize, cell: Cell) -> usize
     requires sorted { AreSorted formulas.now }
     requires within { from ≤ length formulas.now }
     ensures within { (from ≤ result) × (result ≤ length formulas.now) }
-    ensures before { (k : ℕ) (f : Formula) → from ≤ k → k < result → slice_get formulas.now k ≡ Some f
+    ensures before { (k : ℕ) (f : Formula) → from ≤ k
+        → k < result → slice_get formulas.now k ≡ Some f
         → cell_cmp f.cell cell ≡ Less }
-    ensures first { (f : Formula) → slice_get formulas.now result ≡ Some f → cell_cmp f.cell cell ≢ Less }
+    ensures first { (f : Formula) → slice_get formulas.now result ≡ Some f
+        → cell_cmp f.cell cell ≢ Less }
 {
     let mut low = from;
     let mut high = formulas.len();

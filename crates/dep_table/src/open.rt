@@ -28,7 +28,8 @@ pub(crate) fn formulas_of(alloc: Global, book: &Workbook) -> Result<Vec<Formula>
 // Adds the formula of a cell, where the cell has one.
 fn add_formula(formulas: &mut Vec<Formula>, book: &Workbook, cell: Cell) -> Result<(), Memory>
     ensures { IfOk result (λ _. map pair_of formulas.new.items
-        ≡ with_areas (map pair_of formulas.old.items) cell (areas_said (entry (book_of book.now) cell))) }
+        ≡ with_areas (map pair_of formulas.old.items) cell
+        (areas_said (entry (book_of book.now) cell))) }
 {
     let Some(tree) = book.tree(cell) else {
         return Ok(());

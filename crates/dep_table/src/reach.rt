@@ -11,7 +11,8 @@ use cell_refs::{Area, Cell};
 pub(crate) fn first_from(area: &Area, cell: Cell) -> Option<Cell>
     ensures none { IfNone result ((b : Cell) → within area.now b ≡ true → cell_cmp b cell ≡ Less) }
     ensures within { IfSome result (λ t. within area.now t ≡ true) }
-    ensures first { IfSome result (λ t. (b : Cell) → within area.now b ≡ true → cell_cmp b t ≡ Less → cell_cmp b cell ≡ Less) }
+    ensures first { IfSome result (λ t. (b : Cell) → within area.now b ≡ true
+        → cell_cmp b t ≡ Less → cell_cmp b cell ≡ Less) }
 {
     if cell.sheet.0 < area.sheet().0 {
         return Some(begin_of(area, area.top()));

@@ -41,7 +41,8 @@ fn spread(
     requires sorted { AreSorted formulas.now }
     requires leaves { length leaves.now ≡ length formulas.now }
     requires root { slice_index_or flags.old root false ≡ true }
-    requires spreads { IsSpreading (length formulas.now) (edge formulas.now leaves.now) flags.old reached.old.items 0 }
+    requires spreads { IsSpreading (length formulas.now)
+        (edge formulas.now leaves.now) flags.old reached.old.items 0 }
     ensures root { OnOk result (slice_index_or flags.new root false ≡ true) }
     ensures closed { OnOk result (IsClosed (edge formulas.now leaves.now) flags.new) }
 {
@@ -64,10 +65,14 @@ fn follow(
     requires sorted { AreSorted formulas.now }
     requires leaves { length leaves.now ≡ length formulas.now }
     requires next { next < vec_len reached.old }
-    requires spreads { IsSpreading (length formulas.now) (edge formulas.now leaves.now) flags.old reached.old.items next }
-    ensures spreads { OnOk result (IsSpreading (length formulas.now) (edge formulas.now leaves.now) flags.new reached.new.items (next + 1)) }
-    ensures kept { OnOk result ((k : ℕ) → slice_index_or flags.old k false ≡ true → slice_index_or flags.new k false ≡ true) }
-    ensures less { OnOk result (left_to_reach flags.new reached.new.items ≤ left_to_reach flags.old reached.old.items) }
+    requires spreads { IsSpreading (length formulas.now)
+        (edge formulas.now leaves.now) flags.old reached.old.items next }
+    ensures spreads { OnOk result (IsSpreading (length formulas.now)
+        (edge formulas.now leaves.now) flags.new reached.new.items (next + 1)) }
+    ensures kept { OnOk result ((k : ℕ) → slice_index_or flags.old k false ≡ true
+        → slice_index_or flags.new k false ≡ true) }
+    ensures less { OnOk result (left_to_reach flags.new reached.new.items
+        ≤ left_to_reach flags.old reached.old.items) }
 {
     let node = reached[next];
     let mut from = Cursor { area: 0, place: 0 };
@@ -86,7 +91,8 @@ fn reach(place: usize, flags: &mut [bool], reached: &mut Vec<usize>) -> Result<(
     requires { place < length flags.old }
     ensures { OnOk result (MatchBool (slice_index_or flags.old place false)
         ((flags.new ≡ flags.old) × (reached.new.items ≡ reached.old.items))
-        ((flags.new ≡ slice_set flags.old place true) × (reached.new.items ≡ reached.old.items ++ place ∷ []))) }
+        ((flags.new ≡ slice_set flags.old place true)
+        × (reached.new.items ≡ reached.old.items ++ place ∷ []))) }
 {
     if flags[place] {
         return Ok(());

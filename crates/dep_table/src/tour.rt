@@ -35,7 +35,8 @@ pub(crate) fn tour_wanted(
     requires sorted { AreSorted formulas.now }
     requires leaves { length leaves.now ≡ length formulas.now }
     requires wanted { length wanted.now ≡ length formulas.now }
-    ensures { IfOk result (λ t. IsToured (edge formulas.now leaves.now) (length formulas.now) wanted.now t.marks.items t.order.items) }
+    ensures { IfOk result (λ t. IsToured (edge formulas.now leaves.now)
+        (length formulas.now) wanted.now t.marks.items t.order.items) }
 {
     let count = formulas.len();
     let mut marks = vec![in alloc; Mark::New; count]?;
@@ -66,8 +67,10 @@ fn explore_wanted(
     requires nodes { length marks.old ≡ length formulas.now }
     requires leaves { length leaves.now ≡ length formulas.now }
     requires wanted { length wanted.now ≡ length formulas.now }
-    ensures sound { OnOk result (IsUnderway formulas.now leaves.now marks.new cursors.new [] order.new.items) }
-    ensures visited { OnOk result ((k : ℕ) → k < length formulas.now → slice_index_or wanted.now k false ≡ true
+    ensures sound { OnOk result
+        (IsUnderway formulas.now leaves.now marks.new cursors.new [] order.new.items) }
+    ensures visited { OnOk result ((k : ℕ) → k < length formulas.now
+        → slice_index_or wanted.now k false ≡ true
         → mark_at marks.new k ≢ Mark.New) }
 {
     for root in 0..formulas.len() {
@@ -93,8 +96,10 @@ fn explore(
     requires nodes { length marks.old ≡ length formulas.now }
     requires leaves { length leaves.now ≡ length formulas.now }
     requires root { root < length formulas.now }
-    ensures sound { OnOk result (IsUnderway formulas.now leaves.now marks.new cursors.new [] order.new.items) }
-    ensures kept { OnOk result ((k : ℕ) → mark_at marks.old k ≢ Mark.New → mark_at marks.new k ≢ Mark.New) }
+    ensures sound { OnOk result
+        (IsUnderway formulas.now leaves.now marks.new cursors.new [] order.new.items) }
+    ensures kept { OnOk result ((k : ℕ) → mark_at marks.old k ≢ Mark.New
+        → mark_at marks.new k ≢ Mark.New) }
     ensures visited { OnOk result (mark_at marks.new root ≢ Mark.New) }
 {
     let Mark::New = marks[root] else {
@@ -119,14 +124,17 @@ fn step(
     order: &mut Vec<usize>,
 ) -> Result<(), Memory>
     requires sorted { AreSorted formulas.now }
-    requires sound { IsUnderway formulas.now leaves.now marks.old cursors.old stack.old.items order.old.items }
+    requires sound { IsUnderway formulas.now leaves.now
+        marks.old cursors.old stack.old.items order.old.items }
     requires some { 0 < vec_len stack.old }
     requires nodes { length marks.old ≡ length formulas.now }
     requires leaves { length leaves.now ≡ length formulas.now }
-    ensures sound { OnOk result (IsUnderway formulas.now leaves.now marks.new cursors.new stack.new.items order.new.items) }
+    ensures sound { OnOk result
+        (IsUnderway formulas.now leaves.now marks.new cursors.new stack.new.items order.new.items) }
     ensures less { OnOk result (left_to_do formulas.now marks.new cursors.new stack.new.items
         < left_to_do formulas.now marks.old cursors.old stack.old.items) }
-    ensures kept { OnOk result ((k : ℕ) → mark_at marks.old k ≢ Mark.New → mark_at marks.new k ≢ Mark.New) }
+    ensures kept { OnOk result ((k : ℕ) → mark_at marks.old k ≢ Mark.New
+        → mark_at marks.new k ≢ Mark.New) }
 {
     let node = stack[stack.len() - 1];
     let Some(found) = next_reference(formulas, leaves, node, cursors[node]) else {

@@ -68,7 +68,11 @@ fn sumif_part<C: Cells>(alloc: Global, cells: &C, args: &[Part]) -> Result<Part,
 // A call of ROWS, which needs no value of a reference.
 fn rows_part(alloc: Global, args: &[Part]) -> Result<Part, Memory>
     requires { Takes func.Rows (length args.now) }
-    ensures { IfOk result (λ part. part ≡ record { looks = size_looks args.now; outcome = size_outcome func.Rows (λ g. g.rows) args.now; reference = None }) }
+    ensures { IfOk result (λ part. part ≡ record {
+      looks = size_looks args.now;
+      outcome = size_outcome func.Rows (λ g. g.rows) args.now;
+      reference = None;
+    }) }
 {
     let [part] = args else {
         return whole_part(alloc, Func::Rows, args);
@@ -82,7 +86,11 @@ fn rows_part(alloc: Global, args: &[Part]) -> Result<Part, Memory>
 // A call of COLUMNS.
 fn columns_part(alloc: Global, args: &[Part]) -> Result<Part, Memory>
     requires { Takes func.Columns (length args.now) }
-    ensures { IfOk result (λ part. part ≡ record { looks = size_looks args.now; outcome = size_outcome func.Columns (λ g. g.columns) args.now; reference = None }) }
+    ensures { IfOk result (λ part. part ≡ record {
+      looks = size_looks args.now;
+      outcome = size_outcome func.Columns (λ g. g.columns) args.now;
+      reference = None;
+    }) }
 {
     let [part] = args else {
         return whole_part(alloc, Func::Columns, args);
@@ -104,7 +112,11 @@ fn number(n: u32) -> Arg
 fn whole_call(alloc: Global, function: Func, args: Vec<Part>) -> Result<Part, Memory>
     requires takes { Takes function (length args.items) }
     requires whole { is_choosing function ≡ false }
-    ensures { IfOk result (λ part. part ≡ record { looks = all_looks args.items; outcome = narrow_called function (outcomes args.items); reference = None }) }
+    ensures { IfOk result (λ part. part ≡ record {
+      looks = all_looks args.items;
+      outcome = narrow_called function (outcomes args.items);
+      reference = None;
+    }) }
 {
     let mut args = args;
     if args.len() == 1 {
@@ -119,7 +131,11 @@ fn whole_call(alloc: Global, function: Func, args: Vec<Part>) -> Result<Part, Me
 fn single_call(alloc: Global, function: Func, part: Part) -> Result<Part, Memory>
     requires takes { Takes function 1 }
     requires whole { is_choosing function ≡ false }
-    ensures { IfOk result (λ call. call ≡ record { looks = all_looks (part ∷ []); outcome = narrow_called function (outcomes (part ∷ [])); reference = None }) }
+    ensures { IfOk result (λ call. call ≡ record {
+      looks = all_looks (part ∷ []);
+      outcome = narrow_called function (outcomes (part ∷ []));
+      reference = None;
+    }) }
 {
     let Part {
         looks,
@@ -151,7 +167,11 @@ fn in_list(alloc: Global, value: Option<Arg>) -> Result<Option<Vec<Arg>>, Memory
 pub(crate) fn whole_part(alloc: Global, function: Func, args: &[Part]) -> Result<Part, Memory>
     requires takes { Takes function (length args.now) }
     requires whole { is_choosing function ≡ false }
-    ensures { IfOk result (λ part. part ≡ record { looks = all_looks args.now; outcome = narrow_called function (outcomes args.now); reference = None }) }
+    ensures { IfOk result (λ part. part ≡ record {
+      looks = all_looks args.now;
+      outcome = narrow_called function (outcomes args.now);
+      reference = None;
+    }) }
 {
     let looks = all_looks(alloc, args)?;
     let outcome = narrow_called(alloc, function, outcomes(alloc, args)?)?;
@@ -173,7 +193,8 @@ fn filled_outcome<C: Cells>(
     requires takes { Takes function (length args.now) }
     requires whole { is_choosing function ≡ false }
     requires looks { looks.now ≡ call_looks by_value (C.known cells.now) function args.now }
-    ensures { IfOk result (λ outcome. outcome ≡ filled_outcome (C.known cells.now) function args.now) }
+    ensures { IfOk result (λ outcome. outcome
+        ≡ filled_outcome (C.known cells.now) function args.now) }
 {
     if !all_known(alloc, cells, looks)? {
         return Ok(None);
@@ -189,7 +210,8 @@ pub(crate) fn narrow_called(
 ) -> Result<Option<Arg>, Memory>
     requires takes { IfSome args (λ v. Takes function (length v.items)) }
     requires whole { is_choosing function ≡ false }
-    ensures { IfOk result (λ outcome. outcome ≡ narrow_called function (option_map (λ v. v.items) args)) }
+    ensures { IfOk result (λ outcome. outcome
+        ≡ narrow_called function (option_map (λ v. v.items) args)) }
 {
     match args {
         Some(args) => narrow_answer(call(alloc, function, &args)),
@@ -203,7 +225,8 @@ fn all_filled<C: Cells>(
     cells: &C,
     parts: &[Part],
 ) -> Result<Option<Vec<Arg>>, Memory>
-    ensures values { IfOk result (λ found. option_map (λ v. v.items) found ≡ all_filled (C.known cells.now) parts.now) }
+    ensures values { IfOk result (λ found. option_map (λ v. v.items) found
+        ≡ all_filled (C.known cells.now) parts.now) }
     ensures count { IfOk result (λ found. IfSome found (λ v. length v.items ≡ length parts.now)) }
 {
     let mut values = Vec::new(alloc);
@@ -218,7 +241,8 @@ fn all_filled<C: Cells>(
 
 // The value of a part, of a reference what is known.
 fn filled_or<C: Cells>(alloc: Global, cells: &C, part: &Part) -> Result<Option<Arg>, Memory>
-    ensures { IfOk result (λ found. found ≡ filled_or (C.known cells.now) part.now.reference part.now.outcome) }
+    ensures { IfOk result (λ found. found
+        ≡ filled_or (C.known cells.now) part.now.reference part.now.outcome) }
 {
     if let Some(reference) = &part.reference {
         return Ok(Some(filled_grid(alloc, cells, reference)?));

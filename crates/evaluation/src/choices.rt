@@ -21,7 +21,11 @@ use std::alloc::Global;
 /// A call: it looks at its first argument and then at the chosen one, and has the value of the chosen one.
 #[tactic(auto, using(crate::proofs::Chosen::looks_are))]
 pub(crate) fn choosing_part(alloc: Global, function: Func, args: &[Part]) -> Result<Part, Memory>
-    ensures { IfOk result (λ part. part ≡ record { looks = choosing_looks by_value function args.now; outcome = choosing_outcome function args.now; reference = None }) }
+    ensures { IfOk result (λ part. part ≡ record {
+      looks = choosing_looks by_value function args.now;
+      outcome = choosing_outcome function args.now;
+      reference = None;
+    }) }
 {
     let [first, others @ ..] = args else {
         return Ok(Part::plain(alloc, Arg::One(Value::Error(ErrorKind::Value))));
@@ -45,7 +49,12 @@ fn chosen_part(
     first: &Arg,
     others: &[Part],
 ) -> Result<Part, Memory>
-    ensures { IfOk result (λ part. part ≡ record { looks = looks.items ++ looks_of (at_chosen others.now (chosen_place function first.now)); outcome = chosen_outcome (without_choice function first.now) (at_chosen others.now (chosen_place function first.now)); reference = None }) }
+    ensures { IfOk result (λ part. part ≡ record {
+      looks = looks.items ++ looks_of (at_chosen others.now (chosen_place function first.now));
+      outcome = chosen_outcome (without_choice function first.now)
+          (at_chosen others.now (chosen_place function first.now));
+      reference = None;
+    }) }
 {
     let Some(part) = choice(function, first, others) else {
         let without = without_choice(alloc, function, first)?;
@@ -76,7 +85,8 @@ fn single_outcome(alloc: Global, part: &Part) -> Result<Option<Arg>, Memory>
 
 // The argument that is chosen, if there is one.
 fn choice<'a>(function: Func, first: &Arg, others: &'a [Part]) -> Option<&'a Part>
-    ensures { option_map (λ part. part.now) result ≡ at_chosen others.now (chosen_place function first.now) }
+    ensures { option_map (λ part. part.now) result
+        ≡ at_chosen others.now (chosen_place function first.now) }
 {
     match function {
         Func::If => by_test(first, others),
@@ -87,7 +97,8 @@ fn choice<'a>(function: Func, first: &Arg, others: &'a [Part]) -> Option<&'a Par
 
 // The first argument where a test holds, and the second where it doesn't.
 fn by_test<'a>(test: &Arg, others: &'a [Part]) -> Option<&'a Part>
-    ensures { option_map (λ part. part.now) result ≡ at_chosen others.now (if_place (logical_in (value_of test.now))) }
+    ensures { option_map (λ part. part.now) result
+        ≡ at_chosen others.now (if_place (logical_in (value_of test.now))) }
 {
     match logical_of(test) {
         Ok(true) => others.first(),
@@ -98,7 +109,8 @@ fn by_test<'a>(test: &Arg, others: &'a [Part]) -> Option<&'a Part>
 
 // The first argument where another one is an error.
 fn by_error<'a>(tried: &Arg, others: &'a [Part]) -> Option<&'a Part>
-    ensures { option_map (λ part. part.now) result ≡ at_chosen others.now (iferror_place (is_one_error (single tried.now))) }
+    ensures { option_map (λ part. part.now) result
+        ≡ at_chosen others.now (iferror_place (is_one_error (single tried.now))) }
 {
     if is_one_error(tried) {
         return others.first();
@@ -108,7 +120,8 @@ fn by_error<'a>(tried: &Arg, others: &'a [Part]) -> Option<&'a Part>
 
 // The argument at a place, counted from 1.
 fn by_place<'a>(place: &Arg, others: &'a [Part]) -> Option<&'a Part>
-    ensures { option_map (λ part. part.now) result ≡ at_chosen others.now (choose_place (place_of place.now)) }
+    ensures { option_map (λ part. part.now) result
+        ≡ at_chosen others.now (choose_place (place_of place.now)) }
 {
     let Ok(place) = place_of(place) else {
         return None;
@@ -118,7 +131,8 @@ fn by_place<'a>(place: &Arg, others: &'a [Part]) -> Option<&'a Part>
 
 // The same of the number.
 fn at_place(others: &[Part], place: i128) -> Option<&Part>
-    ensures { option_map (λ part. part.now) result ≡ at_chosen others.now (choose_place (Ok place)) }
+    ensures { option_map (λ part. part.now) result
+        ≡ at_chosen others.now (choose_place (Ok place)) }
 {
     if place < 1 || place > others.len() as i128 {
         return None;

@@ -56,7 +56,8 @@ fn arguments<C: Cells>(
     function: Func,
     exprs: &[Expr],
 ) -> Result<Vec<Part>, Memory>
-    ensures { IfOk result (λ parts. parts.items ≡ unread_at (table_place function) (arguments (C.known cells.now) (trees exprs.now))) }
+    ensures { IfOk result (λ parts. parts.items
+        ≡ unread_at (table_place function) (arguments (C.known cells.now) (trees exprs.now))) }
 {
     let mut parts = Vec::new(alloc);
     for (index, expr) in exprs.iter().enumerate() {

@@ -23,7 +23,8 @@ pub(crate) fn array_part(
     items: &[Expr],
 ) -> Result<Part, Memory>
     requires { IsRectangular rows columns (trees items.now) }
-    ensures { IfOk result (λ part. part ≡ plain (Elements (record { rows = rows; columns = columns; items = literals (trees items.now) }))) }
+    ensures { IfOk result (λ part. part ≡ plain (Elements
+        (record { rows = rows; columns = columns; items = literals (trees items.now) }))) }
 {
     let values = literals(alloc, items)?;
     match Grid::new(rows as u32, columns as u32, values) {
@@ -53,7 +54,11 @@ pub(crate) fn reference_part<C: Cells>(
 /// A reference to some areas whose values are left unread.
 pub(crate) fn table_part(alloc: Global, areas: &[Area]) -> Result<Part, Memory>
     requires { 0 < length areas.now }
-    ensures { IfOk result (λ part. part ≡ record { looks = (grid_of_areas areas.now).cells; outcome = None; reference = Some (grid_of_areas areas.now) }) }
+    ensures { IfOk result (λ part. part ≡ record {
+      looks = (grid_of_areas areas.now).cells;
+      outcome = None;
+      reference = Some (grid_of_areas areas.now);
+    }) }
 {
     let reference = Reference::of_areas(alloc, areas)?;
     Ok(Part {

@@ -14,7 +14,8 @@ use std::alloc::Global;
 
 /// An answer on narrow numbers: none where a number isn't narrow.
 pub(crate) fn narrow_answer(answer: Result<Arg, FuncStop>) -> Result<Option<Arg>, Memory>
-    ensures { (c : Calculation Arg) → Answers c answer → IfOk result (λ outcome. outcome ≡ narrow c) }
+    ensures { (c : Calculation Arg) → Answers c answer
+        → IfOk result (λ outcome. outcome ≡ narrow c) }
 {
     match answer {
         Ok(value) => Ok(Some(value)),
@@ -107,7 +108,8 @@ fn infix_outcome(
     left: Option<Arg>,
     right: Option<Arg>,
 ) -> Result<Option<Arg>, Memory>
-    ensures { IfOk result (λ outcome. outcome ≡ option_and_then (λ x. option_and_then (λ y. narrow (infix_of op x y)) right) left) }
+    ensures { IfOk result (λ outcome. outcome
+        ≡ option_and_then (λ x. option_and_then (λ y. narrow (infix_of op x y)) right) left) }
 {
     match (left, right) {
         (Some(first), Some(second)) => narrow_answer(infix(alloc, op, &first, &second)),

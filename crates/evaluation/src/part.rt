@@ -25,7 +25,8 @@ impl Model for Part {
 
     ghost Value = { Argument Arg };
 
-    ghost view = { λ p. record { looks = p.looks.items; outcome = p.outcome; reference = p.reference } };
+    ghost view = { λ p.
+        record { looks = p.looks.items; outcome = p.outcome; reference = p.reference } };
 }
 
 impl Part {

@@ -32,8 +32,10 @@ pub(crate) fn values_of<C: Cells>(
     cells: &C,
     of: &[Cell],
 ) -> Result<Option<Vec<Value>>, Memory>
-    ensures values { IfOk result (λ found. option_map (λ values. values.items) found ≡ elements (C.known cells.now) of.now) }
-    ensures count { IfOk result (λ found. IfSome found (λ values. length values.items ≡ length of.now)) }
+    ensures values { IfOk result (λ found. option_map (λ values. values.items) found
+        ≡ elements (C.known cells.now) of.now) }
+    ensures count { IfOk result (λ found.
+        IfSome found (λ values. length values.items ≡ length of.now)) }
 {
     let mut values = Vec::new(alloc);
     for cell in of {
@@ -51,7 +53,8 @@ pub(crate) fn filled_values<C: Cells>(
     cells: &C,
     of: &[Cell],
 ) -> Result<Vec<Value>, Memory>
-    ensures { IfOk result (λ values. values.items ≡ map (known_or_empty (C.known cells.now)) of.now) }
+    ensures { IfOk result (λ values. values.items
+        ≡ map (known_or_empty (C.known cells.now)) of.now) }
 {
     let mut values = Vec::new(alloc);
     for cell in of {
@@ -81,7 +84,8 @@ pub(crate) fn filled_grid<C: Cells>(
     cells: &C,
     reference: &Reference,
 ) -> Result<Arg, Memory>
-    ensures { IfOk result (λ grid. grid ≡ Elements (values_in (known_or_empty (C.known cells.now)) reference.now)) }
+    ensures { IfOk result (λ grid. grid
+        ≡ Elements (values_in (known_or_empty (C.known cells.now)) reference.now)) }
 {
     let values = filled_values(alloc, cells, reference.cells())?;
     Ok(in_grid(reference, values))
@@ -91,7 +95,11 @@ pub(crate) fn filled_grid<C: Cells>(
 fn in_grid(reference: &Reference, values: Vec<Value>) -> Arg
     requires full { IsFullGrid reference.now }
     requires count { length values.items ≡ length reference.now.cells }
-    ensures { result ≡ Elements (record { rows = reference.now.rows; columns = reference.now.columns; items = values.items }) }
+    ensures { result ≡ Elements (record {
+      rows = reference.now.rows;
+      columns = reference.now.columns;
+      items = values.items;
+    }) }
 {
     match Grid::new(reference.rows(), reference.cols(), values) {
         Some(grid) => Arg::Area(grid),
@@ -104,7 +112,9 @@ pub(crate) fn single_grid(rows: u32, cols: u32, values: Option<Vec<Value>>) -> O
     requires some_rows { 0 < rows }
     requires some_columns { 0 < cols }
     requires count { IfSome values (λ v. length v.items ≡ rows * cols) }
-    ensures { result ≡ option_map (λ items. single (Elements (record { rows = rows; columns = cols; items = items }))) (option_map (λ v. v.items) values) }
+    ensures { result ≡ option_map
+        (λ items. single (Elements (record { rows = rows; columns = cols; items = items })))
+        (option_map (λ v. v.items) values) }
 {
     match values {
         Some(values) => Some(one_or_grid(rows, cols, values)),
@@ -117,7 +127,8 @@ fn one_or_grid(rows: u32, cols: u32, values: Vec<Value>) -> Arg
     requires some_rows { 0 < rows }
     requires some_columns { 0 < cols }
     requires count { length values.items ≡ rows * cols }
-    ensures { result ≡ single (Elements (record { rows = rows; columns = cols; items = values.items })) }
+    ensures { result
+        ≡ single (Elements (record { rows = rows; columns = cols; items = values.items })) }
 {
     let mut values = values;
     if values.len() == 1 {

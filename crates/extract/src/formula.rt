@@ -67,7 +67,8 @@ fn with_minus<C: FormsOfCells>(
     span: Span,
     of: &Expr,
 ) -> Result<Part, Memory>
-    ensures { IfOk result (λ part. part ≡ turned span minus_form (part_of (C.forms forms.now) of.now)) }
+    ensures { IfOk result (λ part. part
+        ≡ turned span minus_form (part_of (C.forms forms.now) of.now)) }
 {
     let part = form_part(alloc, forms, of)?;
     minus_part(alloc, span, part)
@@ -81,7 +82,8 @@ fn in_hundredths<C: FormsOfCells>(
     span: Span,
     of: &Expr,
 ) -> Result<Part, Memory>
-    ensures { IfOk result (λ part. part ≡ turned span percent_form (part_of (C.forms forms.now) of.now)) }
+    ensures { IfOk result (λ part. part
+        ≡ turned span percent_form (part_of (C.forms forms.now) of.now)) }
 {
     let part = form_part(alloc, forms, of)?;
     percent_part(alloc, span, part)
@@ -97,7 +99,8 @@ fn with_infix<C: FormsOfCells>(
     left: &Expr,
     right: &Expr,
 ) -> Result<Part, Memory>
-    ensures { IfOk result (λ part. part ≡ joined span op (part_of (C.forms forms.now) left.now) (part_of (C.forms forms.now) right.now)) }
+    ensures { IfOk result (λ part. part ≡ joined span op
+        (part_of (C.forms forms.now) left.now) (part_of (C.forms forms.now) right.now)) }
 {
     let left = form_part(alloc, forms, left)?;
     let right = form_part(alloc, forms, right)?;
@@ -112,7 +115,8 @@ fn arguments<C: FormsOfCells>(
     function: Func,
     exprs: &[Expr],
 ) -> Result<Vec<Part>, Memory>
-    ensures { IfOk result (λ parts. parts.items ≡ unread_at (table_place function) (parts_of (C.forms forms.now) (trees exprs.now))) }
+    ensures { IfOk result (λ parts. parts.items
+        ≡ unread_at (table_place function) (parts_of (C.forms forms.now) (trees exprs.now))) }
 {
     let mut parts = Vec::new(alloc);
     for (index, expr) in exprs.iter().enumerate() {

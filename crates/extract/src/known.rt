@@ -29,7 +29,8 @@ impl FormsOfCells for Known<'_> {
     ghost forms = { λ k. known_form (book_of k.book.now) k.adj.now k.table.now };
 
     fn form(&self, alloc: Global, cell: Cell) -> Result<Option<Abs>, Memory>
-        ensures { IfOk result (λ form. form ≡ known_form (book_of self.now.book.now) self.now.adj.now self.now.table.now cell) }
+        ensures { IfOk result (λ form. form
+            ≡ known_form (book_of self.now.book.now) self.now.adj.now self.now.table.now cell) }
     {
         match self.adj.find(cell) {
             Some(number) => Ok(Some(Abs::Affine(Form::decision(alloc, number)))),
@@ -41,7 +42,8 @@ impl FormsOfCells for Known<'_> {
 impl Known<'_> {
     /// Whether the form of a cell is known.
     pub(crate) fn has_form(&self, cell: Cell) -> bool
-        ensures { result ≡ is_some (known_form (book_of self.now.book.now) self.now.adj.now self.now.table.now cell) }
+        ensures { result ≡ is_some
+            (known_form (book_of self.now.book.now) self.now.adj.now self.now.table.now cell) }
     {
         match self.adj.find(cell) {
             Some(_) => true,
@@ -57,7 +59,8 @@ fn form_said(
     table: &FormTable,
     cell: Cell,
 ) -> Result<Option<Abs>, Memory>
-    ensures { IfOk result (λ form. form ≡ form_said (entry (book_of book.now) cell) (form_at table.now (place.Cell cell))) }
+    ensures { IfOk result (λ form. form
+        ≡ form_said (entry (book_of book.now) cell) (form_at table.now (place.Cell cell))) }
 {
     match book.kind(cell) {
         Kind::Empty => Ok(Some(Abs::Known(Value::Empty))),
@@ -74,7 +77,8 @@ fn form_said(
 
 // Whether it is known.
 fn is_said(book: &Workbook, table: &FormTable, cell: Cell) -> bool
-    ensures { result ≡ is_some (form_said (entry (book_of book.now) cell) (form_at table.now (place.Cell cell))) }
+    ensures { result ≡ is_some
+        (form_said (entry (book_of book.now) cell) (form_at table.now (place.Cell cell))) }
 {
     match book.kind(cell) {
         Kind::Formula => is_kept(table, cell),

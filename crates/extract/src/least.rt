@@ -9,7 +9,8 @@ use cell_refs::Cell;
 
 /// The least of some cells that have no form.
 pub(crate) fn least_without(known: &Known, cells: &[Cell]) -> Option<Cell>
-    ensures { result ≡ least_without (known_form (book_of known.now.book.now) known.now.adj.now known.now.table.now) cells.now }
+    ensures { result ≡ least_without
+        (known_form (book_of known.now.book.now) known.now.adj.now known.now.table.now) cells.now }
 {
     let mut least = None;
     let mut place = cells.len();
@@ -22,7 +23,9 @@ pub(crate) fn least_without(known: &Known, cells: &[Cell]) -> Option<Cell>
 
 // The lesser of a cell, if it has no form, and of another.
 fn with_least(known: &Known, cell: Cell, least: Option<Cell>) -> Option<Cell>
-    ensures { result ≡ with_least (known_form (book_of known.now.book.now) known.now.adj.now known.now.table.now) cell (known_form (book_of known.now.book.now) known.now.adj.now known.now.table.now cell) least }
+    ensures { result ≡ with_least
+        (known_form (book_of known.now.book.now) known.now.adj.now known.now.table.now) cell
+        (known_form (book_of known.now.book.now) known.now.adj.now known.now.table.now cell) least }
 {
     if known.has_form(cell) {
         return least;

@@ -30,7 +30,8 @@ pub fn looked_at(
     requires undecided { IsUndecided (numbered_in adj.now) place }
     requires free { is_in_circle (book_of book.now) (numbered_in adj.now) place tree.now ≡ false }
     requires forms { HasForms (book_of book.now) (numbered_in adj.now) got.now tree.now }
-    ensures each { IfOk result (λ found. (b : Cell) → Contains found.items b ↔ PlaceLooksAt (book_of book.now) (numbered_in adj.now) place tree.now b) }
+    ensures each { IfOk result (λ found. (b : Cell) → Contains found.items b
+        ↔ PlaceLooksAt (book_of book.now) (numbered_in adj.now) place tree.now b) }
     ensures sorted { IfOk result (λ found. IsStrictlySortedBy cell_cmp found.items) }
 {
     let known = Known {

@@ -33,8 +33,10 @@ pub fn form_of<L: Ledger>(
     requires undecided { IsUndecided (numbered_in adj.now) place }
     requires free { is_in_circle (book_of book.now) (numbered_in adj.now) place tree.now ≡ false }
     requires forms { HasForms (book_of book.now) (numbered_in adj.now) got.now tree.now }
-    ensures form { IfOk result (λ form. form ≡ place_form (book_of book.now) (numbered_in adj.now) place tree.now) }
-    ensures value { IfOk result (IsTheValue (book_of book.now) (numbered_in adj.now) place tree.now) }
+    ensures form { IfOk result (λ form. form
+        ≡ place_form (book_of book.now) (numbered_in adj.now) place tree.now) }
+    ensures value { IfOk result
+        (IsTheValue (book_of book.now) (numbered_in adj.now) place tree.now) }
     ensures refusal { IfOk result (IsRightly (book_of book.now) (numbered_in adj.now) tree.now) }
     ensures step { steps.new ≡ steps.old + 1 }
 {
@@ -56,7 +58,8 @@ fn formula_form(
     requires undecided { IsUndecided (numbered_in adj.now) place }
     requires free { is_in_circle (book_of book.now) (numbered_in adj.now) place tree.now ≡ false }
     requires forms { HasForms (book_of book.now) (numbered_in adj.now) got.now tree.now }
-    ensures { IfOk result (λ form. form ≡ place_form (book_of book.now) (numbered_in adj.now) place tree.now) }
+    ensures { IfOk result (λ form. form
+        ≡ place_form (book_of book.now) (numbered_in adj.now) place tree.now) }
 {
     let known = Known {
         book,
@@ -69,7 +72,9 @@ fn formula_form(
 
 // The form of a formula that is a part: blocked where a cell at which it looks has no form, and else what the part comes to.
 fn form_of_part(alloc: Global, known: &Known, part: &Part) -> Result<CellForm, Memory>
-    ensures { IfOk result (λ form. form ≡ by_looks (least_without (known_form (book_of known.now.book.now) known.now.adj.now known.now.table.now) part.now.looks) part.now.outcome) }
+    ensures { IfOk result (λ form. form
+        ≡ by_looks (least_without (known_form (book_of known.now.book.now)
+        known.now.adj.now known.now.table.now) part.now.looks) part.now.outcome) }
 {
     if let Some(cell) = least_without(known, part.looks()) {
         return Ok(CellForm::Blocked(Place::Cell(cell)));

@@ -31,9 +31,12 @@ impl Model for FormTable {
 
     ghost Value = { Table };
 
-    ghost coded = { code_by (FinMap cell_cmp CellForm × FinMap nat_cmp CellForm) (coded× (code coded_cell (Prim.hlevel codes)) (code coded_ℕ (Prim.hlevel codes))) (λ t. (t.cells, t.sides)) (λ p. record { cells = p.0; sides = p.1 }) (λ _. refl) };
+    ghost coded = { code_by (FinMap cell_cmp CellForm × FinMap nat_cmp CellForm)
+        (coded× (code coded_cell (Prim.hlevel codes)) (code coded_ℕ (Prim.hlevel codes)))
+        (λ t. (t.cells, t.sides)) (λ p. record { cells = p.0; sides = p.1 }) (λ _. refl) };
 
-    ghost view = { λ t. record { cells = from_entries t.cells.entries; sides = from_entries t.sides.entries } };
+    ghost view = { λ t.
+        record { cells = from_entries t.cells.entries; sides = from_entries t.sides.entries } };
 }
 
 impl FormTable {

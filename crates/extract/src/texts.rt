@@ -20,7 +20,8 @@ pub(crate) fn texts_among(
     adj: &Adj,
     cells: &[Cell],
 ) -> Result<Vec<Cell>, Memory>
-    ensures each { IfOk result (λ found. (b : Cell) → Contains found.items b ↔ (Contains cells.now b × (is_open_text (book_of book.now) adj.now b ≡ true))) }
+    ensures each { IfOk result (λ found. (b : Cell) → Contains found.items b
+        ↔ (Contains cells.now b × (is_open_text (book_of book.now) adj.now b ≡ true))) }
     ensures sorted { IfOk result (λ found. IsStrictlySortedBy cell_cmp found.items) }
 {
     let mut found = CellSet::new(alloc);
@@ -33,7 +34,8 @@ pub(crate) fn texts_among(
 
 // Adds a cell if it has a text and isn't to be decided.
 fn add_open(book: &Workbook, adj: &Adj, cell: Cell, found: &mut CellSet) -> Result<(), Memory>
-    ensures { OnOk result (found.new ≡ (if is_open_text (book_of book.now) adj.now cell then set.insert found.old cell else found.old)) }
+    ensures { OnOk result (found.new ≡ (if is_open_text (book_of book.now) adj.now cell
+        then set.insert found.old cell else found.old)) }
 {
     if is_open_text(book, adj, cell) {
         found.add(cell)?;

@@ -21,7 +21,8 @@ impl FormsOfCells for Sheet {
     ghost forms = { λ s _. if s.is_empty then Some (Known Empty) else None };
 
     fn form(&self, _alloc: Global, _cell: Cell) -> Result<Option<Abs>, Memory>
-        ensures { IfOk result (λ form. form ≡ if self.now.is_empty then Some (Known Empty) else None) }
+        ensures { IfOk result (λ form. form
+            ≡ if self.now.is_empty then Some (Known Empty) else None) }
     {
         if self.is_empty {
             Ok(Some(Abs::Known(Value::Empty)))

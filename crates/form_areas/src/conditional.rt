@@ -149,7 +149,8 @@ fn total_met(
 ) -> Result<Form, FormStop>
     requires criterion { error_of (Known criterion.now) ≡ None }
     requires size { length tested.now ≡ length summed.now }
-    ensures { forms.Answers (total (filter_map form_in (filter_map item_at (met criterion.now tested.now summed.now)))) result }
+    ensures { forms.Answers (total (filter_map form_in
+        (filter_map item_at (met criterion.now tested.now summed.now)))) result }
 {
     let mut total = Form::constant(alloc, Frac::zero());
     for (place, item) in tested.iter().enumerate() {
@@ -160,7 +161,8 @@ fn total_met(
 
 // Adds an element, if it is a number and is asked for.
 fn add_where(total: &mut Form, alloc: Global, asked: bool, item: &Abs) -> Result<(), FormStop>
-    ensures { forms.Answers (through added total.old (numbers_where asked item.now)) (result_map_both (λ _. total.new) (λ stop. stop) result) }
+    ensures { forms.Answers (through added total.old (numbers_where asked item.now))
+        (result_map_both (λ _. total.new) (λ stop. stop) result) }
 {
     if asked {
         return add_element(total, alloc, item);

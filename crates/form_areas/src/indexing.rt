@@ -68,7 +68,8 @@ fn one_place(rows: u32, cols: u32, place: &Operand) -> Result<Pick, OpRefusal>
 fn two_places(rows: u32, cols: u32, row: &Operand, column: &Operand) -> Result<Pick, OpRefusal>
     requires rows { 0 < rows }
     requires columns { 0 < cols }
-    ensures answer { Answers (of_places (wanted_in row.now) (wanted_in column.now) (picked_by rows (wanted_in row.now)) (picked_by cols (wanted_in column.now))) result }
+    ensures answer { Answers (of_places (wanted_in row.now) (wanted_in column.now)
+        (picked_by rows (wanted_in row.now)) (picked_by cols (wanted_in column.now))) result }
     ensures within { IfOk result (IsWithin rows cols) }
     ensures refused { IfErr result IsUndecided }
 {

@@ -96,7 +96,8 @@ pub(crate) fn total(alloc: Global, args: &[AbsArg]) -> Result<Form, FormStop>
 
 // Adds the numbers of an argument.
 fn add_items(total: &mut Form, alloc: Global, arg: &AbsArg) -> Result<(), FormStop>
-    ensures { Answers (through added total.old (filter_map form_in (items_in arg.now))) (result_map_both (λ _. total.new) (λ stop. stop) result) }
+    ensures { Answers (through added total.old (filter_map form_in (items_in arg.now)))
+        (result_map_both (λ _. total.new) (λ stop. stop) result) }
 {
     match arg {
         AbsArg::One(value) => add_operand(total, alloc, &operand_of(value)),
@@ -106,7 +107,8 @@ fn add_items(total: &mut Form, alloc: Global, arg: &AbsArg) -> Result<(), FormSt
 
 // Adds what stands where a number is wanted, if it is one.
 fn add_operand(total: &mut Form, alloc: Global, operand: &Operand) -> Result<(), FormStop>
-    ensures { Answers (through added total.old (option_to_list (form_in (wanted_in operand.now)))) (result_map_both (λ _. total.new) (λ stop. stop) result) }
+    ensures { Answers (through added total.old (option_to_list (form_in (wanted_in operand.now))))
+        (result_map_both (λ _. total.new) (λ stop. stop) result) }
 {
     match operand {
         Operand::Known(number) => total.add_to(alloc, &Form::constant(alloc, *number)),
@@ -117,7 +119,8 @@ fn add_operand(total: &mut Form, alloc: Global, operand: &Operand) -> Result<(),
 
 /// Adds the numbers among some elements.
 pub(crate) fn add_elements(total: &mut Form, alloc: Global, items: &[Abs]) -> Result<(), FormStop>
-    ensures { Answers (through added total.old (filter_map form_in (filter_map item_at items.now))) (result_map_both (λ _. total.new) (λ stop. stop) result) }
+    ensures { Answers (through added total.old (filter_map form_in (filter_map item_at items.now)))
+        (result_map_both (λ _. total.new) (λ stop. stop) result) }
 {
     for item in items {
         add_element(total, alloc, item)?;
@@ -127,7 +130,9 @@ pub(crate) fn add_elements(total: &mut Form, alloc: Global, items: &[Abs]) -> Re
 
 /// Adds an element, if it is a number.
 pub(crate) fn add_element(total: &mut Form, alloc: Global, item: &Abs) -> Result<(), FormStop>
-    ensures { Answers (through added total.old (filter_map form_in (option_to_list (item_at item.now)))) (result_map_both (λ _. total.new) (λ stop. stop) result) }
+    ensures { Answers
+        (through added total.old (filter_map form_in (option_to_list (item_at item.now))))
+        (result_map_both (λ _. total.new) (λ stop. stop) result) }
 {
     match item {
         Abs::Known(value) => add_known(total, alloc, value),
@@ -138,7 +143,9 @@ pub(crate) fn add_element(total: &mut Form, alloc: Global, item: &Abs) -> Result
 
 // Adds a known element, if it is a number.
 fn add_known(total: &mut Form, alloc: Global, value: &Value) -> Result<(), FormStop>
-    ensures { Answers (through added total.old (filter_map form_in (option_to_list (item_at (Known value.now))))) (result_map_both (λ _. total.new) (λ stop. stop) result) }
+    ensures { Answers
+        (through added total.old (filter_map form_in (option_to_list (item_at (Known value.now)))))
+        (result_map_both (λ _. total.new) (λ stop. stop) result) }
 {
     match value {
         Value::Number(number) => total.add_to(alloc, &Form::constant(alloc, *number)),

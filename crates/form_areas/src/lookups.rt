@@ -61,7 +61,8 @@ fn looked_up(alloc: Global, key: &AbsArg, keys: &AbsArg, kind: &AbsArg) -> Resul
 
 // Whether some key may be found: there is one row or one column, and an element that may be a key.
 fn may_find(keys: &AbsArg) -> bool
-    ensures { result ≡ (((grid_of keys.now).rows == 1) || ((grid_of keys.now).columns == 1)) && list_any may_be_key (grid_of keys.now).items }
+    ensures { result ≡ (((grid_of keys.now).rows == 1) || ((grid_of keys.now).columns == 1))
+        && list_any may_be_key (grid_of keys.now).items }
 {
     (rows_of(keys) == 1 || columns_of(keys) == 1) && has_key(keys.elements())
 }
@@ -84,7 +85,8 @@ fn may_be_key(item: &Abs) -> bool
 fn by_keys(alloc: Global, key: &Abs, keys: &AbsArg, kind: &Operand) -> Result<Pick, OpRefusal>
     requires line { (((grid_of keys.now).rows == 1) || ((grid_of keys.now).columns == 1)) ≡ true }
     requires key { error_of key.now ≡ None }
-    ensures answer { Answers (by_keys (grid_of keys.now) (known_value key.now) (known_keys (grid_of keys.now).items) (wanted_in kind.now)) result }
+    ensures answer { Answers (by_keys (grid_of keys.now) (known_value key.now)
+        (known_keys (grid_of keys.now).items) (wanted_in kind.now)) result }
     ensures within { IfOk result (IsWithin (grid_of keys.now).rows (grid_of keys.now).columns) }
     ensures refused { IfErr result IsUndecidedOrMemory }
 {
@@ -107,7 +109,8 @@ fn by_keys(alloc: Global, key: &Abs, keys: &AbsArg, kind: &Operand) -> Result<Pi
 fn found_at(alloc: Global, key: &Value, keys: &AbsArg, kind: Frac) -> Result<Pick, Memory>
     requires line { (((grid_of keys.now).rows == 1) || ((grid_of keys.now).columns == 1)) ≡ true }
     requires key { error_of (Known key.now) ≡ None }
-    ensures pick { IfOk result (λ pick. pick ≡ pick_in (grid_of keys.now) (found (kind_of kind) key.now (map value_in (grid_of keys.now).items))) }
+    ensures pick { IfOk result (λ pick. pick ≡ pick_in (grid_of keys.now)
+        (found (kind_of kind) key.now (map value_in (grid_of keys.now).items))) }
     ensures within { IfOk result (IsWithin (grid_of keys.now).rows (grid_of keys.now).columns) }
 {
     let key = Arg::One(key.copy(alloc)?);

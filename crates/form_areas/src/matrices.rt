@@ -84,7 +84,9 @@ fn product(alloc: Global, left: &AbsArg, right: &AbsArg) -> Result<AbsArg, OpRef
 
 // The elements of the matrix product, row by row.
 fn product_items(alloc: Global, left: &AbsArg, right: &AbsArg) -> Result<Vec<Abs>, OpRefusal>
-    ensures { Answers (each_tried (element_at (grid_of left.now) (grid_of right.now)) (places_of (grid_of left.now).rows (grid_of right.now).columns)) (result_map_both (λ items. items.items) (λ refusal. refusal) result) }
+    ensures { Answers (each_tried (element_at (grid_of left.now) (grid_of right.now))
+        (places_of (grid_of left.now).rows (grid_of right.now).columns))
+        (result_map_both (λ items. items.items) (λ refusal. refusal) result) }
 {
     let mut items = Vec::new(alloc);
     for row in 0..rows_of(left) {
@@ -101,7 +103,11 @@ fn push_products(
     row: u32,
     items: &mut Vec<Abs>,
 ) -> Result<(), OpRefusal>
-    ensures { MatchResult result (λ _. behind_values items.old.items (narrow (each_tried (element_at (grid_of left.now) (grid_of right.now)) (places_in (grid_of right.now).columns row))) ≡ Some (Ok items.new.items)) (λ refusal. Answers (each_tried (element_at (grid_of left.now) (grid_of right.now)) (places_in (grid_of right.now).columns row)) (Err refusal)) }
+    ensures { MatchResult result (λ _. behind_values items.old.items
+        (narrow (each_tried (element_at (grid_of left.now) (grid_of right.now))
+        (places_in (grid_of right.now).columns row))) ≡ Some (Ok items.new.items))
+        (λ refusal. Answers (each_tried (element_at (grid_of left.now) (grid_of right.now))
+        (places_in (grid_of right.now).columns row)) (Err refusal)) }
 {
     for column in 0..columns_of(right) {
         items.push(Abs::entry(product_at(alloc, left, right, row, column)?))?;
@@ -171,7 +177,8 @@ fn transposed_items(alloc: Global, arg: &AbsArg) -> Result<Vec<Abs>, Memory>
 
 // Adds the elements of a column.
 fn push_column(alloc: Global, arg: &AbsArg, column: u32, items: &mut Vec<Abs>) -> Result<(), Memory>
-    ensures { OnOk result (items.new.items ≡ items.old.items ++ column_of (grid_of arg.now) column) }
+    ensures { OnOk result (items.new.items
+        ≡ items.old.items ++ column_of (grid_of arg.now) column) }
 {
     for row in 0..rows_of(arg) {
         items.push(copy_at(alloc, arg, row, column)?)?;

@@ -24,7 +24,8 @@ use std::alloc::Global;
 /// The places, from 0, of the elements that meet a criterion; all of them and the criterion have to be known.
 pub fn places_met(alloc: Global, tested: &[Abs], criterion: &Abs) -> Result<Vec<usize>, OpRefusal>
     requires { error_of criterion.now ≡ None }
-    ensures { Answers (met_places tested.now criterion.now) (result_map_both (λ places. places.items) (λ refusal. refusal) result) }
+    ensures { Answers (met_places tested.now criterion.now)
+        (result_map_both (λ places. places.items) (λ refusal. refusal) result) }
 {
     if !are_known(tested) {
         return Err(OpRefusal::Undecided(0));
@@ -45,7 +46,8 @@ fn are_known(items: &[Abs]) -> bool
 // The places of the known elements that meet a known criterion.
 fn places_of(alloc: Global, tested: &[Abs], criterion: &Value) -> Result<Vec<usize>, Memory>
     requires { error_of (Known criterion.now) ≡ None }
-    ensures { IfOk result (λ places. places.items ≡ places_from 0 criterion.now (map value_in tested.now)) }
+    ensures { IfOk result (λ places. places.items
+        ≡ places_from 0 criterion.now (map value_in tested.now)) }
 {
     let mut places = Vec::new(alloc);
     for (place, item) in tested.iter().enumerate() {

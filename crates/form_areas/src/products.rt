@@ -92,7 +92,8 @@ fn dot(alloc: Global, args: &[AbsArg], count: usize) -> Result<Form, OpRefusal>
 
 /// Adds a form in place.
 pub(crate) fn add_form(total: &mut Form, alloc: Global, form: &Form) -> Result<(), OpRefusal>
-    ensures { Answers (made (λ f. f) (added total.old form.now)) (result_map_both (λ _. total.new) (λ refusal. refusal) result) }
+    ensures { Answers (made (λ f. f) (added total.old form.now))
+        (result_map_both (λ _. total.new) (λ refusal. refusal) result) }
 {
     match total.add_to(alloc, form) {
         Ok(()) => Ok(()),
@@ -119,7 +120,8 @@ fn product_from(
     others: &[AbsArg],
     place: usize,
 ) -> Result<Form, OpRefusal>
-    ensures { Answers (through_tried times first (factors_at (map grid_of others.now) place)) result }
+    ensures { Answers
+        (through_tried times first (factors_at (map grid_of others.now) place)) result }
 {
     let mut product = first;
     for other in others {

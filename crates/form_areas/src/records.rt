@@ -43,10 +43,12 @@ pub fn record_at(
     sorted: &[AbsArg],
 ) -> Result<Found, OpRefusal>
     requires few { length keys.now < 2 ^ 32 }
-    ensures answer { Answers (record_form fields keys.now (value_of key.now) (number_of field.now) (kinds_in sorted.now)) result }
+    ensures answer { Answers (record_form fields keys.now (value_of key.now)
+        (number_of field.now) (kinds_in sorted.now)) result }
     ensures down { IsTrueDown fields keys.now key.now field.now sorted.now result }
     ensures across { IsTrueAcross fields keys.now key.now field.now sorted.now result }
-    ensures within { IfOk result (λ found. IfOk found (λ place. (place.0 < length keys.now) × (place.1 < fields))) }
+    ensures within { IfOk result (λ found.
+        IfOk found (λ place. (place.0 < length keys.now) × (place.1 < fields))) }
     ensures refused { IfErr result IsUndecidedOrMemory }
 {
     record_by(
@@ -69,8 +71,10 @@ fn record_by(
     kind: Result<Option<MatchKind>, ErrorKind>,
 ) -> Result<Found, OpRefusal>
     requires few { length keys.now < 2 ^ 32 }
-    ensures answer { Answers (record_form fields keys.now (value_of key.now) (wanted_in field.now) (result_map_both kinds_asked (λ k. k) kind)) result }
-    ensures within { IfOk result (λ found. IfOk found (λ place. (place.0 < length keys.now) × (place.1 < fields))) }
+    ensures answer { Answers (record_form fields keys.now (value_of key.now)
+        (wanted_in field.now) (result_map_both kinds_asked (λ k. k) kind)) result }
+    ensures within { IfOk result (λ found.
+        IfOk found (λ place. (place.0 < length keys.now) × (place.1 < fields))) }
     ensures refused { IfErr result IsUndecidedOrMemory }
 {
     let key = match value_or_error(key) {
@@ -151,8 +155,10 @@ fn in_field(
 ) -> Result<Found, OpRefusal>
     requires few { length keys.now < 2 ^ 32 }
     requires key { error_of key.now ≡ None }
-    ensures answer { Answers (in_field (field_at fields field) key.now keys.now (kinds_asked kind)) result }
-    ensures within { IfOk result (λ found. IfOk found (λ place. (place.0 < length keys.now) × (place.1 < fields))) }
+    ensures answer { Answers
+        (in_field (field_at fields field) key.now keys.now (kinds_asked kind)) result }
+    ensures within { IfOk result (λ found.
+        IfOk found (λ place. (place.0 < length keys.now) × (place.1 < fields))) }
     ensures refused { IfErr result IsUndecidedOrMemory }
 {
     let field = match field_at(fields, field) {
@@ -196,8 +202,10 @@ fn by_kind(
     requires few { length keys.now < 2 ^ 32 }
     requires some { list_any may_be_key keys.now ≡ true }
     requires key { error_of (Known key.now) ≡ None }
-    ensures answer { Answers (by_kinds field key.now (map value_in keys.now) (kinds_asked kind)) result }
-    ensures within { IfOk result (λ found. IfOk found (λ place. (place.0 < length keys.now) × (place.1 ≡ field))) }
+    ensures answer { Answers
+        (by_kinds field key.now (map value_in keys.now) (kinds_asked kind)) result }
+    ensures within { IfOk result (λ found.
+        IfOk found (λ place. (place.0 < length keys.now) × (place.1 ≡ field))) }
     ensures refused { IfErr result IsUndecidedOrMemory }
 {
     let key = Arg::One(key.copy(alloc)?);
@@ -213,7 +221,8 @@ fn by_kind(
 fn line(alloc: Global, items: &[Abs]) -> Result<Arg, Memory>
     requires few { length items.now < 2 ^ 32 }
     requires some { 0 < length items.now }
-    ensures { IfOk result (λ line. line ≡ Area (record { rows = 1; columns = length items.now; items = map value_in items.now })) }
+    ensures { IfOk result (λ line. line
+        ≡ Area (record { rows = 1; columns = length items.now; items = map value_in items.now })) }
 {
     let mut values = Vec::new(alloc);
     for item in items {
@@ -263,7 +272,8 @@ fn number_of(kind: MatchKind) -> Frac
 fn is_missing(key: &Arg, keys: &Arg) -> bool
     requires row { (grid_of keys.now).rows ≡ 1 }
     requires key { no_error (value_in_arg key.now) ≡ Ok (value_in_arg key.now) }
-    ensures { result ≡ is_none (found_in Equal key.now keys.now) && is_none (found_in Rising key.now keys.now) }
+    ensures { result ≡ is_none (found_in Equal key.now keys.now)
+        && is_none (found_in Rising key.now keys.now) }
 {
     place_of_key(MatchKind::Equal, key, keys).is_none()
         && place_of_key(MatchKind::Rising, key, keys).is_none()

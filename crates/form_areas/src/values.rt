@@ -12,7 +12,8 @@ use sheet_model::Value;
 
 /// The one value of an argument, or the error that it is.
 pub fn value_or_error(arg: &AbsArg) -> Result<&Abs, ErrorKind>
-    ensures { MatchResult result (λ value. (value.now ≡ value_of arg.now) × (error_of value.now ≡ None)) (λ kind. value_of arg.now ≡ Known (Error kind)) }
+    ensures { MatchResult result (λ value. (value.now ≡ value_of arg.now)
+        × (error_of value.now ≡ None)) (λ kind. value_of arg.now ≡ Known (Error kind)) }
 {
     match value_of(arg) {
         Ok(Abs::Known(Value::Error(kind))) => Err(*kind),

@@ -26,7 +26,12 @@ use std::alloc::Global;
 /// IF: by a known test it looks at one branch, and of an open test at both.
 #[tactic(auto, using(crate::proofs::Outcomes::stays))]
 pub(crate) fn if_part(alloc: Global, whole: Span, args: &[Part]) -> Result<Part, Memory>
-    ensures { IfOk result (λ part. part ≡ record { span = whole; looks = choosing_looks by_form func.If (map argument args.now); outcome = if_outcome whole args.now; reference = None }) }
+    ensures { IfOk result (λ part. part ≡ record {
+      span = whole;
+      looks = choosing_looks by_form func.If (map argument args.now);
+      outcome = if_outcome whole args.now;
+      reference = None;
+    }) }
 {
     let [test, others @ ..] = args else {
         return miscounted_part(alloc, whole, args);
@@ -51,7 +56,14 @@ fn known_test(
     test: &Value,
     others: &[Part],
 ) -> Result<Part, Memory>
-    ensures { IfOk result (λ part. part ≡ record { span = whole; looks = looks.items ++ looks_of (at_chosen (map argument others.now) (if_place (logical_in test.now))); outcome = chosen_or (One (Known (if_without (logical_in test.now)))) (at_chosen others.now (if_place (logical_in test.now))); reference = None }) }
+    ensures { IfOk result (λ part. part ≡ record {
+      span = whole;
+      looks = looks.items
+          ++ looks_of (at_chosen (map argument others.now) (if_place (logical_in test.now)));
+      outcome = chosen_or (One (Known (if_without (logical_in test.now))))
+          (at_chosen others.now (if_place (logical_in test.now)));
+      reference = None;
+    }) }
 {
     let without = AbsArg::One(Abs::Known(without_branch(test)));
     chosen_part(alloc, whole, looks, branch_of(test, others), without)
@@ -59,7 +71,8 @@ fn known_test(
 
 // The first branch where a test holds, and the second where it doesn't.
 fn branch_of<'a>(test: &Value, others: &'a [Part]) -> Option<&'a Part>
-    ensures { option_map (λ part. part.now) result ≡ at_chosen others.now (if_place (logical_in test.now)) }
+    ensures { option_map (λ part. part.now) result
+        ≡ at_chosen others.now (if_place (logical_in test.now)) }
 {
     match to_logical(test) {
         Ok(true) => others.first(),
@@ -88,7 +101,13 @@ fn open_test(
     args: &[Part],
 ) -> Result<Part, Memory>
     requires { 0 < length args.now }
-    ensures { (p : PartOfFormula) (others : List PartOfFormula) → args.now ≡ p ∷ others → IfOk result (λ part. part ≡ record { span = whole; looks = looks.items ++ all_looks (map argument others); outcome = both_branches whole p others form.now relation; reference = None }) }
+    ensures { (p : PartOfFormula) (others : List PartOfFormula) → args.now ≡ p ∷ others
+        → IfOk result (λ part. part ≡ record {
+          span = whole;
+          looks = looks.items ++ all_looks (map argument others);
+          outcome = both_branches whole p others form.now relation;
+          reference = None;
+        }) }
 {
     push_looks(&args[1..], &mut looks)?;
     let outcome = both_branches(alloc, whole, form, relation, args)?;
@@ -103,7 +122,8 @@ fn both_branches(
     relation: Rel,
     args: &[Part],
 ) -> Result<Outcome, Memory>
-    ensures { (p : PartOfFormula) (others : List PartOfFormula) → args.now ≡ p ∷ others → IfOk result (λ outcome. outcome ≡ both_branches whole p others form.now relation) }
+    ensures { (p : PartOfFormula) (others : List PartOfFormula) → args.now ≡ p ∷ others
+        → IfOk result (λ outcome. outcome ≡ both_branches whole p others form.now relation) }
 {
     let without = Outcome::Gives(AbsArg::One(Abs::Known(Value::Logical(false))));
     let first = branch(args, 1, &without);

@@ -24,7 +24,12 @@ use std::alloc::Global;
 /// IFERROR: the first argument, or the second where that is an error. It looks at the first and then, of an error, at the second.
 #[tactic(auto, using(crate::proofs::Outcomes::stays))]
 pub(crate) fn iferror_part(alloc: Global, whole: Span, args: &[Part]) -> Result<Part, Memory>
-    ensures { IfOk result (λ part. part ≡ record { span = whole; looks = choosing_looks by_form func.IfError (map argument args.now); outcome = iferror_outcome args.now; reference = None }) }
+    ensures { IfOk result (λ part. part ≡ record {
+      span = whole;
+      looks = choosing_looks by_form func.IfError (map argument args.now);
+      outcome = iferror_outcome args.now;
+      reference = None;
+    }) }
 {
     let [first, others @ ..] = args else {
         return miscounted_part(alloc, whole, args);
@@ -44,7 +49,13 @@ fn tried_part(
     value: &AbsArg,
     others: &[Part],
 ) -> Result<Part, Memory>
-    ensures { IfOk result (λ part. part ≡ record { span = whole; looks = looks.items ++ chosen_looks func.IfError (map argument others.now) (Some (iferror_place (is_known_error (single value.now)))); outcome = by_error others.now (single value.now); reference = None }) }
+    ensures { IfOk result (λ part. part ≡ record {
+      span = whole;
+      looks = looks.items ++ chosen_looks func.IfError (map argument others.now)
+          (Some (iferror_place (is_known_error (single value.now))));
+      outcome = by_error others.now (single value.now);
+      reference = None;
+    }) }
 {
     let without = single_of(alloc, value)?;
     let chosen = if is_known_error(&without) {
@@ -66,7 +77,12 @@ fn is_known_error(value: &AbsArg) -> bool
 /// open place is refused.
 #[tactic(auto, using(crate::proofs::Outcomes::stays))]
 pub(crate) fn choose_part(alloc: Global, whole: Span, args: &[Part]) -> Result<Part, Memory>
-    ensures { IfOk result (λ part. part ≡ record { span = whole; looks = choosing_looks by_form func.Choose (map argument args.now); outcome = choose_outcome args.now; reference = None }) }
+    ensures { IfOk result (λ part. part ≡ record {
+      span = whole;
+      looks = choosing_looks by_form func.Choose (map argument args.now);
+      outcome = choose_outcome args.now;
+      reference = None;
+    }) }
 {
     let [first, others @ ..] = args else {
         return miscounted_part(alloc, whole, args);
@@ -87,7 +103,13 @@ fn placed_part(
     place: Option<Result<i128, ErrorKind>>,
     others: &[Part],
 ) -> Result<Part, Memory>
-    ensures { IfOk result (λ part. part ≡ record { span = whole; looks = looks.items ++ chosen_looks func.Choose (map argument others.now) (option_map choose_place place); outcome = by_place first.now others.now place; reference = None }) }
+    ensures { IfOk result (λ part. part ≡ record {
+      span = whole;
+      looks = looks.items
+          ++ chosen_looks func.Choose (map argument others.now) (option_map choose_place place);
+      outcome = by_place first.now others.now place;
+      reference = None;
+    }) }
 {
     let Some(place) = place else {
         let undecided = Outcome::Refused(first.span(), Why::Undecided);
@@ -111,7 +133,8 @@ fn place_in(value: &AbsArg) -> Option<Result<i128, ErrorKind>>
 
 // The place that a known value is.
 fn known_place(value: &Value) -> Result<i128, ErrorKind>
-    ensures { Some result ≡ place_in (wanted (Known value.now)) (known_number (wanted (Known value.now))) }
+    ensures { Some result
+        ≡ place_in (wanted (Known value.now)) (known_number (wanted (Known value.now))) }
 {
     match to_number(value) {
         Ok(number) => Ok(number.floor()),
@@ -121,7 +144,8 @@ fn known_place(value: &Value) -> Result<i128, ErrorKind>
 
 // The place that a form is, where it has no terms.
 fn open_place(form: &Form) -> Option<Result<i128, ErrorKind>>
-    ensures { result ≡ place_in (wanted (Affine form.now)) (known_number (wanted (Affine form.now))) }
+    ensures { result
+        ≡ place_in (wanted (Affine form.now)) (known_number (wanted (Affine form.now))) }
 {
     match constant_of(form) {
         Some(number) => Some(Ok(number.floor())),
@@ -161,7 +185,12 @@ pub(crate) fn chosen_part(
     chosen: Option<&Part>,
     without: AbsArg,
 ) -> Result<Part, Memory>
-    ensures { IfOk result (λ part. part ≡ record { span = whole; looks = looks.items ++ looks_of_chosen (option_map (λ p. p.now) chosen.entry); outcome = chosen_or without (option_map (λ p. p.now) chosen.entry); reference = None }) }
+    ensures { IfOk result (λ part. part ≡ record {
+      span = whole;
+      looks = looks.items ++ looks_of_chosen (option_map (λ p. p.now) chosen.entry);
+      outcome = chosen_or without (option_map (λ p. p.now) chosen.entry);
+      reference = None;
+    }) }
 {
     let Some(part) = chosen else {
         return Ok(Part::new(whole, looks, Outcome::Gives(without), None));

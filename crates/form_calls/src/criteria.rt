@@ -28,7 +28,12 @@ pub(crate) fn sumif_part<C: FormsOfCells>(
     whole: Span,
     args: &[Part],
 ) -> Result<Part, Memory>
-    ensures { IfOk result (λ part. part ≡ record { span = whole; looks = sumif_looks by_form (map argument args.now); outcome = sumif_outcome (C.forms forms.now) whole args.now; reference = None }) }
+    ensures { IfOk result (λ part. part ≡ record {
+      span = whole;
+      looks = sumif_looks by_form (map argument args.now);
+      outcome = sumif_outcome (C.forms forms.now) whole args.now;
+      reference = None;
+    }) }
 {
     match args {
         [tested, criterion] => {
@@ -54,7 +59,13 @@ fn elsewhere<C: FormsOfCells>(
     criterion: &Part,
     summed: &Part,
 ) -> Result<Part, Memory>
-    ensures { IfOk result (λ part. part ≡ record { span = whole; looks = sum_looks by_form (argument tested.now ∷ argument criterion.now ∷ []) (argument summed.now) summed.now.reference; outcome = sum_over (C.forms forms.now) whole args.now tested.now criterion.now summed.now; reference = None }) }
+    ensures { IfOk result (λ part. part ≡ record {
+      span = whole;
+      looks = sum_looks by_form (argument tested.now ∷ argument criterion.now ∷ [])
+          (argument summed.now) summed.now.reference;
+      outcome = sum_over (C.forms forms.now) whole args.now tested.now criterion.now summed.now;
+      reference = None;
+    }) }
 {
     let looks = looks_before(alloc, tested, criterion, summed)?;
     sum_part(
@@ -69,7 +80,9 @@ fn looks_before(
     criterion: &Part,
     summed: &Part,
 ) -> Result<Vec<Cell>, Memory>
-    ensures { IfOk result (λ looks. looks.items ≡ all_looks (argument tested.now ∷ argument criterion.now ∷ []) ++ (if is_some summed.now.reference then [] else summed.now.looks)) }
+    ensures { IfOk result (λ looks. looks.items
+        ≡ all_looks (argument tested.now ∷ argument criterion.now ∷ [])
+        ++ (if is_some summed.now.reference then [] else summed.now.looks)) }
 {
     let mut looks = Vec::from_slice(alloc, tested.looks())?;
     push_cells(criterion.looks(), &mut looks)?;
@@ -93,7 +106,12 @@ fn sum_part<C: FormsOfCells>(
     criterion: &Part,
     summed: &Part,
 ) -> Result<Part, Memory>
-    ensures { IfOk result (λ part. part ≡ record { span = whole; looks = looks.items ++ sum_cells seen summed.now.reference tested.now criterion.now; outcome = sum_over (C.forms forms.now) whole args.now tested.now criterion.now summed.now; reference = None }) }
+    ensures { IfOk result (λ part. part ≡ record {
+      span = whole;
+      looks = looks.items ++ sum_cells seen summed.now.reference tested.now criterion.now;
+      outcome = sum_over (C.forms forms.now) whole args.now tested.now criterion.now summed.now;
+      reference = None;
+    }) }
 {
     let Some(elements) = tested.value() else {
         return valueless_part(alloc, whole, looks, tested);
@@ -128,7 +146,15 @@ fn sum_in<C: FormsOfCells>(
     tested: &AbsArg,
     criterion: &AbsArg,
 ) -> Result<Part, Memory>
-    ensures { IfOk result (λ part. part ≡ record { span = whole; looks = looks.items ++ then_cells (met_unless (error_of (value_of criterion.now)) (rows_of source.now) (columns_of source.now) tested.now (value_of criterion.now)) (cells_seen seen source.now); outcome = unless_error (error_of (value_of criterion.now)) (sum_at whole args.now (source_of (C.forms forms.now) source.now) tested.now criterion.now); reference = None }) }
+    ensures { IfOk result (λ part. part ≡ record {
+      span = whole;
+      looks = looks.items
+          ++ then_cells (met_unless (error_of (value_of criterion.now)) (rows_of source.now)
+          (columns_of source.now) tested.now (value_of criterion.now)) (cells_seen seen source.now);
+      outcome = unless_error (error_of (value_of criterion.now)) (sum_at whole args.now
+          (source_of (C.forms forms.now) source.now) tested.now criterion.now);
+      reference = None;
+    }) }
 {
     let criterion = match value_or_error(criterion) {
         Ok(criterion) => criterion,
@@ -155,7 +181,13 @@ fn sum_at<C: FormsOfCells>(
     source: &Source,
     places: &[usize],
 ) -> Result<Part, Memory>
-    ensures { IfOk result (λ part. part ≡ record { span = whole; looks = looks.items ++ cells_seen seen source.now places.now; outcome = taken (source_of (C.forms forms.now) source.now) places.now (λ items. outcome_by whole args.now (sum_of_elements items)); reference = None }) }
+    ensures { IfOk result (λ part. part ≡ record {
+      span = whole;
+      looks = looks.items ++ cells_seen seen source.now places.now;
+      outcome = taken (source_of (C.forms forms.now) source.now) places.now
+          (λ items. outcome_by whole args.now (sum_of_elements items));
+      reference = None;
+    }) }
 {
     push_seen(seen, source, places, &mut looks)?;
     let Some(items) = elements_at(alloc, forms, source, places)? else {

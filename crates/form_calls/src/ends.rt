@@ -22,7 +22,12 @@ pub(crate) fn valueless_part(
     argument: &Part,
 ) -> Result<Part, Memory>
     requires { value_in argument.now.outcome ≡ None }
-    ensures { IfOk result (λ part. part ≡ record { span = whole; looks = looks.items; outcome = argument.now.outcome; reference = None }) }
+    ensures { IfOk result (λ part. part ≡ record {
+      span = whole;
+      looks = looks.items;
+      outcome = argument.now.outcome;
+      reference = None;
+    }) }
 {
     let outcome = copy_outcome(alloc, argument.outcome())?;
     Ok(Part::new(whole, looks, outcome, None))
@@ -35,7 +40,8 @@ pub(crate) fn refused_part(
     args: &[Part],
     refusal: OpRefusal,
 ) -> Result<Part, Memory>
-    ensures part { IfOk result (λ part. part ≡ record { span = whole; looks = looks.items; outcome = part.outcome; reference = None }) }
+    ensures part { IfOk result (λ part. part
+        ≡ record { span = whole; looks = looks.items; outcome = part.outcome; reference = None }) }
     ensures refused { IfOk result (λ part. IsRefusedBy whole args.now refusal part.outcome) }
 {
     let outcome = refused_by(whole, args, refusal)?;
@@ -44,7 +50,8 @@ pub(crate) fn refused_part(
 
 /// A call that is an error.
 pub(crate) fn error_part(whole: Span, looks: Vec<Cell>, kind: ErrorKind) -> Part
-    ensures { result ≡ record { span = whole; looks = looks.items; outcome = fails kind; reference = None } }
+    ensures { result
+        ≡ record { span = whole; looks = looks.items; outcome = fails kind; reference = None } }
 {
     let fault = AbsArg::One(Abs::Known(Value::Error(kind)));
     Part::new(whole, looks, Outcome::Gives(fault), None)
@@ -52,7 +59,12 @@ pub(crate) fn error_part(whole: Span, looks: Vec<Cell>, kind: ErrorKind) -> Part
 
 /// A call with so many arguments that there is no such formula.
 pub(crate) fn miscounted_part(alloc: Global, whole: Span, args: &[Part]) -> Result<Part, Memory>
-    ensures { IfOk result (λ part. part ≡ record { span = whole; looks = all_looks (map argument args.now); outcome = fails kind.Value; reference = None }) }
+    ensures { IfOk result (λ part. part ≡ record {
+      span = whole;
+      looks = all_looks (map argument args.now);
+      outcome = fails kind.Value;
+      reference = None;
+    }) }
 {
     let looks = all_looks(alloc, args)?;
     Ok(error_part(whole, looks, ErrorKind::Value))

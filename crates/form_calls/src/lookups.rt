@@ -29,7 +29,12 @@ pub(crate) fn vlookup_part<C: FormsOfCells>(
     whole: Span,
     args: &[Part],
 ) -> Result<Part, Memory>
-    ensures { IfOk result (λ part. part ≡ record { span = whole; looks = lookup_looks by_form (C.forms forms.now) (λ g. g) (map argument args.now); outcome = lookup_outcome (C.forms forms.now) (λ g. g) (λ s. s) whole args.now; reference = None }) }
+    ensures { IfOk result (λ part. part ≡ record {
+      span = whole;
+      looks = lookup_looks by_form (C.forms forms.now) (λ g. g) (map argument args.now);
+      outcome = lookup_outcome (C.forms forms.now) (λ g. g) (λ s. s) whole args.now;
+      reference = None;
+    }) }
 {
     let [key, table, rest @ ..] = args else {
         return miscounted_part(alloc, whole, args);
@@ -49,7 +54,14 @@ fn down<C: FormsOfCells>(
     rest: &[Part],
 ) -> Result<Part, Memory>
     requires { args.now ≡ key.now ∷ table.now ∷ rest.now }
-    ensures { IfOk result (λ part. part ≡ record { span = whole; looks = lookup_looks by_form (C.forms forms.now) (λ g. g) (argument key.now ∷ argument table.now ∷ map argument rest.now); outcome = lookup_outcome (C.forms forms.now) (λ g. g) (λ s. s) whole (key.now ∷ table.now ∷ rest.now); reference = None }) }
+    ensures { IfOk result (λ part. part ≡ record {
+      span = whole;
+      looks = lookup_looks by_form (C.forms forms.now)
+          (λ g. g) (argument key.now ∷ argument table.now ∷ map argument rest.now);
+      outcome = lookup_outcome (C.forms forms.now) (λ g. g)
+          (λ s. s) whole (key.now ∷ table.now ∷ rest.now);
+      reference = None;
+    }) }
 {
     if let Some(grid) = table.reference() {
         return among_cells(alloc, forms, whole, args, grid, key, rest);
@@ -71,7 +83,12 @@ pub(crate) fn hlookup_part<C: FormsOfCells>(
     whole: Span,
     args: &[Part],
 ) -> Result<Part, Memory>
-    ensures { IfOk result (λ part. part ≡ record { span = whole; looks = lookup_looks by_form (C.forms forms.now) exchanged_cells (map argument args.now); outcome = lookup_outcome (C.forms forms.now) exchanged_cells exchanged whole args.now; reference = None }) }
+    ensures { IfOk result (λ part. part ≡ record {
+      span = whole;
+      looks = lookup_looks by_form (C.forms forms.now) exchanged_cells (map argument args.now);
+      outcome = lookup_outcome (C.forms forms.now) exchanged_cells exchanged whole args.now;
+      reference = None;
+    }) }
 {
     let [key, table, rest @ ..] = args else {
         return miscounted_part(alloc, whole, args);
@@ -91,7 +108,14 @@ fn across<C: FormsOfCells>(
     rest: &[Part],
 ) -> Result<Part, Memory>
     requires { args.now ≡ key.now ∷ table.now ∷ rest.now }
-    ensures { IfOk result (λ part. part ≡ record { span = whole; looks = lookup_looks by_form (C.forms forms.now) exchanged_cells (argument key.now ∷ argument table.now ∷ map argument rest.now); outcome = lookup_outcome (C.forms forms.now) exchanged_cells exchanged whole (key.now ∷ table.now ∷ rest.now); reference = None }) }
+    ensures { IfOk result (λ part. part ≡ record {
+      span = whole;
+      looks = lookup_looks by_form (C.forms forms.now) exchanged_cells
+          (argument key.now ∷ argument table.now ∷ map argument rest.now);
+      outcome = lookup_outcome (C.forms forms.now) exchanged_cells exchanged whole
+          (key.now ∷ table.now ∷ rest.now);
+      reference = None;
+    }) }
 {
     if let Some(grid) = table.reference() {
         let turned = grid.transpose(alloc)?;
@@ -115,7 +139,8 @@ fn looks_in_turn(
     key: &Part,
     rest: &[Part],
 ) -> Result<Vec<Cell>, Memory>
-    ensures { IfOk result (λ looks. looks.items ≡ all_looks (argument table.now ∷ argument key.now ∷ map argument rest.now)) }
+    ensures { IfOk result (λ looks. looks.items
+        ≡ all_looks (argument table.now ∷ argument key.now ∷ map argument rest.now)) }
 {
     let mut looks = Vec::from_slice(alloc, table.looks())?;
     push_cells(key.looks(), &mut looks)?;
@@ -133,7 +158,14 @@ fn among_cells<C: FormsOfCells>(
     key: &Part,
     rest: &[Part],
 ) -> Result<Part, Memory>
-    ensures { IfOk result (λ part. part ≡ record { span = whole; looks = record_looks by_form (C.forms forms.now) grid.now (argument key.now ∷ map argument rest.now); outcome = found_outcome whole args.now (of_cells (C.forms forms.now) grid.now) key.now rest.now; reference = None }) }
+    ensures { IfOk result (λ part. part ≡ record {
+      span = whole;
+      looks = record_looks by_form (C.forms forms.now) grid.now
+          (argument key.now ∷ map argument rest.now);
+      outcome = found_outcome whole args.now
+          (of_cells (C.forms forms.now) grid.now) key.now rest.now;
+      reference = None;
+    }) }
 {
     let mut looks = Vec::from_slice(alloc, key.looks())?;
     push_looks(rest, &mut looks)?;
@@ -156,7 +188,12 @@ fn among_values<C: FormsOfCells>(
     key: &Part,
     rest: &[Part],
 ) -> Result<Part, Memory>
-    ensures { IfOk result (λ part. part ≡ record { span = whole; looks = looks.items; outcome = found_outcome whole args.now (of_raster (grid_of table.now)) key.now rest.now; reference = None }) }
+    ensures { IfOk result (λ part. part ≡ record {
+      span = whole;
+      looks = looks.items;
+      outcome = found_outcome whole args.now (of_raster (grid_of table.now)) key.now rest.now;
+      reference = None;
+    }) }
 {
     let source = Source::Values(table);
     let places = key_places(alloc, source.rows(), source.cols())?;
@@ -180,7 +217,13 @@ fn found_part<C: FormsOfCells>(
 ) -> Result<Part, Memory>
     requires count { length places.now ≡ rows_of source.now }
     requires keys { places.now ≡ key_places (source_of (C.forms forms.now) source.now) }
-    ensures { IfOk result (λ part. part ≡ record { span = whole; looks = looks.items ++ found_cells (C.forms forms.now) source.now places.now key.now rest.now; outcome = found_outcome whole args.now (source_of (C.forms forms.now) source.now) key.now rest.now; reference = None }) }
+    ensures { IfOk result (λ part. part ≡ record {
+      span = whole;
+      looks = looks.items ++ found_cells (C.forms forms.now) source.now places.now key.now rest.now;
+      outcome = found_outcome whole args.now
+          (source_of (C.forms forms.now) source.now) key.now rest.now;
+      reference = None;
+    }) }
 {
     let Some(key_value) = key.value() else {
         return valueless_part(alloc, whole, looks, key);
@@ -210,7 +253,14 @@ fn looked_up<C: FormsOfCells>(
     others: &[AbsArg],
 ) -> Result<Part, Memory>
     requires { length keys.now ≡ rows_of source.now }
-    ensures { IfOk result (λ part. part ≡ record { span = whole; looks = looks.items ++ then_cells (record_by (columns_of source.now) keys.now (key.now ∷ others.now)) (cells_picked source.now); outcome = lookup_by whole args.now (source_of (C.forms forms.now) source.now) keys.now (key.now ∷ others.now); reference = None }) }
+    ensures { IfOk result (λ part. part ≡ record {
+      span = whole;
+      looks = looks.items ++ then_cells (record_by (columns_of source.now) keys.now
+          (key.now ∷ others.now)) (cells_picked source.now);
+      outcome = lookup_by whole args.now
+          (source_of (C.forms forms.now) source.now) keys.now (key.now ∷ others.now);
+      reference = None;
+    }) }
 {
     let [field, sorted @ ..] = others else {
         return Ok(error_part(whole, looks, ErrorKind::Value));
@@ -232,8 +282,14 @@ fn record_part<C: FormsOfCells>(
     source: &Source,
     found: Result<(u32, u32), ErrorKind>,
 ) -> Result<Part, Memory>
-    requires { IfOk found (λ place. (place.0 < rows_of source.now) × (place.1 < columns_of source.now)) }
-    ensures { IfOk result (λ part. part ≡ record { span = whole; looks = looks.items ++ cells_picked source.now (record_picked found); outcome = record_from (source_of (C.forms forms.now) source.now) found; reference = None }) }
+    requires { IfOk found (λ place. (place.0 < rows_of source.now)
+        × (place.1 < columns_of source.now)) }
+    ensures { IfOk result (λ part. part ≡ record {
+      span = whole;
+      looks = looks.items ++ cells_picked source.now (record_picked found);
+      outcome = record_from (source_of (C.forms forms.now) source.now) found;
+      reference = None;
+    }) }
 {
     match found {
         Ok((row, column)) => {

@@ -31,7 +31,12 @@ pub(crate) fn index_part<C: FormsOfCells>(
     whole: Span,
     args: &[Part],
 ) -> Result<Part, Memory>
-    ensures { IfOk result (λ part. part ≡ record { span = whole; looks = index_looks by_form (map argument args.now); outcome = index_outcome (C.forms forms.now) whole args.now; reference = None }) }
+    ensures { IfOk result (λ part. part ≡ record {
+      span = whole;
+      looks = index_looks by_form (map argument args.now);
+      outcome = index_outcome (C.forms forms.now) whole args.now;
+      reference = None;
+    }) }
 {
     let [table, places @ ..] = args else {
         return miscounted_part(alloc, whole, args);
@@ -50,7 +55,12 @@ fn index_of<C: FormsOfCells>(
     places: &[Part],
 ) -> Result<Part, Memory>
     requires { args.now ≡ table.now ∷ places.now }
-    ensures { IfOk result (λ part. part ≡ record { span = whole; looks = index_looks by_form (argument table.now ∷ map argument places.now); outcome = index_outcome (C.forms forms.now) whole (table.now ∷ places.now); reference = None }) }
+    ensures { IfOk result (λ part. part ≡ record {
+      span = whole;
+      looks = index_looks by_form (argument table.now ∷ map argument places.now);
+      outcome = index_outcome (C.forms forms.now) whole (table.now ∷ places.now);
+      reference = None;
+    }) }
 {
     if let Some(grid) = table.reference() {
         let looks = all_looks(alloc, places)?;
@@ -75,7 +85,15 @@ fn indexed_part<C: FormsOfCells>(
     source: &Source,
     places: &[Part],
 ) -> Result<Part, Memory>
-    ensures { IfOk result (λ part. part ≡ record { span = whole; looks = looks.items ++ then_cells (outcomes (map argument places.now)) (λ at. then_cells (given_by (pick_form (rows_of source.now) (columns_of source.now) at)) (cells_picked source.now)); outcome = on_parts places.now (λ at. tried_on whole args.now (pick_form (rows_of source.now) (columns_of source.now) at) (picked_from (source_of (C.forms forms.now) source.now))); reference = None }) }
+    ensures { IfOk result (λ part. part ≡ record {
+      span = whole;
+      looks = looks.items ++ then_cells (outcomes (map argument places.now))
+          (λ at. then_cells (given_by (pick_form (rows_of source.now) (columns_of source.now) at))
+          (cells_picked source.now));
+      outcome = on_parts places.now (λ at. tried_on whole args.now (pick_form (rows_of source.now)
+          (columns_of source.now) at) (picked_from (source_of (C.forms forms.now) source.now)));
+      reference = None;
+    }) }
 {
     let at = match values_of(alloc, places)? {
         Values::All(at) => at,
@@ -110,7 +128,12 @@ fn picked_part<C: FormsOfCells>(
     pick: Pick,
 ) -> Result<Part, Memory>
     requires { IsWithin (rows_of source.now) (columns_of source.now) pick }
-    ensures { IfOk result (λ part. part ≡ record { span = whole; looks = looks.items ++ cells_picked source.now pick; outcome = picked_from (source_of (C.forms forms.now) source.now) pick; reference = None }) }
+    ensures { IfOk result (λ part. part ≡ record {
+      span = whole;
+      looks = looks.items ++ cells_picked source.now pick;
+      outcome = picked_from (source_of (C.forms forms.now) source.now) pick;
+      reference = None;
+    }) }
 {
     match pick {
         Pick::Part(top, left, bottom, right) => {
@@ -133,7 +156,13 @@ fn part_of<C: FormsOfCells>(
     right: u32,
 ) -> Result<Part, Memory>
     requires { IsPartOf (rows_of source.now) (columns_of source.now) top left bottom right }
-    ensures { IfOk result (λ part. part ≡ record { span = whole; looks = looks.items ++ cells_picked source.now (Picked top left bottom right); outcome = picked_from (source_of (C.forms forms.now) source.now) (Picked top left bottom right); reference = None }) }
+    ensures { IfOk result (λ part. part ≡ record {
+      span = whole;
+      looks = looks.items ++ cells_picked source.now (Picked top left bottom right);
+      outcome = picked_from (source_of (C.forms forms.now) source.now)
+          (Picked top left bottom right);
+      reference = None;
+    }) }
 {
     let rows = source.rows();
     let cols = source.cols();
@@ -163,7 +192,13 @@ pub(crate) fn taken_part<C: FormsOfCells>(
     requires rows { 0 < size.0 }
     requires columns { 0 < size.1 }
     requires count { length places.now ≡ size.0 * size.1 }
-    ensures { IfOk result (λ part. part ≡ record { span = whole; looks = looks.items ++ cells_in source.now places.now; outcome = taken (source_of (C.forms forms.now) source.now) places.now (λ items. Gives (raster size.0 size.1 items)); reference = None }) }
+    ensures { IfOk result (λ part. part ≡ record {
+      span = whole;
+      looks = looks.items ++ cells_in source.now places.now;
+      outcome = taken (source_of (C.forms forms.now) source.now) places.now
+          (λ items. Gives (raster size.0 size.1 items));
+      reference = None;
+    }) }
 {
     source.push_cells(places, &mut looks)?;
     let Some(items) = elements_at(alloc, forms, source, places)? else {

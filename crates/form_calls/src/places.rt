@@ -19,8 +19,10 @@ pub(crate) fn part_places(
     right: u32,
 ) -> Result<Vec<usize>, Memory>
     requires { IsPartOf rows columns top left bottom right }
-    ensures places { IfOk result (λ places. places.items ≡ flat_map (λ row. map (λ column. row * columns + column) (from_to left right)) (from_to top bottom)) }
-    ensures count { IfOk result (λ places. length places.items ≡ (bottom + 1 - top) * (right + 1 - left)) }
+    ensures places { IfOk result (λ places. places.items ≡ flat_map
+        (λ row. map (λ column. row * columns + column) (from_to left right)) (from_to top bottom)) }
+    ensures count { IfOk result (λ places. length places.items
+        ≡ (bottom + 1 - top) * (right + 1 - left)) }
 {
     prove!(bottom < rows);
     let mut places = Vec::new(alloc);
@@ -40,7 +42,8 @@ fn push_row(
 ) -> Result<(), Memory>
     requires order { left ≤ right }
     requires right { right < columns }
-    ensures { OnOk result (to.new.items ≡ to.old.items ++ map (λ column. row * columns + column) (from_to left right)) }
+    ensures { OnOk result (to.new.items
+        ≡ to.old.items ++ map (λ column. row * columns + column) (from_to left right)) }
 {
     prove!(right < columns);
     for column in left..right + 1 {
@@ -51,7 +54,8 @@ fn push_row(
 
 /// The places in the first column of a grid of so many rows and columns.
 pub(crate) fn key_places(alloc: Global, rows: u32, columns: u32) -> Result<Vec<usize>, Memory>
-    ensures places { IfOk result (λ places. places.items ≡ map (λ row. row * columns) (below rows)) }
+    ensures places { IfOk result (λ places. places.items
+        ≡ map (λ row. row * columns) (below rows)) }
     ensures count { IfOk result (λ places. length places.items ≡ rows) }
 {
     let mut places = Vec::new(alloc);
@@ -67,7 +71,8 @@ pub(crate) fn push_cells_at(
     places: &[usize],
     to: &mut Vec<Cell>,
 ) -> Result<(), Memory>
-    ensures { OnOk result (to.new.items ≡ to.old.items ++ flat_map (λ place. option_to_list (slice_get cells.now place)) places.now) }
+    ensures { OnOk result (to.new.items ≡ to.old.items
+        ++ flat_map (λ place. option_to_list (slice_get cells.now place)) places.now) }
 {
     for place in places {
         push_cell_at(cells, *place, to)?;
@@ -77,7 +82,8 @@ pub(crate) fn push_cells_at(
 
 // Puts behind other cells the one in a place, if there is one.
 fn push_cell_at(cells: &[Cell], place: usize, to: &mut Vec<Cell>) -> Result<(), Memory>
-    ensures { OnOk result (to.new.items ≡ to.old.items ++ option_to_list (slice_get cells.now place)) }
+    ensures { OnOk result (to.new.items
+        ≡ to.old.items ++ option_to_list (slice_get cells.now place)) }
 {
     match cell_in(cells, place) {
         Some(cell) => Ok(to.push(cell)?),

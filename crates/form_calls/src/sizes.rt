@@ -22,7 +22,12 @@ use std::alloc::Global;
 
 /// ROWS: of a reference it looks at no cell.
 pub(crate) fn rows_part(alloc: Global, whole: Span, args: &[Part]) -> Result<Part, Memory>
-    ensures { (forms : Cell → Option Abs) → IfOk result (λ part. part ≡ record { span = whole; looks = size_looks (map argument args.now); outcome = size_of (λ s. s.rows) forms args.now; reference = None }) }
+    ensures { (forms : Cell → Option Abs) → IfOk result (λ part. part ≡ record {
+      span = whole;
+      looks = size_looks (map argument args.now);
+      outcome = size_of (λ s. s.rows) forms args.now;
+      reference = None;
+    }) }
 {
     let [part] = args else {
         return miscounted_part(alloc, whole, args);
@@ -40,7 +45,12 @@ pub(crate) fn rows_part(alloc: Global, whole: Span, args: &[Part]) -> Result<Par
 
 /// COLUMNS: of a reference it looks at no cell.
 pub(crate) fn columns_part(alloc: Global, whole: Span, args: &[Part]) -> Result<Part, Memory>
-    ensures { (forms : Cell → Option Abs) → IfOk result (λ part. part ≡ record { span = whole; looks = size_looks (map argument args.now); outcome = size_of (λ s. s.columns) forms args.now; reference = None }) }
+    ensures { (forms : Cell → Option Abs) → IfOk result (λ part. part ≡ record {
+      span = whole;
+      looks = size_looks (map argument args.now);
+      outcome = size_of (λ s. s.columns) forms args.now;
+      reference = None;
+    }) }
 {
     let [part] = args else {
         return miscounted_part(alloc, whole, args);

@@ -65,8 +65,10 @@ pub(crate) fn elements_at<C: FormsOfCells>(
     source: &Source,
     places: &[usize],
 ) -> Result<Option<Vec<Abs>>, Memory>
-    ensures elements { IfOk result (λ found. option_map (λ items. items.items) found ≡ elements_at (source_of (C.forms forms.now) source.now) places.now) }
-    ensures count { IfOk result (λ found. IfSome found (λ items. length items.items ≡ length places.now)) }
+    ensures elements { IfOk result (λ found. option_map (λ items. items.items) found
+        ≡ elements_at (source_of (C.forms forms.now) source.now) places.now) }
+    ensures count { IfOk result (λ found.
+        IfSome found (λ items. length items.items ≡ length places.now)) }
 {
     let mut items = Vec::new(alloc);
     for place in places {
@@ -85,7 +87,8 @@ fn element<C: FormsOfCells>(
     source: &Source,
     place: usize,
 ) -> Result<Option<Abs>, Memory>
-    ensures { IfOk result (λ found. found ≡ element (slice_get (items_of (C.forms forms.now) source.now) place)) }
+    ensures { IfOk result (λ found. found
+        ≡ element (slice_get (items_of (C.forms forms.now) source.now) place)) }
 {
     match source {
         Source::Cells(grid) => form_at(alloc, forms, grid.cells(), place),
@@ -101,7 +104,8 @@ fn form_at<C: FormsOfCells>(
     cells: &[Cell],
     place: usize,
 ) -> Result<Option<Abs>, Memory>
-    ensures { IfOk result (λ found. found ≡ element (slice_get (map (C.forms forms.now) cells.now) place)) }
+    ensures { IfOk result (λ found. found
+        ≡ element (slice_get (map (C.forms forms.now) cells.now) place)) }
 {
     match cells.get(place) {
         Some(cell) => forms.form(alloc, *cell),

@@ -11,7 +11,8 @@ use form_values::{Abs, AbsArg};
 
 /// The single value, or the one element of an area; the error stands for an area of another size.
 pub fn value_of(arg: &AbsArg) -> Result<&Abs, ErrorKind>
-    ensures { MatchResult result (λ value. value.now ≡ value_of arg.now) (λ kind. Known (Error kind) ≡ value_of arg.now) }
+    ensures { MatchResult result (λ value. value.now ≡ value_of arg.now)
+        (λ kind. Known (Error kind) ≡ value_of arg.now) }
 {
     match arg {
         AbsArg::One(value) => Ok(value),

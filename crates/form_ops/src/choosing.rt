@@ -43,7 +43,8 @@ fn if_open(
     holding: &Side,
     failing: &Side,
 ) -> Result<AbsArg, OpRefusal>
-    ensures { Answers (if_open form.now relation (side_value holding.now) (side_value failing.now)) result }
+    ensures { Answers
+        (if_open form.now relation (side_value holding.now) (side_value failing.now)) result }
 {
     if same_side(holding, failing) {
         return Ok(copy_of(alloc, holding)?);
@@ -80,7 +81,9 @@ fn of_branches(
     holding: &Side,
     failing: &Side,
 ) -> Result<AbsArg, OpRefusal>
-    ensures { Answers (of_branches form.now relation (side_value holding.now) (side_value failing.now) (number_branch (side_value holding.now)) (number_branch (side_value failing.now))) result }
+    ensures { Answers
+        (of_branches form.now relation (side_value holding.now) (side_value failing.now)
+        (number_branch (side_value holding.now)) (number_branch (side_value failing.now))) result }
 {
     match (number_branch(holding), number_branch(failing)) {
         (Some(first), Some(second)) => chosen_by(
@@ -102,7 +105,8 @@ fn chosen_by(
     branches: (&Side, &Side),
     numbers: (&Form, &Form),
 ) -> Result<AbsArg, OpRefusal>
-    ensures { Answers (chosen_by form.now relation (side_value branches.entry.0.now) (side_value branches.entry.1.now) numbers.entry.0.now numbers.entry.1.now) result }
+    ensures { Answers (chosen_by form.now relation (side_value branches.entry.0.now)
+        (side_value branches.entry.1.now) numbers.entry.0.now numbers.entry.1.now) result }
 {
     let (holding, failing) = branches;
     let (first, second) = numbers;

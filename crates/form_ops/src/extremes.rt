@@ -138,7 +138,8 @@ fn taken_among(
     argument: u16,
     items: &[Abs],
 ) -> Result<Taken, Memory>
-    ensures { IfOk result (λ more. more ≡ taken_all extremum argument before (filter_map item_at items.now)) }
+    ensures { IfOk result (λ more. more
+        ≡ taken_all extremum argument before (filter_map item_at items.now)) }
 {
     let mut taken = before;
     for item in items {
@@ -155,7 +156,8 @@ fn with_element(
     argument: u16,
     item: &Abs,
 ) -> Result<Taken, Memory>
-    ensures { IfOk result (λ more. more ≡ taken_all extremum argument taken (option_to_list (item_at item.now))) }
+    ensures { IfOk result (λ more. more
+        ≡ taken_all extremum argument taken (option_to_list (item_at item.now))) }
 {
     match item {
         Abs::Known(Value::Number(_) | Value::Error(_)) | Abs::Affine(_) => {
@@ -175,7 +177,8 @@ fn with_operand(
     argument: u16,
     operand: &Operand,
 ) -> Result<Taken, Memory>
-    ensures { IfOk result (λ more. more ≡ taken_one extremum argument taken (wanted_in operand.now)) }
+    ensures { IfOk result (λ more. more
+        ≡ taken_one extremum argument taken (wanted_in operand.now)) }
 {
     let Taken { error, test, best } = taken;
     match operand {

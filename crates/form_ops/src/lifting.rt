@@ -41,7 +41,8 @@ pub(crate) fn on_each<F: Fn(&Abs) -> Result<Abs, OpRefusal>>(
     work: F,
 ) -> Result<AbsArg, OpRefusal>
     requires { F.IsAlwaysCallable work }
-    ensures { (f : Abs → Trial Abs) → ((x : _) (r : _) → F.post work x r → Answers (f x.now) r) → Answers (on_each f (single arg.now)) result }
+    ensures { (f : Abs → Trial Abs) → ((x : _) (r : _) → F.post work x r → Answers (f x.now) r)
+        → Answers (on_each f (single arg.now)) result }
 {
     match side_of(arg) {
         Side::One(value) => as_one(work(value)),
@@ -56,7 +57,8 @@ pub(crate) fn on_grid<F: Fn(&Abs) -> Result<Abs, OpRefusal>>(
     work: F,
 ) -> Result<AbsArg, OpRefusal>
     requires { F.IsAlwaysCallable work }
-    ensures { (f : Abs → Trial Abs) → ((x : _) (r : _) → F.post work x r → Answers (f x.now) r) → Answers (grid_made grid.now (each_tried f grid.now.items)) result }
+    ensures { (f : Abs → Trial Abs) → ((x : _) (r : _) → F.post work x r → Answers (f x.now) r)
+        → Answers (grid_made grid.now (each_tried f grid.now.items)) result }
 {
     let answers = each(alloc, grid.items(), work)?;
     Ok(AbsArg::Area(grid.with_items(answers)))
@@ -70,7 +72,10 @@ fn each<F: Fn(&Abs) -> Result<Abs, OpRefusal>>(
 ) -> Result<Vec<Abs>, OpRefusal>
     requires { F.IsAlwaysCallable work }
     ensures count { IfOk result (λ answers. length answers.items ≡ length items.now) }
-    ensures narrow { (f : Abs → Trial Abs) → ((x : _) (r : _) → F.post work x r → Answers (f x.now) r) → Answers (each_tried f items.now) (result_map_both (λ answers. answers.items) (λ refusal. refusal) result) }
+    ensures narrow { (f : Abs → Trial Abs)
+        → ((x : _) (r : _) → F.post work x r → Answers (f x.now) r)
+        → Answers (each_tried f items.now)
+        (result_map_both (λ answers. answers.items) (λ refusal. refusal) result) }
 {
     let mut answers = Vec::new(alloc);
     for item in items {
@@ -99,7 +104,9 @@ pub(crate) fn on_grids(
 fn each_pair(alloc: Global, op: Op, first: &[Abs], second: &[Abs]) -> Result<Vec<Abs>, OpRefusal>
     requires { length first.now ≡ length second.now }
     ensures count { IfOk result (λ answers. length answers.items ≡ length first.now) }
-    ensures narrow { Answers (each_tried (λ (p : Abs × Abs). infix_abs op p.0 p.1) (zip first.now second.now)) (result_map_both (λ answers. answers.items) (λ refusal. refusal) result) }
+    ensures narrow { Answers
+        (each_tried (λ (p : Abs × Abs). infix_abs op p.0 p.1) (zip first.now second.now))
+        (result_map_both (λ answers. answers.items) (λ refusal. refusal) result) }
 {
     let mut answers = Vec::new(alloc);
     for (index, a) in first.iter().enumerate() {

@@ -173,7 +173,8 @@ fn seen_among(
     argument: u16,
     items: &[Abs],
 ) -> Result<Seen, Memory>
-    ensures { IfOk result (λ more. more ≡ seen_all deciding before (filter_map (element_truth argument) items.now)) }
+    ensures { IfOk result (λ more. more
+        ≡ seen_all deciding before (filter_map (element_truth argument) items.now)) }
 {
     let mut seen = before;
     for item in items {
@@ -190,7 +191,8 @@ fn with_element(
     argument: u16,
     item: &Abs,
 ) -> Result<Seen, Memory>
-    ensures { IfOk result (λ more. more ≡ seen_all deciding seen (option_to_list (element_truth argument item.now))) }
+    ensures { IfOk result (λ more. more
+        ≡ seen_all deciding seen (option_to_list (element_truth argument item.now))) }
 {
     match item {
         Abs::Known(Value::Text(_) | Value::Empty) => Ok(seen),
@@ -236,7 +238,12 @@ fn with_known(deciding: bool, seen: Seen, known: Result<bool, ErrorKind>) -> See
 
 // What is among some logicals and an open one.
 fn with_open(alloc: Global, seen: Seen, argument: u16, value: &Abs) -> Result<Seen, Memory>
-    ensures { IfOk result (λ more. more ≡ record { error = seen.error; some = true; decided = seen.decided; opened = opened_with seen.opened argument (open_logical value.now) }) }
+    ensures { IfOk result (λ more. more ≡ record {
+      error = seen.error;
+      some = true;
+      decided = seen.decided;
+      opened = opened_with seen.opened argument (open_logical value.now);
+    }) }
 {
     let Seen {
         error,

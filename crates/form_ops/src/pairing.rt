@@ -38,7 +38,8 @@ pub(crate) fn on_values(
     first: &Abs,
     second: &Abs,
 ) -> Result<Abs, OpRefusal>
-    ensures { Answers (on_forms (certain_error pairing) (pairing_row pairing) (wanted first.now) (wanted second.now)) result }
+    ensures { Answers (on_forms (certain_error pairing) (pairing_row pairing)
+        (wanted first.now) (wanted second.now)) result }
 {
     on_operands(alloc, pairing, &operand_of(first), &operand_of(second))
 }
@@ -51,7 +52,8 @@ pub(crate) fn on_operands(
     first: &Operand,
     second: &Operand,
 ) -> Result<Abs, OpRefusal>
-    ensures answer { Answers (on_forms (certain_error pairing) (pairing_row pairing) (wanted_in first.now) (wanted_in second.now)) result }
+    ensures answer { Answers (on_forms (certain_error pairing)
+        (pairing_row pairing) (wanted_in first.now) (wanted_in second.now)) result }
     ensures in_place { NeverAffine pairing → IfErr result IsNoWant }
 {
     if let Operand::Fault(kind) = first {
@@ -113,7 +115,8 @@ fn on_both(
     first: &Operand,
     second: &Operand,
 ) -> Result<Abs, OpRefusal>
-    ensures answer { Answers (on_both (pairing_row pairing) (wanted_in first.now) (wanted_in second.now)) result }
+    ensures answer { Answers
+        (on_both (pairing_row pairing) (wanted_in first.now) (wanted_in second.now)) result }
     ensures in_place { NeverAffine pairing → IfErr result IsNoWant }
 {
     match first {
@@ -132,7 +135,8 @@ fn on_second(
     first: &Form,
     second: &Operand,
 ) -> Result<Abs, OpRefusal>
-    ensures answer { Answers (on_both (pairing_row pairing) (form first.now) (wanted_in second.now)) result }
+    ensures answer { Answers
+        (on_both (pairing_row pairing) (form first.now) (wanted_in second.now)) result }
     ensures in_place { NeverAffine pairing → IfErr result IsNoWant }
 {
     match second {

@@ -104,7 +104,8 @@ fn on_two(
     first: &AbsArg,
     second: &AbsArg,
 ) -> Result<AbsArg, OpRefusal>
-    ensures answer { Answers (one (on_forms (certain_error pairing) (pairing_row pairing) (number_of first.now) (number_of second.now))) result }
+    ensures answer { Answers (one (on_forms (certain_error pairing)
+        (pairing_row pairing) (number_of first.now) (number_of second.now))) result }
     ensures in_place { NeverAffine pairing → IfErr result IsNoWant }
 {
     as_one(on_operands(alloc, pairing, &operand_in(first), &operand_in(second)))

@@ -24,8 +24,10 @@ pub enum Values {
 
 /// The values of some parts, or what the first one without a value comes to.
 pub fn values_of(alloc: Global, parts: &[Part]) -> Result<Values, Memory>
-    ensures values { (f : List AbsArg → Outcome) → IfOk result (λ values. on_values values f ≡ on_parts parts.now f) }
-    ensures given { IfOk result (λ values. given_values values ≡ outcomes (map argument parts.now)) }
+    ensures values { (f : List AbsArg → Outcome)
+        → IfOk result (λ values. on_values values f ≡ on_parts parts.now f) }
+    ensures given { IfOk result (λ values. given_values values
+        ≡ outcomes (map argument parts.now)) }
     ensures count { IfOk result (λ values. IsForEach parts.now values) }
 {
     let mut values = Vec::new(alloc);

@@ -26,7 +26,13 @@ pub fn called_part(
 ) -> Result<Part, Memory>
     requires takes { Takes function (length args.items) }
     requires whole { is_whole function ≡ true }
-    ensures { IfOk result (λ part. part ≡ record { span = whole; looks = all_looks (map argument args.items); outcome = on_parts args.items (λ values. outcome_by whole args.items (form_called function values)); reference = None }) }
+    ensures { IfOk result (λ part. part ≡ record {
+      span = whole;
+      looks = all_looks (map argument args.items);
+      outcome = on_parts args.items
+          (λ values. outcome_by whole args.items (form_called function values));
+      reference = None;
+    }) }
 {
     let looks = all_looks(alloc, &args)?;
     let outcome = called_outcome(alloc, whole, function, &args)?;
@@ -42,7 +48,8 @@ fn called_outcome(
 ) -> Result<Outcome, Memory>
     requires takes { Takes function (length args.now) }
     requires whole { is_whole function ≡ true }
-    ensures { IfOk result (λ outcome. outcome ≡ on_parts args.now (λ values. outcome_by whole args.now (form_called function values))) }
+    ensures { IfOk result (λ outcome. outcome
+        ≡ on_parts args.now (λ values. outcome_by whole args.now (form_called function values))) }
 {
     let values = match values_of(alloc, args)? {
         Values::All(values) => values,

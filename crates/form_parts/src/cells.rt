@@ -25,8 +25,10 @@ pub fn forms_of<C: FormsOfCells>(
     forms: &C,
     cells: &[Cell],
 ) -> Result<Option<Vec<Abs>>, Memory>
-    ensures forms { IfOk result (λ found. option_map (λ items. items.items) found ≡ elements (C.forms forms.now) cells.now) }
-    ensures count { IfOk result (λ found. IfSome found (λ items. length items.items ≡ length cells.now)) }
+    ensures forms { IfOk result (λ found. option_map (λ items. items.items) found
+        ≡ elements (C.forms forms.now) cells.now) }
+    ensures count { IfOk result (λ found.
+        IfSome found (λ items. length items.items ≡ length cells.now)) }
 {
     let mut items = Vec::new(alloc);
     for cell in cells {

@@ -30,7 +30,8 @@ pub fn array_part(
     items: &[Expr],
 ) -> Result<Part, Memory>
     requires { IsRectangular rows columns (trees items.now) }
-    ensures { IfOk result (λ part. part ≡ plain span (Elements (record { rows = rows; columns = columns; items = literals (trees items.now) }))) }
+    ensures { IfOk result (λ part. part ≡ plain span (Elements
+        (record { rows = rows; columns = columns; items = literals (trees items.now) }))) }
 {
     let values = literals(alloc, items)?;
     match Grid::new(rows as u32, columns as u32, values) {

@@ -70,7 +70,8 @@ pub fn infix_part(
 
 // What a part with a minus in front comes to.
 fn minus_outcome(alloc: Global, span: Span, part: &Part) -> Result<Outcome, Memory>
-    ensures { IfOk result (λ outcome. outcome ≡ on_part part.now (λ a. outcome_by span (part.now ∷ []) (minus_form a))) }
+    ensures { IfOk result (λ outcome. outcome
+        ≡ on_part part.now (λ a. outcome_by span (part.now ∷ []) (minus_form a))) }
 {
     let Outcome::Gives(value) = &part.outcome else {
         return copy_outcome(alloc, &part.outcome);
@@ -80,7 +81,8 @@ fn minus_outcome(alloc: Global, span: Span, part: &Part) -> Result<Outcome, Memo
 
 // What a part with a percent sign behind comes to.
 fn percent_outcome(alloc: Global, span: Span, part: &Part) -> Result<Outcome, Memory>
-    ensures { IfOk result (λ outcome. outcome ≡ on_part part.now (λ a. outcome_by span (part.now ∷ []) (percent_form a))) }
+    ensures { IfOk result (λ outcome. outcome
+        ≡ on_part part.now (λ a. outcome_by span (part.now ∷ []) (percent_form a))) }
 {
     let Outcome::Gives(value) = &part.outcome else {
         return copy_outcome(alloc, &part.outcome);

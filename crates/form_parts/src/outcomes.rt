@@ -18,7 +18,8 @@ pub fn outcome_by(
     parts: &[Part],
     answer: Result<AbsArg, OpRefusal>,
 ) -> Result<Outcome, Memory>
-    ensures { (c : Trial AbsArg) → Answers c answer → IfOk result (λ outcome. outcome ≡ outcome_by whole parts.now c) }
+    ensures { (c : Trial AbsArg) → Answers c answer
+        → IfOk result (λ outcome. outcome ≡ outcome_by whole parts.now c) }
 {
     match answer {
         Ok(value) => Ok(Outcome::Gives(value)),
@@ -57,7 +58,8 @@ pub(crate) fn outcome_of_two(
     right: &Part,
     answer: Result<AbsArg, OpRefusal>,
 ) -> Result<Outcome, Memory>
-    ensures { (c : Trial AbsArg) → Answers c answer → IfOk result (λ outcome. outcome ≡ outcome_by whole (left.now ∷ right.now ∷ []) c) }
+    ensures { (c : Trial AbsArg) → Answers c answer
+        → IfOk result (λ outcome. outcome ≡ outcome_by whole (left.now ∷ right.now ∷ []) c) }
 {
     match answer {
         Ok(value) => Ok(Outcome::Gives(value)),
@@ -72,7 +74,8 @@ fn refused_of_two(
     right: &Part,
     refusal: OpRefusal,
 ) -> Result<Outcome, Memory>
-    ensures { IfOk result (λ outcome. IsRefusedBy whole (left.now ∷ right.now ∷ []) refusal outcome) }
+    ensures { IfOk result (λ outcome.
+        IsRefusedBy whole (left.now ∷ right.now ∷ []) refusal outcome) }
 {
     match refusal {
         OpRefusal::Break => Ok(Outcome::Refused(whole, Why::Break)),

@@ -24,13 +24,23 @@ impl Model for Part {
 
     ghost Value = { PartOfFormula };
 
-    ghost view = { λ p. record { span = p.span; looks = p.looks.items; outcome = p.outcome; reference = p.reference } };
+    ghost view = { λ p. record {
+      span = p.span;
+      looks = p.looks.items;
+      outcome = p.outcome;
+      reference = p.reference;
+    } };
 }
 
 impl Part {
     /// The part with these.
     pub fn new(span: Span, looks: Vec<Cell>, outcome: Outcome, reference: Option<Reference>) -> Part
-        ensures { result ≡ record { span = span; looks = looks.items; outcome = outcome; reference = reference } }
+        ensures { result ≡ record {
+          span = span;
+          looks = looks.items;
+          outcome = outcome;
+          reference = reference;
+        } }
     {
         Part {
             span,
@@ -42,7 +52,8 @@ impl Part {
 
     /// A part with a value that looks at nothing.
     pub fn plain(alloc: Global, span: Span, value: AbsArg) -> Part
-        ensures { result ≡ record { span = span; looks = []; outcome = Gives value; reference = None } }
+        ensures { result
+            ≡ record { span = span; looks = []; outcome = Gives value; reference = None } }
     {
         Part::new(span, Vec::new(alloc), Outcome::Gives(value), None)
     }

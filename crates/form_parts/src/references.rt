@@ -23,7 +23,8 @@ pub fn reference_part<C: FormsOfCells>(
     areas: &[Area],
 ) -> Result<Part, Memory>
     requires { 0 < length areas.now }
-    ensures { IfOk result (λ part. part ≡ referred (C.forms forms.now) span (grid_of_areas areas.now)) }
+    ensures { IfOk result (λ part. part
+        ≡ referred (C.forms forms.now) span (grid_of_areas areas.now)) }
 {
     let reference = Reference::of_areas(alloc, areas)?;
     let outcome = outcome_of(alloc, forms, &reference)?;
@@ -37,7 +38,8 @@ fn outcome_of<C: FormsOfCells>(
     forms: &C,
     reference: &Reference,
 ) -> Result<Outcome, Memory>
-    ensures { IfOk result (λ outcome. outcome ≡ of_forms reference.now (elements (C.forms forms.now) reference.now.cells)) }
+    ensures { IfOk result (λ outcome. outcome
+        ≡ of_forms reference.now (elements (C.forms forms.now) reference.now.cells)) }
 {
     let Some(items) = forms_of(alloc, forms, reference.cells())? else {
         return Ok(Outcome::Without);
@@ -51,7 +53,12 @@ fn outcome_of<C: FormsOfCells>(
 /// A reference to some areas whose forms are left unread.
 pub fn table_part(alloc: Global, span: Span, areas: &[Area]) -> Result<Part, Memory>
     requires { 0 < length areas.now }
-    ensures { IfOk result (λ part. part ≡ record { span = span; looks = (grid_of_areas areas.now).cells; outcome = Without; reference = Some (grid_of_areas areas.now) }) }
+    ensures { IfOk result (λ part. part ≡ record {
+      span = span;
+      looks = (grid_of_areas areas.now).cells;
+      outcome = Without;
+      reference = Some (grid_of_areas areas.now);
+    }) }
 {
     let reference = Reference::of_areas(alloc, areas)?;
     let looks = Vec::from_slice(alloc, reference.cells())?;

@@ -82,14 +82,17 @@ impl Model for AbsGrid {
 
     ghost view = { λ g. record { rows = g.rows; columns = g.cols; items = g.items.items } };
 
-    ghost invariant = { λ g. IsFull (record { rows = g.rows; columns = g.cols; items = g.items.items }) };
+    ghost invariant = { λ g.
+        IsFull (record { rows = g.rows; columns = g.cols; items = g.items.items }) };
 }
 
 impl AbsGrid {
     /// The grid of these values, row by row; none where there is no row or no column, or another number of values.
     pub fn new(rows: u32, cols: u32, items: Vec<Abs>) -> Option<AbsGrid>
-        ensures found { IfSome result (λ g. IsFull g × (g ≡ record { rows = rows; columns = cols; items = items.items })) }
-        ensures none { IfNone result (IsFull (record { rows = rows; columns = cols; items = items.items }) → ⊥) }
+        ensures found { IfSome result (λ g. IsFull g
+            × (g ≡ record { rows = rows; columns = cols; items = items.items })) }
+        ensures none { IfNone result
+            (IsFull (record { rows = rows; columns = cols; items = items.items }) → ⊥) }
     {
         if rows == 0 || cols == 0 || items.len() as u64 != rows as u64 * cols as u64 {
             return None;
@@ -133,7 +136,8 @@ impl AbsGrid {
     /// The grid of the same size with these values.
     pub fn with_items(&self, items: Vec<Abs>) -> AbsGrid
         requires { length items.items ≡ length self.now.items }
-        ensures { result ≡ record { rows = self.now.rows; columns = self.now.columns; items = items.items } }
+        ensures { result
+            ≡ record { rows = self.now.rows; columns = self.now.columns; items = items.items } }
     {
         AbsGrid {
             rows: self.rows,
@@ -216,7 +220,11 @@ impl AbsArg {
 
 // A grid of known values.
 fn known_grid(alloc: Global, grid: &Grid) -> Result<AbsGrid, Memory>
-    ensures { IfOk result (λ g. g ≡ record { rows = grid.now.rows; columns = grid.now.columns; items = map Known grid.now.items }) }
+    ensures { IfOk result (λ g. g ≡ record {
+      rows = grid.now.rows;
+      columns = grid.now.columns;
+      items = map Known grid.now.items;
+    }) }
 {
     let mut items = Vec::new(alloc);
     for value in grid.items() {
@@ -241,7 +249,11 @@ fn value_in(alloc: Global, value: &Abs) -> Result<Value, Memory>
 
 // A grid of these.
 fn values_in(alloc: Global, grid: &AbsGrid) -> Result<Grid, Memory>
-    ensures { IfOk result (λ g. g ≡ record { rows = grid.now.rows; columns = grid.now.columns; items = map value_in grid.now.items }) }
+    ensures { IfOk result (λ g. g ≡ record {
+      rows = grid.now.rows;
+      columns = grid.now.columns;
+      items = map value_in grid.now.items;
+    }) }
 {
     let mut items = Vec::new(alloc);
     for value in grid.items() {

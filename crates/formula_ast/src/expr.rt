@@ -76,7 +76,8 @@ impl Expr {
     pub fn call(span: Span, func: Func, args: Vec<Expr>) -> Option<Expr>
         requires forward { span.start ≤ span.end }
         requires within { AreSoundWithin span (trees args.items) }
-        ensures found { IfSome result (λ e. Takes func (length args.items) × (e ≡ Call span func (trees args.items))) }
+        ensures found { IfSome result (λ e. Takes func (length args.items)
+            × (e ≡ Call span func (trees args.items))) }
         ensures none { IfNone result (Takes func (length args.items) → ⊥) }
     {
         if !func.takes(args.len()) {
@@ -160,7 +161,8 @@ impl Expr {
 
 #[cycle(referring)]
 fn add_all_references(exprs: &[Expr], found: &mut Vec<Area>) -> Result<(), Memory>
-    ensures { IfOk result (λ _. found.new.items ≡ found.old.items ++ all_references_of (trees exprs.now)) }
+    ensures { IfOk result (λ _. found.new.items
+        ≡ found.old.items ++ all_references_of (trees exprs.now)) }
 {
     for expr in exprs {
         expr.add_references(found)?;

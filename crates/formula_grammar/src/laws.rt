@@ -9,7 +9,8 @@ use formula_lexer::one_list;
 
 /// No symbols spell two trees.
 pub fn no_symbols_spell_two_trees()
-    ensures { (S : Setting) (symbols : List Symbol) (a b : Tree) → SpellsFormula S symbols a → SpellsFormula S symbols b → a ≡ b }
+    ensures { (S : Setting) (symbols : List Symbol) (a b : Tree) → SpellsFormula S symbols a
+        → SpellsFormula S symbols b → a ≡ b }
 {}
 
 /// No text spells two trees, on one sheet and with one list of sheets.

@@ -59,5 +59,6 @@ pub fn tokens_are_slices()
 /// A text has one list of tokens, and none where a byte begins no token.
 pub fn one_list()
     ensures one { (text : List ℕ) (a b : List Token) → Tokens 0 text a → Tokens 0 text b → a ≡ b }
-    ensures none { (text : List ℕ) (place : ℕ) (a : List Token) → NoToken 0 text place → Tokens 0 text a → ⊥ }
+    ensures none { (text : List ℕ) (place : ℕ) (a : List Token) → NoToken 0 text place
+        → Tokens 0 text a → ⊥ }
 {}

@@ -36,7 +36,8 @@ pub struct Rows {
 
 // The trees with another behind them, if there are all.
 fn with_item(items: Option<Vec<Expr>>, item: Option<Expr>) -> Result<Option<Vec<Expr>>, AllocError>
-    ensures { IfOk result (λ o. option_map (λ v. v.items) o ≡ with_item (option_map (λ v. v.items) items) item) }
+    ensures { IfOk result (λ o. option_map (λ v. v.items) o
+        ≡ with_item (option_map (λ v. v.items) items) item) }
 {
     let Some(mut exprs) = items else {
         return Ok(None);
@@ -64,7 +65,8 @@ fn with_items(
     items: Option<Vec<Expr>>,
     others: Option<Vec<Expr>>,
 ) -> Result<Option<Vec<Expr>>, AllocError>
-    ensures { IfOk result (λ o. option_map (λ v. v.items) o ≡ with_items (option_map (λ v. v.items) items) (option_map (λ v. v.items) others)) }
+    ensures { IfOk result (λ o. option_map (λ v. v.items) o
+        ≡ with_items (option_map (λ v. v.items) items) (option_map (λ v. v.items) others)) }
 {
     let Some(first) = items else {
         return Ok(None);
@@ -80,7 +82,8 @@ impl Items {
     // An item alone, which has no tree where its number is too wide.
     fn one(alloc: Global, item: Option<Expr>) -> Result<Items, AllocError>
         ensures count { IfOk result (λ x. x.count ≡ 1) }
-        ensures exprs { IfOk result (λ x. option_map (λ v. v.items) x.exprs ≡ with_item (Some []) item) }
+        ensures exprs { IfOk result (λ x. option_map (λ v. v.items) x.exprs
+            ≡ with_item (Some []) item) }
     {
         let exprs = with_item(Some(Vec::new(alloc)), item)?;
         Ok(Items { count: 1, exprs })
@@ -90,7 +93,8 @@ impl Items {
     fn with(self, item: Option<Expr>) -> Result<Items, AllocError>
         requires { self.count + 1 < 2 ^ 64 }
         ensures count { IfOk result (λ x. x.count ≡ self.count + 1) }
-        ensures exprs { IfOk result (λ x. option_map (λ v. v.items) x.exprs ≡ with_item (option_map (λ v. v.items) self.exprs) item) }
+        ensures exprs { IfOk result (λ x. option_map (λ v. v.items) x.exprs
+            ≡ with_item (option_map (λ v. v.items) self.exprs) item) }
     {
         let count = self.count + 1;
         let exprs = with_item(self.exprs, item)?;
@@ -121,9 +125,12 @@ impl Rows {
     fn between(self, first: Symbol, last: Symbol) -> Part
         requires forward { first.span.start ≤ last.span.end }
         requires few { (self.count ≤ last.span.end) × (self.columns ≤ last.span.end) }
-        requires rectangular { IfSome self.exprs (λ v. IsRectangular self.count self.columns (trees v.items)) }
-        requires within { IfSome self.exprs (λ v. AreSoundWithin (from_to first.span last.span) (trees v.items)) }
-        ensures branch { result.branch ≡ branch (option_map (λ v. Array (from_to first.span last.span) self.count self.columns (trees v.items)) self.exprs) 2
+        requires rectangular { IfSome self.exprs
+            (λ v. IsRectangular self.count self.columns (trees v.items)) }
+        requires within { IfSome self.exprs
+            (λ v. AreSoundWithin (from_to first.span last.span) (trees v.items)) }
+        ensures branch { result.branch ≡ branch (option_map (λ v. Array
+            (from_to first.span last.span) self.count self.columns (trees v.items)) self.exprs) 2
             (record { lost = false; miscounted = false; wide = is_none self.exprs }) }
         ensures place { result.place ≡ from_to first.span last.span }
     {
@@ -177,7 +184,8 @@ fn item<'a>(
     symbols: &'a [Symbol],
 ) -> Result<(Option<Expr>, &'a [Symbol]), Stop>
     requires { AreSymbols setting.now.text.now symbols.now }
-    ensures gives { Gives (λ x. (x.0, x.1.now)) result (item_found (item_at (seen setting.now) symbols.now)) }
+    ensures gives { Gives (λ x. (x.0, x.1.now)) result
+        (item_found (item_at (seen setting.now) symbols.now)) }
     ensures rest { IfOk result (λ x. AreSymbols setting.now.text.now x.1.now) }
 {
     match symbols {
@@ -243,7 +251,8 @@ fn row<'a>(
     symbols: &'a [Symbol],
 ) -> Result<(Items, &'a [Symbol]), Stop>
     requires { AreSymbols setting.now.text.now symbols.now }
-    ensures gives { Gives (λ x. (read_items x.0, x.1.now)) result (row_found (row_at (seen setting.now) symbols.now)) }
+    ensures gives { Gives (λ x. (read_items x.0, x.1.now)) result
+        (row_found (row_at (seen setting.now) symbols.now)) }
     ensures rest { IfOk result (λ x. AreSymbols setting.now.text.now x.1.now) }
 {
     let (first, mut rest) = item(alloc, setting, symbols)?;
@@ -263,7 +272,8 @@ fn all_rows<'a>(
     symbols: &'a [Symbol],
 ) -> Result<(Rows, &'a [Symbol]), Stop>
     requires { AreSymbols setting.now.text.now symbols.now }
-    ensures gives { Gives (λ x. (read_rows x.0, x.1.now)) result (rows_found (rows_at (seen setting.now) symbols.now)) }
+    ensures gives { Gives (λ x. (read_rows x.0, x.1.now)) result
+        (rows_found (rows_at (seen setting.now) symbols.now)) }
     ensures rest { IfOk result (λ x. AreSymbols setting.now.text.now x.1.now) }
 {
     let (first, mut rest) = row(alloc, setting, symbols)?;
@@ -290,7 +300,8 @@ pub fn array<'a>(
     requires first { IsInText setting.now.text.now first }
     requires symbols { AreSymbols setting.now.text.now symbols.now }
     requires order { InOrder first.span.end symbols.now }
-    ensures gives { Gives (λ x. (x.0, x.1.now)) result (leaf_found (array_at (seen setting.now) first symbols.now)) }
+    ensures gives { Gives (λ x. (x.0, x.1.now)) result
+        (leaf_found (array_at (seen setting.now) first symbols.now)) }
     ensures placed { IfOk result (λ x. IsInFront (first ∷ symbols.now) x.0 x.1.now) }
     ensures rest { IfOk result (λ x. AreSymbols setting.now.text.now x.1.now) }
 {

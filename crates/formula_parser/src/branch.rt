@@ -134,7 +134,8 @@ impl Branch {
 
     /// In place of a number that is too wide.
     pub fn wide() -> Branch
-        ensures { (tree : Option Tree) → result ≡ branch tree 1 (record { lost = false; miscounted = false; wide = true }) }
+        ensures { (tree : Option Tree) → result
+            ≡ branch tree 1 (record { lost = false; miscounted = false; wide = true }) }
     {
         Branch::of(
             None,
@@ -148,7 +149,8 @@ impl Branch {
 
     /// In place of a reference to a sheet that there isn't.
     pub fn without_sheet() -> Branch
-        ensures { (tree : Option Tree) → result ≡ branch tree 1 (record { lost = true; miscounted = false; wide = false }) }
+        ensures { (tree : Option Tree) → result
+            ≡ branch tree 1 (record { lost = true; miscounted = false; wide = false }) }
     {
         Branch::of(
             None,
@@ -162,7 +164,8 @@ impl Branch {
 
     /// An array, or none where a number in it is too wide.
     pub fn array(expr: Option<Expr>) -> Branch
-        ensures { result ≡ branch expr 2 (record { lost = false; miscounted = false; wide = is_none expr }) }
+        ensures { result
+            ≡ branch expr 2 (record { lost = false; miscounted = false; wide = is_none expr }) }
     {
         let faults = Faults {
             wide: expr.is_none(),
@@ -298,7 +301,8 @@ impl Part {
     pub fn with_sign(self, alloc: Global, sign: Symbol) -> Result<Part, AllocError>
         requires placed { IsPlaced self }
         requires order { sign.span.start ≤ self.place.start }
-        ensures made { IfOk result (λ x. (S : Grammar) → x ≡ prefixed_by (built S) (prefix_of sign.sign) sign self) }
+        ensures made { IfOk result (λ x. (S : Grammar) → x
+            ≡ prefixed_by (built S) (prefix_of sign.sign) sign self) }
         ensures placed { IfOk result IsPlaced }
     {
         let place = from_to(sign.span, self.place);

@@ -63,8 +63,10 @@ fn call_of(
 ) -> Result<Option<Expr>, AllocError>
     requires forward { place.start ≤ place.end }
     requires within { IfSome args (λ v. AreSoundWithin place (trees v.items)) }
-    ensures call { IfOk result (λ o. IfSome o (λ e. option_map (call_tree func name.now place) (option_map (λ v. v.items) args) ≡ Some e)) }
-    ensures none { IfOk result (λ o. IfNone o (IfSome args (λ v. refuses func (length v.items) ≡ true))) }
+    ensures call { IfOk result (λ o. IfSome o (λ e.
+        option_map (call_tree func name.now place) (option_map (λ v. v.items) args) ≡ Some e)) }
+    ensures none { IfOk result
+        (λ o. IfNone o (IfSome args (λ v. refuses func (length v.items) ≡ true))) }
 {
     let Some(args) = args else {
         return Ok(None);
@@ -101,7 +103,8 @@ fn part_of_call(
 ) -> Result<Part, AllocError>
     requires forward { place.start ≤ place.end }
     requires within { All (IsBetween place) args.items }
-    ensures made { IfOk result (λ x. x ≡ record { branch = over_call func name.now place args.items; place = place }) }
+    ensures made { IfOk result (λ x. x
+        ≡ record { branch = over_call func name.now place args.items; place = place }) }
     ensures placed { IfOk result IsPlaced }
 {
     let height = taller(greatest_height(&args));

@@ -61,7 +61,8 @@ impl Setting<'_> {
 
 // The corner of an address on a sheet.
 fn corner_on(sheet: Given, address: &str) -> Option<Corner>
-    ensures corner { option_map corner_of result ≡ corner_on (given_of sheet) (address_in address.now) }
+    ensures corner { option_map corner_of result
+        ≡ corner_on (given_of sheet) (address_in address.now) }
     ensures on_sheet { IfSome result (λ c. c.row < ROWS × c.column < COLUMNS) }
 {
     let (row, column) = read_address(address)?;
@@ -88,7 +89,8 @@ pub fn word_as_corner(
     setting: &Setting,
     word: &str,
 ) -> Result<Option<Corner>, AllocError>
-    ensures corner { IfOk result (λ c. option_map corner_of c ≡ word_corner (seen setting.now) word.now) }
+    ensures corner { IfOk result (λ c. option_map corner_of c
+        ≡ word_corner (seen setting.now) word.now) }
     ensures on_sheet { IfOk result (λ o. IfSome o (λ c. c.row < ROWS × c.column < COLUMNS)) }
 {
     if logical(word).is_some() {
@@ -111,7 +113,8 @@ type ReadCorner<'a> = Result<(Corner, &'a [Symbol]), Stop>;
 // An address behind a sheet.
 fn address<'a>(setting: &Setting, sheet: Given, symbols: &'a [Symbol]) -> ReadCorner<'a>
     requires { AreSymbols setting.now.text.now symbols.now }
-    ensures gives { Gives (λ x. (corner_of x.0, x.1.now)) result (address_at (seen setting.now) (given_of sheet) symbols.now) }
+    ensures gives { Gives (λ x. (corner_of x.0, x.1.now)) result
+        (address_at (seen setting.now) (given_of sheet) symbols.now) }
     ensures on_sheet { IfOk result (λ x. x.0.row < ROWS × x.0.column < COLUMNS) }
     ensures rest { IfOk result (λ x. AreSymbols setting.now.text.now x.1.now) }
 {
@@ -136,7 +139,8 @@ fn behind_sheet<'a>(
 ) -> ReadCorner<'a>
     requires sheet { IsInText setting.now.text.now sheet }
     requires symbols { AreSymbols setting.now.text.now symbols.now }
-    ensures gives { Gives (λ x. (corner_of x.0, x.1.now)) result (behind_sheet_at (seen setting.now) is_point sheet symbols.now) }
+    ensures gives { Gives (λ x. (corner_of x.0, x.1.now)) result
+        (behind_sheet_at (seen setting.now) is_point sheet symbols.now) }
     ensures on_sheet { IfOk result (λ x. x.0.row < ROWS × x.0.column < COLUMNS) }
     ensures rest { IfOk result (λ x. AreSymbols setting.now.text.now x.1.now) }
 {
@@ -161,7 +165,8 @@ fn behind_plain_sheet<'a>(
 ) -> ReadCorner<'a>
     requires sheet { IsInText setting.now.text.now sheet }
     requires symbols { AreSymbols setting.now.text.now symbols.now }
-    ensures gives { Gives (λ x. (corner_of x.0, x.1.now)) result (behind_sheet_at (seen setting.now) is_sheet_mark sheet symbols.now) }
+    ensures gives { Gives (λ x. (corner_of x.0, x.1.now)) result
+        (behind_sheet_at (seen setting.now) is_sheet_mark sheet symbols.now) }
     ensures on_sheet { IfOk result (λ x. x.0.row < ROWS × x.0.column < COLUMNS) }
     ensures rest { IfOk result (λ x. AreSymbols setting.now.text.now x.1.now) }
 {
@@ -202,7 +207,8 @@ fn plain_word<'a>(
 ) -> ReadCorner<'a>
     requires word { IsInText setting.now.text.now word }
     requires symbols { AreSymbols setting.now.text.now symbols.now }
-    ensures gives { Gives (λ x. (corner_of x.0, x.1.now)) result (corner_by (seen setting.now) word sign.Word symbols.now) }
+    ensures gives { Gives (λ x. (corner_of x.0, x.1.now)) result
+        (corner_by (seen setting.now) word sign.Word symbols.now) }
     ensures on_sheet { IfOk result (λ x. x.0.row < ROWS × x.0.column < COLUMNS) }
     ensures rest { IfOk result (λ x. AreSymbols setting.now.text.now x.1.now) }
 {
@@ -218,7 +224,8 @@ fn plain_word<'a>(
 /// A corner outside brackets.
 pub fn plain_corner<'a>(alloc: Global, setting: &Setting, symbols: &'a [Symbol]) -> ReadCorner<'a>
     requires { AreSymbols setting.now.text.now symbols.now }
-    ensures gives { Gives (λ x. (corner_of x.0, x.1.now)) result (corner_at (seen setting.now) symbols.now) }
+    ensures gives { Gives (λ x. (corner_of x.0, x.1.now)) result
+        (corner_at (seen setting.now) symbols.now) }
     ensures on_sheet { IfOk result (λ x. x.0.row < ROWS × x.0.column < COLUMNS) }
     ensures rest { IfOk result (λ x. AreSymbols setting.now.text.now x.1.now) }
 {
@@ -256,7 +263,8 @@ fn inner_word<'a>(
 ) -> ReadCorner<'a>
     requires word { IsInText setting.now.text.now word }
     requires symbols { AreSymbols setting.now.text.now symbols.now }
-    ensures gives { Gives (λ x. (corner_of x.0, x.1.now)) result (inner_by (seen setting.now) word sign.Word symbols.now) }
+    ensures gives { Gives (λ x. (corner_of x.0, x.1.now)) result
+        (inner_by (seen setting.now) word sign.Word symbols.now) }
     ensures on_sheet { IfOk result (λ x. x.0.row < ROWS × x.0.column < COLUMNS) }
     ensures rest { IfOk result (λ x. AreSymbols setting.now.text.now x.1.now) }
 {
@@ -272,7 +280,8 @@ fn inner_word<'a>(
 /// A corner within brackets.
 pub fn inner_corner<'a>(alloc: Global, setting: &Setting, symbols: &'a [Symbol]) -> ReadCorner<'a>
     requires { AreSymbols setting.now.text.now symbols.now }
-    ensures gives { Gives (λ x. (corner_of x.0, x.1.now)) result (inner_at (seen setting.now) symbols.now) }
+    ensures gives { Gives (λ x. (corner_of x.0, x.1.now)) result
+        (inner_at (seen setting.now) symbols.now) }
     ensures on_sheet { IfOk result (λ x. x.0.row < ROWS × x.0.column < COLUMNS) }
     ensures rest { IfOk result (λ x. AreSymbols setting.now.text.now x.1.now) }
 {

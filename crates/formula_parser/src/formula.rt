@@ -124,8 +124,10 @@ pub fn parse(
 ) -> Result<Expr, ParseFault>
     requires length { length text.now ≤ TEXT_BYTES + 1 }
     requires listed { home.0 < length sheets.now }
-    ensures answer { Answers (record { text = text.now; home = home.0; sheets = sheets.now }) result }
-    ensures tree { IsTreeIn (record { text = text.now; home = home.0; sheets = sheets.now }) result }
+    ensures answer { Answers
+        (record { text = text.now; home = home.0; sheets = sheets.now }) result }
+    ensures tree { IsTreeIn
+        (record { text = text.now; home = home.0; sheets = sheets.now }) result }
     ensures sound { IfOk result IsSound }
 {
     one_list();

@@ -109,7 +109,8 @@ fn joined_references<'a>(
     symbols: &'a [Symbol],
 ) -> Result<(Part, &'a [Symbol]), Stop>
     requires { AreSymbols setting.now.text.now symbols.now }
-    ensures gives { Gives (λ x. (x.0, x.1.now)) result (leaf_found (references_at (seen setting.now) symbols.now)) }
+    ensures gives { Gives (λ x. (x.0, x.1.now)) result
+        (leaf_found (references_at (seen setting.now) symbols.now)) }
     ensures placed { IfOk result (λ x. IsInFront symbols.now x.0 x.1.now) }
     ensures rest { IfOk result (λ x. AreSymbols setting.now.text.now x.1.now) }
 {
@@ -134,7 +135,8 @@ fn begins_references(
     rest: &[Symbol],
 ) -> Result<bool, AllocError>
     requires { IsInText setting.now.text.now word }
-    ensures { IfOk result (λ b. b ≡ (starts_with is_sheet_mark rest.now || is_some (word_corner (seen setting.now) (bytes_of (seen setting.now) word)))) }
+    ensures { IfOk result (λ b. b ≡ (starts_with is_sheet_mark rest.now
+        || is_some (word_corner (seen setting.now) (bytes_of (seen setting.now) word)))) }
 {
     if starts_with_mark(rest) {
         return Ok(true);
@@ -154,7 +156,8 @@ fn word_leaf<'a>(
     requires symbols { AreSymbols setting.now.text.now symbols.now }
     requires parts { symbols.now ≡ word ∷ rest.now }
     requires word { word.sign ≡ sign.Word }
-    ensures gives { Gives (λ x. (x.0, x.1.now)) result (leaf_found (word_leaf (seen setting.now) word rest.now)) }
+    ensures gives { Gives (λ x. (x.0, x.1.now)) result
+        (leaf_found (word_leaf (seen setting.now) word rest.now)) }
     ensures placed { IfOk result (λ x. IsInFront symbols.now x.0 x.1.now) }
     ensures rest { IfOk result (λ x. AreSymbols setting.now.text.now x.1.now) }
 {
@@ -172,7 +175,8 @@ pub fn leaf<'a>(
     symbols: &'a [Symbol],
 ) -> Result<(Part, &'a [Symbol]), Stop>
     requires { AreSymbols setting.now.text.now symbols.now }
-    ensures gives { Gives (λ x. (x.0, x.1.now)) result (leaf_of (seen setting.now) (built (seen setting.now)) symbols.now) }
+    ensures gives { Gives (λ x. (x.0, x.1.now)) result
+        (leaf_of (seen setting.now) (built (seen setting.now)) symbols.now) }
     ensures placed { IfOk result (λ x. IsInFront symbols.now x.0 x.1.now) }
     ensures rest { IfOk result (λ x. AreSymbols setting.now.text.now x.1.now) }
 {

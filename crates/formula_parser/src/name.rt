@@ -28,7 +28,8 @@ pub fn parse_reference(
 ) -> Result<Option<Area>, Memory>
     requires length { length text.now ≤ TEXT_BYTES + 1 }
     requires listed { home.0 < length sheets.now }
-    ensures area { IfOk result (λ area. area ≡ area_in (record { text = text.now; home = home.0; sheets = sheets.now })) }
+    ensures area { IfOk result (λ area. area
+        ≡ area_in (record { text = text.now; home = home.0; sheets = sheets.now })) }
     ensures on_sheet { IfOk result (λ area. IfSome area IsOnSheet) }
 {
     let cut = match tokens(alloc, text) {
@@ -50,7 +51,8 @@ fn whole_reference(
     symbols: &[Symbol],
 ) -> Result<Option<Area>, Memory>
     requires { AreSymbols setting.now.text.now symbols.now }
-    ensures area { IfOk result (λ area. area ≡ option_and_then area_of (to_the_end (reference_at (seen setting.now) symbols.now))) }
+    ensures area { IfOk result (λ area. area
+        ≡ option_and_then area_of (to_the_end (reference_at (seen setting.now) symbols.now))) }
     ensures on_sheet { IfOk result (λ area. IfSome area IsOnSheet) }
 {
     match reference(alloc, setting, symbols) {

@@ -33,7 +33,8 @@ pub fn number(
 ) -> Result<Option<Expr>, Stop>
     requires symbol { IsInText setting.now.text.now symbol }
     requires forward { at.start ≤ at.end }
-    ensures { Gives (λ x. x) result (option_map (λ n. item_of (signed_number is_negative at n)) (reading (bytes_of (seen setting.now) symbol))) }
+    ensures { Gives (λ x. x) result (option_map (λ n. item_of (signed_number is_negative at n))
+        (reading (bytes_of (seen setting.now) symbol))) }
 {
     match Frac::read(setting.slice(symbol)) {
         Ok(number) => {
@@ -68,7 +69,8 @@ pub fn signed_number<'a>(
     requires sign { IsInText setting.now.text.now sign }
     requires symbols { AreSymbols setting.now.text.now symbols.now }
     requires order { InOrder sign.span.end symbols.now }
-    ensures gives { Gives (λ x. (x.0, x.1.now)) result (item_found (signed_number_at (seen setting.now) sign symbols.now)) }
+    ensures gives { Gives (λ x. (x.0, x.1.now)) result
+        (item_found (signed_number_at (seen setting.now) sign symbols.now)) }
     ensures rest { IfOk result (λ x. AreSymbols setting.now.text.now x.1.now) }
 {
     match symbols {

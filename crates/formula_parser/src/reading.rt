@@ -36,7 +36,8 @@ fn close(symbols: &[Symbol]) -> Result<(Symbol, &[Symbol]), Stop>
 #[tactic(auto, unfolding(formula_grammar::specs::Reading::formula_at))]
 pub fn formula<'a>(alloc: Global, setting: &Setting, depth: u8, symbols: &'a [Symbol]) -> Read<'a>
     requires { AreSymbols setting.now.text.now symbols.now }
-    ensures gives { Gives (λ x. (x.0, x.1.now)) result (formulas (seen setting.now) depth symbols.now) }
+    ensures gives { Gives (λ x. (x.0, x.1.now)) result
+        (formulas (seen setting.now) depth symbols.now) }
     ensures placed { IfOk result (λ x. IsInFront symbols.now x.0 x.1.now) }
     ensures rest { IfOk result (λ x. AreSymbols setting.now.text.now x.1.now) }
 {
@@ -71,7 +72,8 @@ fn level<'a>(alloc: Global, setting: &Setting, depth: u8, at: u8, symbols: &'a [
 #[cycle(reading)]
 fn percents<'a>(alloc: Global, setting: &Setting, depth: u8, symbols: &'a [Symbol]) -> Read<'a>
     requires { AreSymbols setting.now.text.now symbols.now }
-    ensures gives { Gives (λ x. (x.0, x.1.now)) result (hundredths (seen setting.now) depth symbols.now) }
+    ensures gives { Gives (λ x. (x.0, x.1.now)) result
+        (hundredths (seen setting.now) depth symbols.now) }
     ensures placed { IfOk result (λ x. IsInFront symbols.now x.0 x.1.now) }
     ensures rest { IfOk result (λ x. AreSymbols setting.now.text.now x.1.now) }
 {
@@ -111,7 +113,8 @@ fn signs_and_primary<'a>(
 #[tactic(auto, unfolding(formula_grammar::specs::Reading::primary_at))]
 fn primary<'a>(alloc: Global, setting: &Setting, depth: u8, symbols: &'a [Symbol]) -> Read<'a>
     requires { AreSymbols setting.now.text.now symbols.now }
-    ensures gives { Gives (λ x. (x.0, x.1.now)) result (primaries (seen setting.now) depth symbols.now) }
+    ensures gives { Gives (λ x. (x.0, x.1.now)) result
+        (primaries (seen setting.now) depth symbols.now) }
     ensures placed { IfOk result (λ x. IsInFront symbols.now x.0 x.1.now) }
     ensures rest { IfOk result (λ x. AreSymbols setting.now.text.now x.1.now) }
 {
@@ -139,7 +142,8 @@ fn call_or_leaf<'a>(
     requires symbols { AreSymbols setting.now.text.now symbols.now }
     requires parts { symbols.now ≡ word ∷ rest.now }
     ensures gives { Gives (λ x. (x.0, x.1.now)) result
-        (word_at (seen setting.now) (built (seen setting.now)) (formulas (seen setting.now) depth) word rest.now) }
+        (word_at (seen setting.now) (built (seen setting.now))
+        (formulas (seen setting.now) depth) word rest.now) }
     ensures placed { IfOk result (λ x. IsInFront symbols.now x.0 x.1.now) }
     ensures rest { IfOk result (λ x. AreSymbols setting.now.text.now x.1.now) }
 {
@@ -166,7 +170,8 @@ fn parens<'a>(
     requires symbols { AreSymbols setting.now.text.now symbols.now }
     requires order { InOrder first.span.end symbols.now }
     ensures gives { Gives (λ x. (x.0, x.1.now)) result
-        (parens_at (built (seen setting.now)) (formulas (seen setting.now) depth) first symbols.now) }
+        (parens_at (built (seen setting.now))
+        (formulas (seen setting.now) depth) first symbols.now) }
     ensures placed { IfOk result (λ x. IsInFront (first ∷ symbols.now) x.0 x.1.now) }
     ensures rest { IfOk result (λ x. AreSymbols setting.now.text.now x.1.now) }
 {
@@ -191,7 +196,8 @@ fn call<'a>(
     requires before { name.span.end ≤ before }
     requires order { InOrder before symbols.now }
     ensures gives { Gives (λ x. (x.0, x.1.now)) result
-        (call_at (built (seen setting.now)) (formulas (seen setting.now) depth) name before symbols.now) }
+        (call_at (built (seen setting.now))
+        (formulas (seen setting.now) depth) name before symbols.now) }
     ensures placed { IfOk result (λ x. IsInFront (name ∷ symbols.now) x.0 x.1.now) }
     ensures rest { IfOk result (λ x. AreSymbols setting.now.text.now x.1.now) }
 {
@@ -213,7 +219,8 @@ fn args_if_any<'a>(
     requires symbols { AreSymbols setting.now.text.now symbols.now }
     requires order { InOrder before symbols.now }
     ensures gives { Gives (λ x. (x.0.items, x.1.now)) result
-        (if starts_close symbols.now then Some ([], symbols.now) else args_at (built (seen setting.now)) (formulas (seen setting.now) depth) before symbols.now) }
+        (if starts_close symbols.now then Some ([], symbols.now) else args_at
+        (built (seen setting.now)) (formulas (seen setting.now) depth) before symbols.now) }
     ensures placed { IfOk result (λ x. AreBefore before x.0.items x.1.now) }
     ensures rest { IfOk result (λ x. AreSymbols setting.now.text.now x.1.now) }
 {
@@ -235,7 +242,8 @@ fn args<'a>(
     requires symbols { AreSymbols setting.now.text.now symbols.now }
     requires order { InOrder before symbols.now }
     ensures gives { Gives (λ x. (x.0.items, x.1.now)) result
-        (args_at (built (seen setting.now)) (formulas (seen setting.now) depth) before symbols.now) }
+        (args_at (built (seen setting.now))
+        (formulas (seen setting.now) depth) before symbols.now) }
     ensures placed { IfOk result (λ x. AreBefore before x.0.items x.1.now) }
     ensures rest { IfOk result (λ x. AreSymbols setting.now.text.now x.1.now) }
 {

@@ -40,7 +40,8 @@ impl Setting<'_> {
     fn area(&self, first: &Corner, second: &Corner) -> Option<Option<Area>>
         requires first { first.now.row < ROWS × first.now.column < COLUMNS }
         requires second { second.now.row < ROWS × second.now.column < COLUMNS }
-        ensures area { result ≡ option_map area_of (area_between (seen self.now) (corner_of first.now) (corner_of second.now)) }
+        ensures area { result ≡ option_map area_of
+            (area_between (seen self.now) (corner_of first.now) (corner_of second.now)) }
     {
         if !self.agrees(&first.sheet, &second.sheet) {
             return None;
@@ -56,7 +57,9 @@ impl Setting<'_> {
         requires first { first.now.row < ROWS × first.now.column < COLUMNS }
         requires second { second.now.row < ROWS × second.now.column < COLUMNS }
         requires rest { AreSymbols self.now.text.now rest.now }
-        ensures gives { Gives {Y = Option Area × List Symbol} (λ x. (x.0, x.1.now)) result (option_map (λ r. (area_of r, rest.now)) (area_between (seen self.now) (corner_of first.now) (corner_of second.now))) }
+        ensures gives { Gives {Y = Option Area × List Symbol} (λ x. (x.0, x.1.now)) result
+            (option_map (λ r. (area_of r, rest.now))
+            (area_between (seen self.now) (corner_of first.now) (corner_of second.now))) }
         ensures rest { IfOk result (λ x. AreSymbols self.now.text.now x.1.now) }
     {
         match self.area(first, second) {
@@ -77,7 +80,9 @@ fn second_plain<'a>(
 ) -> ReadArea<'a>
     requires first { first.now.row < ROWS × first.now.column < COLUMNS }
     requires symbols { AreSymbols setting.now.text.now symbols.now }
-    ensures gives { Gives {Y = Option Area × List Symbol} (λ x. (x.0, x.1.now)) result (option_map (λ f. (area_of f.0, f.1)) (second_at (seen setting.now) (corner_at (seen setting.now)) (corner_of first.now) symbols.now)) }
+    ensures gives { Gives {Y = Option Area × List Symbol} (λ x. (x.0, x.1.now)) result
+        (option_map (λ f. (area_of f.0, f.1)) (second_at (seen setting.now)
+        (corner_at (seen setting.now)) (corner_of first.now) symbols.now)) }
     ensures rest { IfOk result (λ x. AreSymbols setting.now.text.now x.1.now) }
 {
     let Some((mark, behind)) = setting.first(symbols) else {
@@ -95,7 +100,8 @@ fn second_plain<'a>(
 // A reference without brackets.
 fn plain<'a>(alloc: Global, setting: &Setting, symbols: &'a [Symbol]) -> ReadArea<'a>
     requires { AreSymbols setting.now.text.now symbols.now }
-    ensures gives { Gives {Y = Option Area × List Symbol} (λ x. (x.0, x.1.now)) result (option_map (λ f. (area_of f.0, f.1)) (plain_at (seen setting.now) symbols.now)) }
+    ensures gives { Gives {Y = Option Area × List Symbol} (λ x. (x.0, x.1.now)) result
+        (option_map (λ f. (area_of f.0, f.1)) (plain_at (seen setting.now) symbols.now)) }
     ensures rest { IfOk result (λ x. AreSymbols setting.now.text.now x.1.now) }
 {
     let (first, rest) = plain_corner(alloc, setting, symbols)?;
@@ -111,7 +117,9 @@ fn second_inner<'a>(
 ) -> ReadArea<'a>
     requires first { first.now.row < ROWS × first.now.column < COLUMNS }
     requires symbols { AreSymbols setting.now.text.now symbols.now }
-    ensures gives { Gives {Y = Option Area × List Symbol} (λ x. (x.0, x.1.now)) result (option_map (λ f. (area_of f.0, f.1)) (second_at (seen setting.now) (inner_at (seen setting.now)) (corner_of first.now) symbols.now)) }
+    ensures gives { Gives {Y = Option Area × List Symbol} (λ x. (x.0, x.1.now)) result
+        (option_map (λ f. (area_of f.0, f.1)) (second_at (seen setting.now)
+        (inner_at (seen setting.now)) (corner_of first.now) symbols.now)) }
     ensures rest { IfOk result (λ x. AreSymbols setting.now.text.now x.1.now) }
 {
     let Some((mark, behind)) = setting.first(symbols) else {
@@ -129,7 +137,8 @@ fn second_inner<'a>(
 // A reference in brackets, behind the opening one.
 fn brackets<'a>(alloc: Global, setting: &Setting, symbols: &'a [Symbol]) -> ReadArea<'a>
     requires { AreSymbols setting.now.text.now symbols.now }
-    ensures gives { Gives {Y = Option Area × List Symbol} (λ x. (x.0, x.1.now)) result (option_map (λ f. (area_of f.0, f.1)) (brackets_at (seen setting.now) symbols.now)) }
+    ensures gives { Gives {Y = Option Area × List Symbol} (λ x. (x.0, x.1.now)) result
+        (option_map (λ f. (area_of f.0, f.1)) (brackets_at (seen setting.now) symbols.now)) }
     ensures rest { IfOk result (λ x. AreSymbols setting.now.text.now x.1.now) }
 {
     let (first, behind) = inner_corner(alloc, setting, symbols)?;
@@ -142,7 +151,8 @@ fn brackets<'a>(alloc: Global, setting: &Setting, symbols: &'a [Symbol]) -> Read
 // The area, where a closing bracket stands in front.
 fn before_bracket<'a>(setting: &Setting, area: Option<Area>, symbols: &'a [Symbol]) -> ReadArea<'a>
     requires { AreSymbols setting.now.text.now symbols.now }
-    ensures gives { Gives {Y = Option Area × List Symbol} (λ x. (x.0, x.1.now)) result (option_map (λ t. (area, t.1)) (one_at is_close_square symbols.now)) }
+    ensures gives { Gives {Y = Option Area × List Symbol} (λ x. (x.0, x.1.now)) result
+        (option_map (λ t. (area, t.1)) (one_at is_close_square symbols.now)) }
     ensures rest { IfOk result (λ x. AreSymbols setting.now.text.now x.1.now) }
 {
     let Some((close, after)) = setting.first(symbols) else {
@@ -157,7 +167,8 @@ fn before_bracket<'a>(setting: &Setting, area: Option<Area>, symbols: &'a [Symbo
 // One reference.
 pub fn reference<'a>(alloc: Global, setting: &Setting, symbols: &'a [Symbol]) -> ReadArea<'a>
     requires { AreSymbols setting.now.text.now symbols.now }
-    ensures gives { Gives {Y = Option Area × List Symbol} (λ x. (x.0, x.1.now)) result (option_map (λ f. (area_of f.0, f.1)) (reference_at (seen setting.now) symbols.now)) }
+    ensures gives { Gives {Y = Option Area × List Symbol} (λ x. (x.0, x.1.now)) result
+        (option_map (λ f. (area_of f.0, f.1)) (reference_at (seen setting.now) symbols.now)) }
     ensures rest { IfOk result (λ x. AreSymbols setting.now.text.now x.1.now) }
 {
     let Some((symbol, rest)) = setting.first(symbols) else {

@@ -29,7 +29,8 @@ impl<'a> Setting<'a> {
     pub fn first<'b>(&self, symbols: &'b [Symbol]) -> Option<(Symbol, &'b [Symbol])>
         requires { AreSymbols self.now.text.now symbols.now }
         ensures front { MatchOption result (symbols.now ≡ []) (λ x. symbols.now ≡ x.0 ∷ x.1.now) }
-        ensures pieces { IfSome result (λ x. IsInText self.now.text.now x.0 × AreSymbols self.now.text.now x.1.now) }
+        ensures pieces { IfSome result (λ x. IsInText self.now.text.now x.0
+            × AreSymbols self.now.text.now x.1.now) }
     {
         match symbols {
             [] => None,

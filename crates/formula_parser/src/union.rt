@@ -25,8 +25,10 @@ pub struct Union {
 impl Union {
     // Adds an area, or that there is no such sheet.
     fn add(&mut self, area: Option<Area>) -> Result<(), AllocError>
-        ensures added { IfOk result (λ _. (self.new.areas.items ≡ self.old.areas.items ++ some_area area) × (self.new.lost ≡ (self.old.lost || is_missing area))) }
-        ensures on_sheet { IfOk result (λ _. All IsOnSheet self.old.areas.items → All IsOnSheet self.new.areas.items) }
+        ensures added { IfOk result (λ _. (self.new.areas.items ≡ self.old.areas.items
+            ++ some_area area) × (self.new.lost ≡ (self.old.lost || is_missing area))) }
+        ensures on_sheet { IfOk result (λ _. All IsOnSheet self.old.areas.items
+            → All IsOnSheet self.new.areas.items) }
     {
         match area {
             Some(area) => Ok(self.areas.push(area)?),
@@ -45,9 +47,12 @@ impl Union {
         symbols: &'a [Symbol],
     ) -> Result<&'a [Symbol], Stop>
         requires { AreSymbols setting.now.text.now symbols.now }
-        ensures ok { IfOk result (λ rest. IsAdded (seen setting.now) symbols.now self.old.areas.items self.old.lost self.new.areas.items self.new.lost rest.now) }
-        ensures err { IfErr result (λ stop. Fails {Y = Option Area × List Symbol} stop (option_map (λ f. (area_of f.0, f.1)) (reference_at (seen setting.now) symbols.now))) }
-        ensures on_sheet { IfOk result (λ _. All IsOnSheet self.old.areas.items → All IsOnSheet self.new.areas.items) }
+        ensures ok { IfOk result (λ rest. IsAdded (seen setting.now) symbols.now
+            self.old.areas.items self.old.lost self.new.areas.items self.new.lost rest.now) }
+        ensures err { IfErr result (λ stop. Fails {Y = Option Area × List Symbol} stop
+            (option_map (λ f. (area_of f.0, f.1)) (reference_at (seen setting.now) symbols.now))) }
+        ensures on_sheet { IfOk result (λ _. All IsOnSheet self.old.areas.items
+            → All IsOnSheet self.new.areas.items) }
         ensures rest { IfOk result (λ rest. AreSymbols setting.now.text.now rest.now) }
     {
         match reference(alloc, setting, symbols) {
@@ -63,7 +68,8 @@ impl Union {
 // The symbols behind a `~` at the front.
 fn behind_tilde<'a>(setting: &Setting, symbols: &'a [Symbol]) -> Option<&'a [Symbol]>
     requires { AreSymbols setting.now.text.now symbols.now }
-    ensures front { MatchOption result (starts_with is_tilde symbols.now ≡ false) (λ rest. StartsWith is_tilde symbols.now rest.now) }
+    ensures front { MatchOption result (starts_with is_tilde symbols.now ≡ false)
+        (λ rest. StartsWith is_tilde symbols.now rest.now) }
     ensures rest { IfSome result (λ rest. AreSymbols setting.now.text.now rest.now) }
 {
     let (symbol, rest) = setting.first(symbols)?;
@@ -80,7 +86,9 @@ pub fn references<'a>(
     symbols: &'a [Symbol],
 ) -> Result<(Union, &'a [Symbol]), Stop>
     requires { AreSymbols setting.now.text.now symbols.now }
-    ensures gives { Gives {Y = (List Area × Bool) × List Symbol} (λ x. ((x.0.areas.items, x.0.lost), x.1.now)) result (option_map (λ f. (areas_of f.0, f.1)) (union_at (seen setting.now) symbols.now)) }
+    ensures gives { Gives {Y = (List Area × Bool) × List Symbol}
+        (λ x. ((x.0.areas.items, x.0.lost), x.1.now)) result
+        (option_map (λ f. (areas_of f.0, f.1)) (union_at (seen setting.now) symbols.now)) }
     ensures on_sheet { IfOk result (λ x. All IsOnSheet x.0.areas.items) }
     ensures rest { IfOk result (λ x. AreSymbols setting.now.text.now x.1.now) }
 {

@@ -97,7 +97,8 @@ pub fn sheet_of(
     symbol: Symbol,
 ) -> Result<Option<String>, AllocError>
     requires { IsInText setting.now.text.now symbol }
-    ensures { IfOk result (λ name. option_map string_bytes name ≡ sheet_of (seen setting.now) symbol) }
+    ensures { IfOk result (λ name. option_map string_bytes name
+        ≡ sheet_of (seen setting.now) symbol) }
 {
     match symbol.sign {
         Sign::Word | Sign::Quoted => sheet_name(alloc, setting.slice(symbol)),

@@ -132,7 +132,8 @@ pub fn narrow_power(a: u128, e: u32) -> Result<u128, Wide>
 
 /// `a` to the power `e`, where it is narrow.
 pub fn narrow_signed_power(a: i128, e: u32) -> Result<i128, Wide>
-    ensures { MatchResult result (λ r. (r ≡ int_pow a e) × IsNarrowWhole r) (λ _. IsNarrowWhole (int_pow a e) → ⊥) }
+    ensures { MatchResult result (λ r. (r ≡ int_pow a e) × IsNarrowWhole r)
+        (λ _. IsNarrowWhole (int_pow a e) → ⊥) }
 {
     match a.checked_pow(e) {
         Some(r) if r != i128::MIN => Ok(r),
@@ -142,7 +143,8 @@ pub fn narrow_signed_power(a: i128, e: u32) -> Result<i128, Wide>
 
 /// `a * b`, where it is narrow.
 pub fn narrow_signed_product(a: i128, b: i128) -> Result<i128, Wide>
-    ensures { MatchResult result (λ r. (r ≡ a *ℤ b) × IsNarrowWhole r) (λ _. IsNarrowWhole (a *ℤ b) → ⊥) }
+    ensures { MatchResult result (λ r. (r ≡ a *ℤ b) × IsNarrowWhole r)
+        (λ _. IsNarrowWhole (a *ℤ b) → ⊥) }
 {
     if is_short(a) && is_short(b) {
         Ok(short_product(a, b))
@@ -154,7 +156,8 @@ pub fn narrow_signed_product(a: i128, b: i128) -> Result<i128, Wide>
 /// `a * b`, where it is narrow, with a test whether it fits 128 bits.
 #[cold]
 fn long_product(a: i128, b: i128) -> Result<i128, Wide>
-    ensures { MatchResult result (λ r. (r ≡ a *ℤ b) × IsNarrowWhole r) (λ _. IsNarrowWhole (a *ℤ b) → ⊥) }
+    ensures { MatchResult result (λ r. (r ≡ a *ℤ b) × IsNarrowWhole r)
+        (λ _. IsNarrowWhole (a *ℤ b) → ⊥) }
 {
     match a.checked_mul(b) {
         Some(r) if r != i128::MIN => Ok(r),
@@ -165,14 +168,16 @@ fn long_product(a: i128, b: i128) -> Result<i128, Wide>
 /// `a * n`, where it is narrow.
 pub fn narrow_scaled(a: i128, n: u128) -> Result<i128, Wide>
     requires { n < 2 ^ 127 }
-    ensures { MatchResult result (λ r. (r ≡ a *ℤ pos n) × IsNarrowWhole r) (λ _. IsNarrowWhole (a *ℤ pos n) → ⊥) }
+    ensures { MatchResult result (λ r. (r ≡ a *ℤ pos n) × IsNarrowWhole r)
+        (λ _. IsNarrowWhole (a *ℤ pos n) → ⊥) }
 {
     narrow_signed_product(a, n as i128)
 }
 
 /// `a + b`, where it is narrow.
 pub fn narrow_sum(a: i128, b: i128) -> Result<i128, Wide>
-    ensures { MatchResult result (λ r. (r ≡ a +ℤ b) × IsNarrowWhole r) (λ _. IsNarrowWhole (a +ℤ b) → ⊥) }
+    ensures { MatchResult result (λ r. (r ≡ a +ℤ b) × IsNarrowWhole r)
+        (λ _. IsNarrowWhole (a +ℤ b) → ⊥) }
 {
     match a.checked_add(b) {
         Some(r) if r != i128::MIN => Ok(r),

@@ -74,7 +74,8 @@ impl Frac {
 
     /// `n / d`, of any signs. It is `None` where `d` is 0, and where the fraction does not fit in lowest terms.
     pub fn new(n: i128, d: i128) -> Option<Frac>
-        ensures { MatchOption result ((d ≡ pos 0) ⊎ ¬ (IsNarrow (whole_ℚ n /ℚ whole_ℚ d))) (λ f. (d ≢ pos 0) × (f ≡ whole_ℚ n /ℚ whole_ℚ d)) }
+        ensures { MatchOption result ((d ≡ pos 0) ⊎ ¬ (IsNarrow (whole_ℚ n /ℚ whole_ℚ d)))
+            (λ f. (d ≢ pos 0) × (f ≡ whole_ℚ n /ℚ whole_ℚ d)) }
     {
         match Parts::new(n, d) {
             Some(parts) => Some(Frac { parts }),
@@ -124,7 +125,8 @@ impl Frac {
     /// The sum. It is `Wide` where the numerators over the least common multiple of the denominators, their sum,
     /// or the sum in lowest terms do not fit.
     pub fn add(self, other: Frac) -> Result<Frac, Wide>
-        ensures { MatchResult result (λ f. (f ≡ self +ℚ other) × IsNarrowSum self other) (λ _. ¬ (IsNarrowSum self other)) }
+        ensures { MatchResult result (λ f. (f ≡ self +ℚ other) × IsNarrowSum self other)
+            (λ _. ¬ (IsNarrowSum self other)) }
     {
         match self.parts.add(other.parts) {
             Ok(parts) => Ok(Frac { parts }),
@@ -134,14 +136,16 @@ impl Frac {
 
     /// The difference: the sum with the other's sign turned.
     pub fn sub(self, other: Frac) -> Result<Frac, Wide>
-        ensures { MatchResult result (λ f. (f ≡ self -ℚ other) × IsNarrowSum self (neg_ℚ other)) (λ _. ¬ (IsNarrowSum self (neg_ℚ other))) }
+        ensures { MatchResult result (λ f. (f ≡ self -ℚ other) × IsNarrowSum self (neg_ℚ other))
+            (λ _. ¬ (IsNarrowSum self (neg_ℚ other))) }
     {
         self.add(other.neg())
     }
 
     /// The product. It is `Wide` exactly where it does not fit in lowest terms.
     pub fn mul(self, other: Frac) -> Result<Frac, Wide>
-        ensures { MatchResult result (λ f. (f ≡ self *ℚ other) × IsNarrow (self *ℚ other)) (λ _. ¬ (IsNarrow (self *ℚ other))) }
+        ensures { MatchResult result (λ f. (f ≡ self *ℚ other) × IsNarrow (self *ℚ other))
+            (λ _. ¬ (IsNarrow (self *ℚ other))) }
     {
         match self.parts.mul(other.parts) {
             Ok(parts) => Ok(Frac { parts }),
@@ -152,7 +156,8 @@ impl Frac {
     /// The quotient. It is `Wide` exactly where it does not fit in lowest terms.
     pub fn div(self, other: Frac) -> Result<Frac, Wide>
         requires { other ≢ zero_ℚ }
-        ensures { MatchResult result (λ f. (f ≡ self /ℚ other) × IsNarrow (self /ℚ other)) (λ _. ¬ (IsNarrow (self /ℚ other))) }
+        ensures { MatchResult result (λ f. (f ≡ self /ℚ other) × IsNarrow (self /ℚ other))
+            (λ _. ¬ (IsNarrow (self /ℚ other))) }
     {
         self.mul(other.inverse())
     }
@@ -172,7 +177,8 @@ impl Frac {
         requires low { negsuc 999 ≤ℤ exponent }
         requires high { exponent ≤ℤ pos 1000 }
         requires other_than_zero { exponent <ℤ pos 0 → self ≢ zero_ℚ }
-        ensures { MatchResult result (λ f. (f ≡ power_ℚ self exponent) × IsNarrow (power_ℚ self exponent)) (λ _. ¬ (IsNarrow (power_ℚ self exponent))) }
+        ensures { MatchResult result (λ f. (f ≡ power_ℚ self exponent)
+            × IsNarrow (power_ℚ self exponent)) (λ _. ¬ (IsNarrow (power_ℚ self exponent))) }
     {
         let times = exponent.unsigned_abs();
         if exponent < 0 {
@@ -184,7 +190,8 @@ impl Frac {
 
     /// The product of it by itself.
     fn power_of_times(self, times: u32) -> Result<Frac, Wide>
-        ensures { MatchResult result (λ f. (f ≡ repeated self times) × IsNarrow (repeated self times)) (λ _. ¬ (IsNarrow (repeated self times))) }
+        ensures { MatchResult result (λ f. (f ≡ repeated self times)
+            × IsNarrow (repeated self times)) (λ _. ¬ (IsNarrow (repeated self times))) }
     {
         match self.parts.power(times) {
             Ok(parts) => Ok(Frac { parts }),

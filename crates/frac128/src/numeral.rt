@@ -92,14 +92,16 @@ fn ends(bytes: &[u8]) -> bool
 
 /// The parts of the numeral that a text spells.
 pub fn split(text: &[u8]) -> Option<Spelled<'_>>
-    ensures digits { IfSome result (λ n. AllDigits 10 n.before.now × AllDigits 10 n.behind.now × AllDigits 10 n.exponent.now) }
-    ensures parts { MatchOption result (reading text.now ≡ None) (λ n. reading text.now ≡ Some (record {
-      negative = n.negative;
-      before = n.before.now;
-      behind = n.behind.now;
-      exponent = signed n.exponent_negative (digits_value 10 n.exponent.now);
-      percent = n.percent;
-    })) }
+    ensures digits { IfSome result (λ n. AllDigits 10 n.before.now
+        × AllDigits 10 n.behind.now × AllDigits 10 n.exponent.now) }
+    ensures parts { MatchOption result (reading text.now ≡ None)
+        (λ n. reading text.now ≡ Some (record {
+          negative = n.negative;
+          before = n.before.now;
+          behind = n.behind.now;
+          exponent = signed n.exponent_negative (digits_value 10 n.exponent.now);
+          percent = n.percent;
+        })) }
 {
     let (negative, rest) = split_sign(text);
     let (before, rest) = split_digits(rest);

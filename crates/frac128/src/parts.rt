@@ -64,7 +64,8 @@ impl Parts {
     /// A fraction of a sign and two magnitudes, unless it is not narrow in lowest terms.
     fn in_lowest_terms(negative: bool, n: u128, d: u128) -> Option<Parts>
         requires { 0 < d }
-        ensures { MatchOption result (HasNarrow (record { num = signed negative n; den = d }) → ⊥) (λ f. IsNarrowPair f × IsSame f (record { num = signed negative n; den = d })) }
+        ensures { MatchOption result (HasNarrow (record { num = signed negative n; den = d }) → ⊥)
+            (λ f. IsNarrowPair f × IsSame f (record { num = signed negative n; den = d })) }
     {
         const LIMIT: u128 = 1 << 127;
         let common = gcd(n, d);
@@ -144,7 +145,8 @@ impl Parts {
     fn mul_whole(left: i128, right: i128) -> Result<Parts, Wide>
         requires left { IsNarrowWhole left }
         requires right { IsNarrowWhole right }
-        ensures { MatchResult result (λ f. (f ≡ record { num = left *ℤ right; den = 1 }) × IsNarrowWhole (left *ℤ right)) (λ _. ¬ (IsNarrowWhole (left *ℤ right))) }
+        ensures { MatchResult result (λ f. (f ≡ record { num = left *ℤ right; den = 1 })
+            × IsNarrowWhole (left *ℤ right)) (λ _. ¬ (IsNarrowWhole (left *ℤ right))) }
     {
         let num = narrow_signed_product(left, right)?;
         Ok(Parts { num, den: 1 })
@@ -191,7 +193,8 @@ impl Parts {
     fn add_whole(left: i128, right: i128) -> Result<Parts, Wide>
         requires left { IsNarrowWhole left }
         requires right { IsNarrowWhole right }
-        ensures { MatchResult result (λ f. (f ≡ record { num = left +ℤ right; den = 1 }) × IsNarrowWhole (left +ℤ right)) (λ _. ¬ (IsNarrowWhole (left +ℤ right))) }
+        ensures { MatchResult result (λ f. (f ≡ record { num = left +ℤ right; den = 1 })
+            × IsNarrowWhole (left +ℤ right)) (λ _. ¬ (IsNarrowWhole (left +ℤ right))) }
     {
         let num = narrow_sum(left, right)?;
         Ok(Parts { num, den: 1 })

@@ -18,7 +18,8 @@ use crate::significand::{EXPONENT_CAP, exponent, significand, with_zeros};
 /// `n / d`, where it is narrow.
 fn quotient(n: i128, d: i128) -> Option<Frac>
     requires { d ≢ pos 0 }
-    ensures { MatchOption result (¬ (IsNarrow (whole_ℚ n /ℚ whole_ℚ d))) (λ f. (f ≡ whole_ℚ n /ℚ whole_ℚ d) × IsNarrow f) }
+    ensures { MatchOption result (¬ (IsNarrow (whole_ℚ n /ℚ whole_ℚ d)))
+        (λ f. (f ≡ whole_ℚ n /ℚ whole_ℚ d) × IsNarrow f) }
 {
     let number = Frac::new(n, d)?;
     let _narrow = number.num();
@@ -100,7 +101,8 @@ fn number_of(spelled: Spelled<'_>) -> Option<Frac>
       negative = spelled.entry.negative;
       before = spelled.entry.before.now;
       behind = spelled.entry.behind.now;
-      exponent = signed spelled.entry.exponent_negative (digits_value 10 spelled.entry.exponent.now);
+      exponent = signed spelled.entry.exponent_negative
+          (digits_value 10 spelled.entry.exponent.now);
       percent = spelled.entry.percent;
     } in MatchOption result (¬ (IsNarrowNumeral n)) (λ f. IsNarrowNumeral n × (f ≡ value n)) }
 {
@@ -114,10 +116,14 @@ impl Frac {
     /// The value of a numeral: an optional sign; digits with or without a point among them or at an end;
     /// an optional exponent behind `e` or `E`; and an optional `%`, which divides by 100. There are no blanks in it.
     pub fn read(text: &str) -> Result<Frac, NumeralFault>
-        ensures ok { IfOk result (λ f. (n : Numeral) × (Spells text.now n × IsNarrowNumeral n × (f ≡ value n))) }
-        ensures read { (n : Numeral) → Spells text.now n → IsNarrowNumeral n → result ≡ Ok (value n) }
-        ensures not_numeral { (result ≡ Err NumeralFault.NotNumeral) ↔ ((n : Numeral) → ¬ (Spells text.now n)) }
-        ensures too_wide { (result ≡ Err NumeralFault.TooWide) ↔ ((n : Numeral) × (Spells text.now n × ¬ (IsNarrowNumeral n))) }
+        ensures ok { IfOk result (λ f. (n : Numeral)
+            × (Spells text.now n × IsNarrowNumeral n × (f ≡ value n))) }
+        ensures read { (n : Numeral) → Spells text.now n
+            → IsNarrowNumeral n → result ≡ Ok (value n) }
+        ensures not_numeral { (result ≡ Err NumeralFault.NotNumeral)
+            ↔ ((n : Numeral) → ¬ (Spells text.now n)) }
+        ensures too_wide { (result ≡ Err NumeralFault.TooWide)
+            ↔ ((n : Numeral) × (Spells text.now n × ¬ (IsNarrowNumeral n))) }
     {
         match split(text.as_bytes()) {
             None => Err(NumeralFault::NotNumeral),

@@ -21,7 +21,8 @@ pub const EXPONENT_CAP: u128 = 1 << 70;
 
 /// `n` times 10 to the power `zeros`, where that is narrow.
 pub fn with_zeros(n: u128, zeros: usize) -> Option<u128>
-    ensures { MatchOption result (2 ^ 127 ≤ n * 10 ^ zeros) (λ r. (r ≡ n * 10 ^ zeros) × (r < 2 ^ 127)) }
+    ensures { MatchOption result (2 ^ 127 ≤ n * 10 ^ zeros)
+        (λ r. (r ≡ n * 10 ^ zeros) × (r < 2 ^ 127)) }
 {
     if n == 0 {
         return Some(0);
@@ -40,7 +41,8 @@ fn with_digit(so_far: Trimmed, digit: u8) -> Option<Trimmed>
     requires digit { IsAsciiDigit digit }
     requires room { so_far.zeros + 1 < 2 ^ 64 }
     requires narrow { so_far.number < 2 ^ 127 }
-    ensures { MatchOption result (2 ^ 127 ≤ (with_digit so_far digit).number) (λ r. (r ≡ with_digit so_far digit) × (r.number < 2 ^ 127)) }
+    ensures { MatchOption result (2 ^ 127 ≤ (with_digit so_far digit).number)
+        (λ r. (r ≡ with_digit so_far digit) × (r.number < 2 ^ 127)) }
 {
     if digit == b'0' {
         let zeros = if so_far.number == 0 {
@@ -65,7 +67,8 @@ fn with_digits(start: Trimmed, digits: &[u8]) -> Option<Trimmed>
     requires digits { AllDigits 10 digits.now }
     requires room { start.zeros + length digits.now < 2 ^ 64 }
     requires narrow { start.number < 2 ^ 127 }
-    ensures value { MatchOption result (2 ^ 127 ≤ (with_digits start digits.now).number) (λ r. (r ≡ with_digits start digits.now) × (r.number < 2 ^ 127)) }
+    ensures value { MatchOption result (2 ^ 127 ≤ (with_digits start digits.now).number)
+        (λ r. (r ≡ with_digits start digits.now) × (r.number < 2 ^ 127)) }
     ensures zeros { IfSome result (λ r. r.zeros ≤ start.zeros + length digits.now) }
 {
     let mut so_far = start;
@@ -80,8 +83,10 @@ fn with_digits(start: Trimmed, digits: &[u8]) -> Option<Trimmed>
 pub fn significand(before: &[u8], behind: &[u8]) -> Option<Trimmed>
     requires before { AllDigits 10 before.now }
     requires behind { AllDigits 10 behind.now }
-    ensures { let ds = before.now ++ behind.now in MatchOption result (2 ^ 127 ≤ digits_value 10 (significant ds)) (λ t.
-        (t.number ≡ digits_value 10 (significant ds)) × (t.number < 2 ^ 127) × (digits_value 10 ds ≡ t.number * 10 ^ t.zeros) × (t.zeros ≤ length ds)) }
+    ensures { let ds = before.now
+        ++ behind.now in MatchOption result (2 ^ 127 ≤ digits_value 10 (significant ds)) (λ t.
+        (t.number ≡ digits_value 10 (significant ds)) × (t.number < 2 ^ 127)
+        × (digits_value 10 ds ≡ t.number * 10 ^ t.zeros) × (t.zeros ≤ length ds)) }
 {
     let nothing = Trimmed {
         number: 0,

@@ -21,7 +21,8 @@ pub(crate) fn refers_to_circle(
     circular: &[Cell],
 ) -> Result<bool, Memory>
     requires { AreCircular (book_of book.now) adj.now circular.now }
-    ensures { IfOk result (λ found. found ≡ refers_to_circle (book_of book.now) (leaf_in adj.now) tree.now) }
+    ensures { IfOk result (λ found. found
+        ≡ refers_to_circle (book_of book.now) (leaf_in adj.now) tree.now) }
 {
     let areas = tree.references(alloc)?;
     Ok(is_any_within(areas.as_slice(), circular))

@@ -43,7 +43,16 @@ impl Model for Forms {
 
     ghost Value = { Kept };
 
-    ghost coded = { code_by (List Cell × (List (ℕ × Tree) × (FinMap cell_cmp CellForm × FinMap nat_cmp CellForm))) (coded× (coded_list coded_cell) (coded× (coded_list (coded× coded_ℕ (code_by (List Mark) (Prim.hlevel codes) to_marks from_marks back))) (coded× (code coded_cell (Prim.hlevel codes)) (code coded_ℕ (Prim.hlevel codes))))) (λ k. (k.decisions, (k.sides, (k.table.cells, k.table.sides)))) (λ p. record { decisions = p.0; sides = p.1.0; table = record { cells = p.1.1.0; sides = p.1.1.1 } }) (λ _. refl) };
+    ghost coded = { code_by (List Cell
+        × (List (ℕ × Tree) × (FinMap cell_cmp CellForm × FinMap nat_cmp CellForm)))
+        (coded× (coded_list coded_cell) (coded× (coded_list
+        (coded× coded_ℕ (code_by (List Mark) (Prim.hlevel codes) to_marks from_marks back)))
+        (coded× (code coded_cell (Prim.hlevel codes)) (code coded_ℕ (Prim.hlevel codes)))))
+        (λ k. (k.decisions, (k.sides, (k.table.cells, k.table.sides)))) (λ p. record {
+          decisions = p.0;
+          sides = p.1.0;
+          table = record { cells = p.1.1.0; sides = p.1.1.1 };
+        }) (λ _. refl) };
 
     ghost view = { λ f. record { decisions = f.adj; sides = f.sides.items; table = f.table } };
 
@@ -54,7 +63,8 @@ impl Forms {
     /// No form is kept yet.
     pub fn open(alloc: Global, adj: &Adj, sides: Vec<(u16, Expr)>) -> Result<Forms, Memory>
         requires numbers { HaveOwnNumbers sides.items }
-        ensures { IfOk result (λ forms. forms ≡ record { decisions = adj.now; sides = sides.items; table = no_forms }) }
+        ensures { IfOk result (λ forms. forms
+            ≡ record { decisions = adj.now; sides = sides.items; table = no_forms }) }
     {
         Ok(Forms {
             alloc,

@@ -41,10 +41,13 @@ pub(crate) fn settle<L: Ledger>(
     requires references { AreReferencesOf deps.now (book_of book.now) }
     requires numbers { HaveOwnNumbers sides.now }
     requires kept { AreKept (book_of book.now) (kept_in adj.now sides.now table.old) }
-    ensures goes { Goes (book_of book.now) (kept_in adj.now sides.now table.old) (kept_in adj.now sides.now table.new) }
-    ensures settled { OnOk result (AllAreKept (book_of book.now) (kept_in adj.now sides.now table.new)) }
+    ensures goes { Goes (book_of book.now) (kept_in adj.now sides.now table.old)
+        (kept_in adj.now sides.now table.new) }
+    ensures settled { OnOk result
+        (AllAreKept (book_of book.now) (kept_in adj.now sides.now table.new)) }
     ensures counted { steps.old ≤ steps.new }
-    ensures bound { steps.new ≤ steps.old + unmade (book_of book.now) (kept_in adj.now sides.now table.old) }
+    ensures bound { steps.new
+        ≤ steps.old + unmade (book_of book.now) (kept_in adj.now sides.now table.old) }
 {
     let leaves = set_of(alloc, adj.cells())?;
     let tour = deps.tour(alloc, &leaves)?;
@@ -88,10 +91,13 @@ fn settle_places<L: Ledger>(
     requires free { HasFree (book_of book.now) (leaf_in adj.now) (λ a. ⊤) order.now }
     requires numbers { HaveOwnNumbers sides.now }
     requires kept { AreKept (book_of book.now) (kept_in adj.now sides.now table.old) }
-    ensures goes { Goes (book_of book.now) (kept_in adj.now sides.now table.old) (kept_in adj.now sides.now table.new) }
-    ensures settled { OnOk result (AllAreKept (book_of book.now) (kept_in adj.now sides.now table.new)) }
+    ensures goes { Goes (book_of book.now) (kept_in adj.now sides.now table.old)
+        (kept_in adj.now sides.now table.new) }
+    ensures settled { OnOk result
+        (AllAreKept (book_of book.now) (kept_in adj.now sides.now table.new)) }
     ensures counted { steps.old ≤ steps.new }
-    ensures bound { steps.new ≤ steps.old + unmade (book_of book.now) (kept_in adj.now sides.now table.old) }
+    ensures bound { steps.new
+        ≤ steps.old + unmade (book_of book.now) (kept_in adj.now sides.now table.old) }
 {
     settle_cells(alloc, book, adj, sides, circular, order, table, steps)?;
     settle_sides(alloc, book, adj, sides, circular, table, steps)?;
@@ -114,11 +120,16 @@ fn settle_cells<L: Ledger>(
     requires free { HasFree (book_of book.now) (leaf_in adj.now) (λ a. ⊤) order.now }
     requires numbers { HaveOwnNumbers sides.now }
     requires kept { AreKept (book_of book.now) (kept_in adj.now sides.now table.old) }
-    ensures goes { Goes (book_of book.now) (kept_in adj.now sides.now table.old) (kept_in adj.now sides.now table.new) }
-    ensures there { OnOk result (AreThere (book_of book.now) (kept_in adj.now sides.now table.new)) }
+    ensures goes { Goes (book_of book.now) (kept_in adj.now sides.now table.old)
+        (kept_in adj.now sides.now table.new) }
+    ensures there { OnOk result
+        (AreThere (book_of book.now) (kept_in adj.now sides.now table.new)) }
     ensures counted { steps.old ≤ steps.new }
-    ensures ok { OnOk result (steps.new + unmade (book_of book.now) (kept_in adj.now sides.now table.new) ≤ steps.old + unmade (book_of book.now) (kept_in adj.now sides.now table.old)) }
-    ensures bound { steps.new ≤ steps.old + unmade (book_of book.now) (kept_in adj.now sides.now table.old) }
+    ensures ok { OnOk result
+        (steps.new + unmade (book_of book.now) (kept_in adj.now sides.now table.new)
+        ≤ steps.old + unmade (book_of book.now) (kept_in adj.now sides.now table.old)) }
+    ensures bound { steps.new
+        ≤ steps.old + unmade (book_of book.now) (kept_in adj.now sides.now table.old) }
 {
     settle_circular(book, adj, sides, circular, table)?;
     settle_order(alloc, book, adj, sides, order, table, steps)?;
@@ -133,11 +144,14 @@ fn settle_circular(
     cells: &[Cell],
     table: &mut FormTable,
 ) -> Result<(), Memory>
-    requires circular { (p : ℕ) (a : Cell) → slice_get cells.now p ≡ Some a → is_circular (book_of book.now) (leaf_in adj.now) a ≡ true }
+    requires circular { (p : ℕ) (a : Cell) → slice_get cells.now p ≡ Some a
+        → is_circular (book_of book.now) (leaf_in adj.now) a ≡ true }
     requires numbers { HaveOwnNumbers sides.now }
     requires kept { AreKept (book_of book.now) (kept_in adj.now sides.now table.old) }
-    ensures goes { Goes (book_of book.now) (kept_in adj.now sides.now table.old) (kept_in adj.now sides.now table.new) }
-    ensures there { OnOk result ((p : ℕ) (a : Cell) → slice_get cells.now p ≡ Some a → IsSome (form_at table.new (place.Cell a))) }
+    ensures goes { Goes (book_of book.now) (kept_in adj.now sides.now table.old)
+        (kept_in adj.now sides.now table.new) }
+    ensures there { OnOk result ((p : ℕ) (a : Cell) → slice_get cells.now p ≡ Some a
+        → IsSome (form_at table.new (place.Cell a))) }
 {
     for &cell in cells {
         settle_circular_cell(book, adj, sides, cell, table)?;
@@ -156,7 +170,8 @@ fn settle_circular_cell(
     requires circular { is_circular (book_of book.now) (leaf_in adj.now) cell ≡ true }
     requires numbers { HaveOwnNumbers sides.now }
     requires kept { AreKept (book_of book.now) (kept_in adj.now sides.now table.old) }
-    ensures goes { Goes (book_of book.now) (kept_in adj.now sides.now table.old) (kept_in adj.now sides.now table.new) }
+    ensures goes { Goes (book_of book.now) (kept_in adj.now sides.now table.old)
+        (kept_in adj.now sides.now table.new) }
     ensures there { OnOk result (IsSome (form_at table.new (place.Cell cell))) }
 {
     let place = Place::Cell(cell);
@@ -179,11 +194,16 @@ fn settle_order<L: Ledger>(
     requires order { IsOrder (book_of book.now) (leaf_in adj.now) order.now }
     requires numbers { HaveOwnNumbers sides.now }
     requires kept { AreKept (book_of book.now) (kept_in adj.now sides.now table.old) }
-    ensures goes { Goes (book_of book.now) (kept_in adj.now sides.now table.old) (kept_in adj.now sides.now table.new) }
-    ensures there { OnOk result ((p : ℕ) (a : Cell) → slice_get order.now p ≡ Some a → IsThere (book_of book.now) (kept_in adj.now sides.now table.new) (place.Cell a)) }
+    ensures goes { Goes (book_of book.now) (kept_in adj.now sides.now table.old)
+        (kept_in adj.now sides.now table.new) }
+    ensures there { OnOk result ((p : ℕ) (a : Cell) → slice_get order.now p ≡ Some a
+        → IsThere (book_of book.now) (kept_in adj.now sides.now table.new) (place.Cell a)) }
     ensures counted { steps.old ≤ steps.new }
-    ensures ok { OnOk result (steps.new + unmade (book_of book.now) (kept_in adj.now sides.now table.new) ≤ steps.old + unmade (book_of book.now) (kept_in adj.now sides.now table.old)) }
-    ensures bound { steps.new ≤ steps.old + unmade (book_of book.now) (kept_in adj.now sides.now table.old) }
+    ensures ok { OnOk result
+        (steps.new + unmade (book_of book.now) (kept_in adj.now sides.now table.new)
+        ≤ steps.old + unmade (book_of book.now) (kept_in adj.now sides.now table.old)) }
+    ensures bound { steps.new
+        ≤ steps.old + unmade (book_of book.now) (kept_in adj.now sides.now table.old) }
 {
     for &cell in order {
         settle_cell(alloc, book, adj, sides, cell, table, steps)?;
@@ -202,14 +222,21 @@ fn settle_cell<L: Ledger>(
     steps: &mut Steps<L>,
 ) -> Result<(), Memory>
     requires free { is_circular (book_of book.now) (leaf_in adj.now) cell ≡ false }
-    requires ready { numbered_in adj.now cell ≡ None → (b : Cell) → refers (entry (book_of book.now) cell) b ≡ true → IsThere (book_of book.now) (kept_in adj.now sides.now table.old) (place.Cell b) }
+    requires ready { numbered_in adj.now cell ≡ None
+        → (b : Cell) → refers (entry (book_of book.now) cell) b ≡ true
+        → IsThere (book_of book.now) (kept_in adj.now sides.now table.old) (place.Cell b) }
     requires numbers { HaveOwnNumbers sides.now }
     requires kept { AreKept (book_of book.now) (kept_in adj.now sides.now table.old) }
-    ensures goes { Goes (book_of book.now) (kept_in adj.now sides.now table.old) (kept_in adj.now sides.now table.new) }
-    ensures there { OnOk result (IsThere (book_of book.now) (kept_in adj.now sides.now table.new) (place.Cell cell)) }
+    ensures goes { Goes (book_of book.now) (kept_in adj.now sides.now table.old)
+        (kept_in adj.now sides.now table.new) }
+    ensures there { OnOk result
+        (IsThere (book_of book.now) (kept_in adj.now sides.now table.new) (place.Cell cell)) }
     ensures counted { steps.old ≤ steps.new }
-    ensures ok { OnOk result (steps.new + unmade (book_of book.now) (kept_in adj.now sides.now table.new) ≤ steps.old + unmade (book_of book.now) (kept_in adj.now sides.now table.old)) }
-    ensures bound { steps.new ≤ steps.old + unmade (book_of book.now) (kept_in adj.now sides.now table.old) }
+    ensures ok { OnOk result
+        (steps.new + unmade (book_of book.now) (kept_in adj.now sides.now table.new)
+        ≤ steps.old + unmade (book_of book.now) (kept_in adj.now sides.now table.old)) }
+    ensures bound { steps.new
+        ≤ steps.old + unmade (book_of book.now) (kept_in adj.now sides.now table.old) }
 {
     let place = Place::Cell(cell);
     if adj.find(cell).is_some() {
@@ -238,11 +265,16 @@ fn settle_sides<L: Ledger>(
     requires cells { AreThere (book_of book.now) (kept_in adj.now sides.now table.old) }
     requires numbers { HaveOwnNumbers sides.now }
     requires kept { AreKept (book_of book.now) (kept_in adj.now sides.now table.old) }
-    ensures goes { Goes (book_of book.now) (kept_in adj.now sides.now table.old) (kept_in adj.now sides.now table.new) }
-    ensures there { OnOk result ((p : ℕ) (s : ℕ × Tree) → slice_get sides.now p ≡ Some s → IsSome (form_at table.new (place.Side s.0))) }
+    ensures goes { Goes (book_of book.now) (kept_in adj.now sides.now table.old)
+        (kept_in adj.now sides.now table.new) }
+    ensures there { OnOk result ((p : ℕ) (s : ℕ × Tree) → slice_get sides.now p ≡ Some s
+        → IsSome (form_at table.new (place.Side s.0))) }
     ensures counted { steps.old ≤ steps.new }
-    ensures ok { OnOk result (steps.new + unmade (book_of book.now) (kept_in adj.now sides.now table.new) ≤ steps.old + unmade (book_of book.now) (kept_in adj.now sides.now table.old)) }
-    ensures bound { steps.new ≤ steps.old + unmade (book_of book.now) (kept_in adj.now sides.now table.old) }
+    ensures ok { OnOk result
+        (steps.new + unmade (book_of book.now) (kept_in adj.now sides.now table.new)
+        ≤ steps.old + unmade (book_of book.now) (kept_in adj.now sides.now table.old)) }
+    ensures bound { steps.new
+        ≤ steps.old + unmade (book_of book.now) (kept_in adj.now sides.now table.old) }
 {
     for side in sides {
         settle_side(
@@ -269,11 +301,15 @@ fn settle_side<L: Ledger>(
     requires cells { AreThere (book_of book.now) (kept_in adj.now sides.now table.old) }
     requires numbers { HaveOwnNumbers sides.now }
     requires kept { AreKept (book_of book.now) (kept_in adj.now sides.now table.old) }
-    ensures goes { Goes (book_of book.now) (kept_in adj.now sides.now table.old) (kept_in adj.now sides.now table.new) }
+    ensures goes { Goes (book_of book.now) (kept_in adj.now sides.now table.old)
+        (kept_in adj.now sides.now table.new) }
     ensures there { OnOk result (IsSome (form_at table.new (place.Side number))) }
     ensures counted { steps.old ≤ steps.new }
-    ensures ok { OnOk result (steps.new + unmade (book_of book.now) (kept_in adj.now sides.now table.new) ≤ steps.old + unmade (book_of book.now) (kept_in adj.now sides.now table.old)) }
-    ensures bound { steps.new ≤ steps.old + unmade (book_of book.now) (kept_in adj.now sides.now table.old) }
+    ensures ok { OnOk result
+        (steps.new + unmade (book_of book.now) (kept_in adj.now sides.now table.new)
+        ≤ steps.old + unmade (book_of book.now) (kept_in adj.now sides.now table.old)) }
+    ensures bound { steps.new
+        ≤ steps.old + unmade (book_of book.now) (kept_in adj.now sides.now table.old) }
 {
     let place = Place::Side(number);
     if table.get(place).is_some() {
@@ -302,11 +338,15 @@ fn extract_stale<L: Ledger>(
     requires forms { HasForms (book_of book.now) (numbered_in adj.now) table.old tree.now }
     requires numbers { HaveOwnNumbers sides.now }
     requires kept { AreKept (book_of book.now) (kept_in adj.now sides.now table.old) }
-    ensures goes { Goes (book_of book.now) (kept_in adj.now sides.now table.old) (kept_in adj.now sides.now table.new) }
+    ensures goes { Goes (book_of book.now) (kept_in adj.now sides.now table.old)
+        (kept_in adj.now sides.now table.new) }
     ensures there { OnOk result (IsSome (form_at table.new place)) }
     ensures counted { steps.old ≤ steps.new }
-    ensures ok { OnOk result (steps.new + unmade (book_of book.now) (kept_in adj.now sides.now table.new) ≤ steps.old + unmade (book_of book.now) (kept_in adj.now sides.now table.old)) }
-    ensures bound { steps.new ≤ steps.old + unmade (book_of book.now) (kept_in adj.now sides.now table.old) }
+    ensures ok { OnOk result
+        (steps.new + unmade (book_of book.now) (kept_in adj.now sides.now table.new)
+        ≤ steps.old + unmade (book_of book.now) (kept_in adj.now sides.now table.old)) }
+    ensures bound { steps.new
+        ≤ steps.old + unmade (book_of book.now) (kept_in adj.now sides.now table.old) }
 {
     let form = form_of(alloc, book, adj, place, tree, table, steps)?;
     keep(book, adj, sides, place, form, table)
@@ -325,8 +365,11 @@ fn keep(
     requires form { form_of_place (book_of book.now) sides.now adj.now place ≡ Some form }
     requires numbers { HaveOwnNumbers sides.now }
     requires kept { AreKept (book_of book.now) (kept_in adj.now sides.now table.old) }
-    ensures goes { Goes (book_of book.now) (kept_in adj.now sides.now table.old) (kept_in adj.now sides.now table.new) }
-    ensures one { OnOk result (is_circular_place (book_of book.now) sides.now adj.now place ≡ false → unmade (book_of book.now) (kept_in adj.now sides.now table.old) ≡ unmade (book_of book.now) (kept_in adj.now sides.now table.new) + 1) }
+    ensures goes { Goes (book_of book.now) (kept_in adj.now sides.now table.old)
+        (kept_in adj.now sides.now table.new) }
+    ensures one { OnOk result (is_circular_place (book_of book.now) sides.now adj.now place ≡ false
+        → unmade (book_of book.now) (kept_in adj.now sides.now table.old)
+        ≡ unmade (book_of book.now) (kept_in adj.now sides.now table.new) + 1) }
     ensures there { OnOk result (IsSome (form_at table.new place)) }
 {
     table.put(place, form)?;

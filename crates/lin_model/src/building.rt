@@ -25,7 +25,8 @@ use std::alloc::Global;
 
 // The objective of the model: 0 where a value is to be reached, and where there is no objective.
 fn objective_left(alloc: Global, goal: Option<Goal>, objective: &Form) -> Result<Form, Memory>
-    ensures left { IfOk result (λ f. f ≡ objective_left (goal_or_greatest (option_map goal_of goal)) (form_or_zero (objective_where (option_map goal_of goal) objective.now))) }
+    ensures left { IfOk result (λ f. f ≡ objective_left (goal_or_greatest (option_map goal_of goal))
+        (form_or_zero (objective_where (option_map goal_of goal) objective.now))) }
     ensures form { IsForm objective.now }
 {
     let _terms = objective.terms();
@@ -55,7 +56,8 @@ fn all_rows(
 ) -> Result<Vec<FormRow>, BuildStop>
     requires one_each { length sides.now ≡ length of.now.rows }
     requires stated { IsStated (statement_of of.now objective.now sides.now) }
-    ensures built { AreBuilt (rows_left (statement_of of.now objective.now sides.now)) (result_map_both (λ rows. rows.items) (λ stop. stop) result) }
+    ensures built { AreBuilt (rows_left (statement_of of.now objective.now sides.now))
+        (result_map_both (λ rows. rows.items) (λ stop. stop) result) }
     ensures forms { IfOk result (λ _. AllByRecursion AreForms sides.now) }
 {
     let mut rows = rows_left(alloc, of.rows(), sides)?;

@@ -62,7 +62,15 @@ impl Model for Conditions {
 
     ghost Value = { Stated };
 
-    ghost view = { λ c. record { decisions = c.decisions; goal = option_map goal_of c.goal; rows = c.rows.items; whole = c.whole.items; binary = c.binary.items; explicit = c.explicit.items; not_negative = c.not_negative } };
+    ghost view = { λ c. record {
+      decisions = c.decisions;
+      goal = option_map goal_of c.goal;
+      rows = c.rows.items;
+      whole = c.whole.items;
+      binary = c.binary.items;
+      explicit = c.explicit.items;
+      not_negative = c.not_negative;
+    } };
 }
 
 impl Conditions {
@@ -75,7 +83,15 @@ impl Conditions {
         explicit: Vec<u16>,
         not_negative: bool,
     ) -> Conditions
-        ensures { result ≡ record { decisions = decisions; goal = option_map goal_of goal; rows = rows.items; whole = whole.items; binary = binary.items; explicit = explicit.items; not_negative = not_negative } }
+        ensures { result ≡ record {
+          decisions = decisions;
+          goal = option_map goal_of goal;
+          rows = rows.items;
+          whole = whole.items;
+          binary = binary.items;
+          explicit = explicit.items;
+          not_negative = not_negative;
+        } }
     {
         Conditions {
             decisions,

@@ -21,7 +21,8 @@ fn are_below(list: &[u16], n: u16) -> bool
 
 // Whether the left side is one of the first n decisions, where the row says that it is a decision.
 fn is_own(row: &Condition, left: &Form, n: u16) -> bool
-    ensures { IsTrue result ↔ ((right : AffineForm) → IsOwn n (constraint_of row.now (left.now, right))) }
+    ensures { IsTrue result
+        ↔ ((right : AffineForm) → IsOwn n (constraint_of row.now (left.now, right))) }
 {
     match row.own() {
         None => true,
@@ -66,7 +67,8 @@ fn rows_fit(rows: &[Condition], sides: &[(Form, Form)], n: u16) -> bool
 
 // Whether the objective does, where there is one.
 fn objective_fits(goal: Option<Goal>, objective: &Form, n: u16) -> bool
-    ensures { IsTrue result ↔ ((f : AffineForm) → objective_where (option_map goal_of goal) objective.now ≡ Some f → ReachTo f.terms n) }
+    ensures { IsTrue result ↔ ((f : AffineForm)
+        → objective_where (option_map goal_of goal) objective.now ≡ Some f → ReachTo f.terms n) }
 {
     match goal {
         None => true,

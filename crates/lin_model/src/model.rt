@@ -74,8 +74,20 @@ impl LinModel {
         whole: Vec<bool>,
         bounds: BoundBox,
     ) -> LinModel
-        requires valid { IsValid (record { goal = goal_of goal; objective = objective; rows = rows.items; whole = whole.items; bounds = bounds }) }
-        ensures { result ≡ record { goal = goal_of goal; objective = objective; rows = rows.items; whole = whole.items; bounds = bounds } }
+        requires valid { IsValid (record {
+          goal = goal_of goal;
+          objective = objective;
+          rows = rows.items;
+          whole = whole.items;
+          bounds = bounds;
+        }) }
+        ensures { result ≡ record {
+          goal = goal_of goal;
+          objective = objective;
+          rows = rows.items;
+          whole = whole.items;
+          bounds = bounds;
+        } }
     {
         LinModel {
             goal,

@@ -25,7 +25,8 @@ fn push_difference(
     right: &Form,
     rows: &mut Vec<FormRow>,
 ) -> Result<(), FormStop>
-    ensures { Pushed (turned_into (λ f. (f, relation_of relation) ∷ []) (subtracted left.now right.now)) rows.old.items rows.new.items result }
+    ensures { Pushed (turned_into (λ f. (f, relation_of relation) ∷ [])
+        (subtracted left.now right.now)) rows.old.items rows.new.items result }
 {
     match left.sub(alloc, right) {
         Ok(difference) => {
@@ -44,7 +45,8 @@ fn push_left(
     sides: &(Form, Form),
     rows: &mut Vec<FormRow>,
 ) -> Result<(), FormStop>
-    ensures pushed { Pushed (row_left (constraint_of row.now sides.now)) rows.old.items rows.new.items result }
+    ensures pushed { Pushed
+        (row_left (constraint_of row.now sides.now)) rows.old.items rows.new.items result }
     ensures forms { AreForms sides.now }
 {
     let left = &sides.0;
@@ -65,7 +67,8 @@ pub(crate) fn rows_left(
 ) -> Result<Vec<FormRow>, BuildStop>
     requires one_each { length sides.now ≡ length of.now }
     requires few { length of.now ≤ 256 }
-    ensures built { AreBuilt (map row_left (constraints of.now sides.now)) (result_map_both (λ rows. rows.items) (λ stop. stop) result) }
+    ensures built { AreBuilt (map row_left (constraints of.now sides.now))
+        (result_map_both (λ rows. rows.items) (λ stop. stop) result) }
     ensures forms { IfOk result (λ _. AllByRecursion AreForms sides.now) }
 {
     let mut rows = Vec::new(alloc);

@@ -60,7 +60,8 @@ fn columns(alloc: Global, splits: &[bool]) -> Result<Vec<(u16, Option<u16>)>, Me
 fn coefficients(alloc: Global, count: usize, terms: &[(u16, Frac)]) -> Result<Vec<Frac>, Memory>
     requires rising { RiseFrom 0 terms.now }
     requires below { ReachTo terms.now count }
-    ensures { IfOk result (λ v. (length v.items ≡ count) × ((i : ℕ) → i < count → at v.items i ≡ coefficient terms.now i)) }
+    ensures { IfOk result (λ v. (length v.items ≡ count)
+        × ((i : ℕ) → i < count → at v.items i ≡ coefficient terms.now i)) }
 {
     let mut all = vec![in alloc; Frac::zero(); count]?;
     for (decision, coefficient) in terms {
@@ -104,7 +105,8 @@ fn row(
 ) -> Result<Inequality, Memory>
     requires rising { RiseFrom 0 terms.now }
     requires below { ReachTo terms.now (length splits.now) }
-    ensures { IfOk result (λ r. r ≡ program_row splits.now (record { constant = number; terms = terms.now })) }
+    ensures { IfOk result (λ r. r
+        ≡ program_row splits.now (record { constant = number; terms = terms.now })) }
 {
     let coefficients = columns_of(alloc, splits, terms)?;
     Ok(Inequality::new(coefficients, number.neg()))
@@ -135,7 +137,8 @@ fn push_row(
     rows: &mut Vec<Inequality>,
 ) -> Result<(), Memory>
     requires below { ReachTo of.now.0.terms (length splits.now) }
-    ensures { OnOk result (rows.new.items ≡ rows.old.items ++ map (program_row splits.now) (limits_of_row of.now)) }
+    ensures { OnOk result (rows.new.items
+        ≡ rows.old.items ++ map (program_row splits.now) (limits_of_row of.now)) }
 {
     let form = of.form();
     match of.relation() {
@@ -163,7 +166,8 @@ fn push_rows(
     rows: &mut Vec<Inequality>,
 ) -> Result<(), Memory>
     requires below { All (λ r. ReachTo r.0.terms (length splits.now)) of.now }
-    ensures { OnOk result (rows.new.items ≡ rows.old.items ++ map (program_row splits.now) (flat_map limits_of_row of.now)) }
+    ensures { OnOk result (rows.new.items
+        ≡ rows.old.items ++ map (program_row splits.now) (flat_map limits_of_row of.now)) }
 {
     for one in of {
         push_row(alloc, splits, one, rows)?;
@@ -180,7 +184,8 @@ fn push_least(
     rows: &mut Vec<Inequality>,
 ) -> Result<(), Memory>
     requires below { decision < length splits.now }
-    ensures { OnOk result (rows.new.items ≡ rows.old.items ++ map (program_row splits.now) (limits_of_least decision bound)) }
+    ensures { OnOk result (rows.new.items
+        ≡ rows.old.items ++ map (program_row splits.now) (limits_of_least decision bound)) }
 {
     let Some(least) = bound else {
         return Ok(());
@@ -202,7 +207,8 @@ fn push_greatest(
     rows: &mut Vec<Inequality>,
 ) -> Result<(), Memory>
     requires below { decision < length splits.now }
-    ensures { OnOk result (rows.new.items ≡ rows.old.items ++ map (program_row splits.now) (limits_of_greatest decision bound)) }
+    ensures { OnOk result (rows.new.items
+        ≡ rows.old.items ++ map (program_row splits.now) (limits_of_greatest decision bound)) }
 {
     let Some(greatest) = bound else {
         return Ok(());
@@ -222,7 +228,8 @@ fn push_bounds(
     requires few { length splits.now ≤ 512 }
     requires least { length least.now ≡ length splits.now }
     requires greatest { length greatest.now ≡ length splits.now }
-    ensures { OnOk result (rows.new.items ≡ rows.old.items ++ map (program_row splits.now) (limits_of_bounds 0 least.now greatest.now)) }
+    ensures { OnOk result (rows.new.items ≡ rows.old.items
+        ++ map (program_row splits.now) (limits_of_bounds 0 least.now greatest.now)) }
 {
     for (decision, bound) in least.iter().enumerate() {
         push_least(alloc, splits, decision as u16, *bound, rows)?;

@@ -108,7 +108,8 @@ fn lowered_by(
 #[tactic(auto, using(crate::proofs::Rules::raising))]
 fn lowered_by_rows(rows: &[Condition], sides: &[(Form, Form)], decision: u16) -> Option<Frac>
     requires { length sides.now ≡ length rows.now }
-    ensures { result ≡ lowered None (flat_map (highs_in decision) (constraints rows.now sides.now)) }
+    ensures { result
+        ≡ lowered None (flat_map (highs_in decision) (constraints rows.now sides.now)) }
 {
     let mut greatest = None;
     for (place, row) in rows.iter().enumerate() {
@@ -242,7 +243,8 @@ fn all_least(
     sides: &[(Form, Form)],
 ) -> Result<Vec<Option<Frac>>, Memory>
     requires { length sides.now ≡ length of.now.rows }
-    ensures { IfOk result (λ v. v.items ≡ (linear (without_objective of.now sides.now)).bounds.least) }
+    ensures { IfOk result (λ v. v.items
+        ≡ (linear (without_objective of.now sides.now)).bounds.least) }
 {
     let mut all = Vec::new(alloc);
     for decision in 0..of.decisions() {
@@ -258,7 +260,8 @@ fn all_greatest(
     sides: &[(Form, Form)],
 ) -> Result<Vec<Option<Frac>>, Memory>
     requires { length sides.now ≡ length of.now.rows }
-    ensures { IfOk result (λ v. v.items ≡ (linear (without_objective of.now sides.now)).bounds.greatest) }
+    ensures { IfOk result (λ v. v.items
+        ≡ (linear (without_objective of.now sides.now)).bounds.greatest) }
 {
     let mut all = Vec::new(alloc);
     for decision in 0..of.decisions() {

@@ -47,11 +47,26 @@ impl Standard {
         constant: Frac,
         rows: Vec<Inequality>,
     ) -> Standard
-        requires regular { IsRegular (record { columns = columns.items; objective = objective.items; constant = constant; rows = rows.items }) }
-        requires cells { AreCells (record { columns = columns.items; objective = objective.items; constant = constant; rows = rows.items }) }
+        requires regular { IsRegular (record {
+          columns = columns.items;
+          objective = objective.items;
+          constant = constant;
+          rows = rows.items;
+        }) }
+        requires cells { AreCells (record {
+          columns = columns.items;
+          objective = objective.items;
+          constant = constant;
+          rows = rows.items;
+        }) }
         requires width { length objective.items ≤ 1024 }
         requires height { length rows.items ≤ 1538 }
-        ensures { result ≡ record { columns = columns.items; objective = objective.items; constant = constant; rows = rows.items } }
+        ensures { result ≡ record {
+          columns = columns.items;
+          objective = objective.items;
+          constant = constant;
+          rows = rows.items;
+        } }
     {
         Standard {
             columns,
@@ -71,7 +86,12 @@ impl Standard {
         requires regular { All (λ r. length r.coefficients ≡ length objective.items) rows.items }
         requires width { length objective.items ≤ 1024 }
         requires height { length rows.items ≤ 1538 }
-        ensures { IfOk result (λ s. s ≡ record { columns = single_columns (length objective.items); objective = objective.items; constant = constant; rows = rows.items }) }
+        ensures { IfOk result (λ s. s ≡ record {
+          columns = single_columns (length objective.items);
+          objective = objective.items;
+          constant = constant;
+          rows = rows.items;
+        }) }
     {
         let columns = own_columns(alloc, objective.len() as u16)?;
         Ok(Standard::new(columns, objective, constant, rows))

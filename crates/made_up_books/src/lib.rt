@@ -38,7 +38,8 @@ pub fn made_up(alloc: Global, size: u8) -> Result<Workbook, Memory>
 
 // The workbook of the sheet `gen`, without texts and names.
 fn blank(alloc: Global) -> Result<Workbook, Memory>
-    ensures { IfOk result (λ book. book ≡ record { sheets = sheet_name ∷ []; contents = empty; names = [] }) }
+    ensures { IfOk result (λ book. book
+        ≡ record { sheets = sheet_name ∷ []; contents = empty; names = [] }) }
 {
     let mut files = Vec::new(alloc);
     files.push(File::new(String::from_str(alloc, "gen")?, Vec::new(alloc)))?;

@@ -61,7 +61,8 @@ pub(crate) fn sum(alloc: Global, area: &str) -> Result<String, Memory>
 pub(crate) fn sum_of_products(alloc: Global, first: &str, second: &str) -> Result<String, Memory>
     requires first { length first.now ≤ 100 }
     requires second { length second.now ≤ 100 }
-    ensures text { IfOk result (λ text. string_bytes text ≡ codes "=SUMPRODUCT(" ++ (first.now ++ (codes ";" ++ (second.now ++ codes ")")))) }
+    ensures text { IfOk result (λ text. string_bytes text
+        ≡ codes "=SUMPRODUCT(" ++ (first.now ++ (codes ";" ++ (second.now ++ codes ")")))) }
     ensures short { IfOk result (λ text. length (string_bytes text) ≤ 1000) }
 {
     let mut text = String::from_str(alloc, "=SUMPRODUCT(")?;
@@ -93,7 +94,8 @@ pub(crate) fn absolute_area(
 ) -> Result<String, Memory>
     requires left { left < 26 }
     requires right { right < 26 }
-    ensures text { IfOk result (λ text. string_bytes text ≡ absolute_area_text top left bottom right) }
+    ensures text { IfOk result (λ text. string_bytes text
+        ≡ absolute_area_text top left bottom right) }
     ensures short { IfOk result (λ text. length (string_bytes text) ≤ 100) }
 {
     let mut text = absolute_address(alloc, top, left)?;
@@ -108,7 +110,8 @@ pub(crate) fn absolute_area(
 // Appends an absolute address whose column is a single letter.
 fn print_absolute(row: u16, col: u16, to: &mut String) -> Result<(), Memory>
     requires { col < 26 }
-    ensures { OnOk result (string_bytes to.new ≡ string_bytes to.old ++ absolute_address_text row col) }
+    ensures { OnOk result (string_bytes to.new
+        ≡ string_bytes to.old ++ absolute_address_text row col) }
 {
     let mut digits = Buffer::new();
     to.push_str("$")?;

@@ -40,7 +40,8 @@ impl Model for ModelLines {
       bounds = m.model.bounds;
     } };
 
-    ghost invariant = { λ m. (length m.adj ≡ length m.model.whole) × ReachTo m.objective.terms (length m.adj) };
+    ghost invariant = { λ m. (length m.adj ≡ length m.model.whole)
+        × ReachTo m.objective.terms (length m.adj) };
 }
 
 impl ModelLines {
@@ -54,7 +55,13 @@ impl ModelLines {
     ) -> ModelLines
         requires marks { length adj ≡ length model.whole }
         requires reach { ReachTo objective.terms (length adj) }
-        ensures { result ≡ record { decisions = adj; aim = option_map (λ g. (goal_of g, objective)) goal; rows = zip numbers.items model.rows; whole = model.whole; bounds = model.bounds } }
+        ensures { result ≡ record {
+          decisions = adj;
+          aim = option_map (λ g. (goal_of g, objective)) goal;
+          rows = zip numbers.items model.rows;
+          whole = model.whole;
+          bounds = model.bounds;
+        } }
     {
         ModelLines {
             adj,
@@ -68,7 +75,8 @@ impl ModelLines {
     /// Appends the lines, with line ends between them.
     pub fn print(&self, sheets: &SheetNames, to: &mut String) -> Result<(), Memory>
         requires { All (IsListed sheets.now) self.now.decisions }
-        ensures { OnOk result (string_bytes to.new ≡ string_bytes to.old ++ model_text sheets.now self.now) }
+        ensures { OnOk result (string_bytes to.new
+            ≡ string_bytes to.old ++ model_text sheets.now self.now) }
     {
         let cells = self.adj.cells();
         print_lines(

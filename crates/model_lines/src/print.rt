@@ -28,7 +28,14 @@ pub(crate) fn print_lines(
     requires listed { All (IsListed sheets.now) cells.now }
     requires marks { length cells.now ≡ length model.now.whole }
     requires reach { ReachTo objective.now.terms (length cells.now) }
-    ensures { OnOk result (string_bytes to.new ≡ string_bytes to.old ++ model_text sheets.now (record { decisions = cells.now; aim = option_map (λ g. (goal_of g, objective.now)) goal; rows = zip numbers.now model.now.rows; whole = model.now.whole; bounds = model.now.bounds })) }
+    ensures { OnOk result (string_bytes to.new
+        ≡ string_bytes to.old ++ model_text sheets.now (record {
+          decisions = cells.now;
+          aim = option_map (λ g. (goal_of g, objective.now)) goal;
+          rows = zip numbers.now model.now.rows;
+          whole = model.now.whole;
+          bounds = model.now.bounds;
+        })) }
 {
     let whole = model.whole();
     let rows = model.rows();
@@ -46,7 +53,8 @@ pub(crate) fn print_lines(
 #[tactic(auto, using(crate::proofs::Cells::cell_said))]
 fn print_listed(cell: &Cell, sheets: &SheetNames, to: &mut String) -> Result<(), Memory>
     requires { IsListed sheets.now cell.now }
-    ensures { OnOk result (string_bytes to.new ≡ string_bytes to.old ++ cell_with_sheet sheets.now cell.now) }
+    ensures { OnOk result (string_bytes to.new
+        ≡ string_bytes to.old ++ cell_with_sheet sheets.now cell.now) }
 {
     print_cell(cell, sheets, to)
 }
@@ -61,7 +69,8 @@ fn print_decision(
 ) -> Result<(), Memory>
     requires listed { All (IsListed sheets.now) cells.now }
     requires within { decision < length cells.now }
-    ensures { OnOk result (string_bytes to.new ≡ string_bytes to.old ++ decision_text sheets.now cells.now decision) }
+    ensures { OnOk result (string_bytes to.new
+        ≡ string_bytes to.old ++ decision_text sheets.now cells.now decision) }
 {
     print_listed(&cells[decision as usize], sheets, to)
 }
@@ -76,7 +85,8 @@ fn print_sum(
 ) -> Result<(), Memory>
     requires listed { All (IsListed sheets.now) cells.now }
     requires reach { ReachTo terms.now (length cells.now) }
-    ensures { OnOk result (string_bytes to.new ≡ string_bytes to.old ++ sum_text sheets.now cells.now terms.now base) }
+    ensures { OnOk result (string_bytes to.new
+        ≡ string_bytes to.old ++ sum_text sheets.now cells.now terms.now base) }
 {
     match terms {
         [] => base.write(to),
@@ -99,7 +109,8 @@ fn print_form(
 ) -> Result<(), Memory>
     requires listed { All (IsListed sheets.now) cells.now }
     requires reach { ReachTo form.now.terms (length cells.now) }
-    ensures { OnOk result (string_bytes to.new ≡ string_bytes to.old ++ form_text sheets.now cells.now form.now) }
+    ensures { OnOk result (string_bytes to.new
+        ≡ string_bytes to.old ++ form_text sheets.now cells.now form.now) }
 {
     print_sum(form.terms(), form.base(), cells, sheets, to)
 }
@@ -132,7 +143,8 @@ fn print_aim(
 ) -> Result<(), Memory>
     requires listed { All (IsListed sheets.now) cells.now }
     requires reach { ReachTo objective.now.terms (length cells.now) }
-    ensures { OnOk result (string_bytes to.new ≡ string_bytes to.old ++ ended (aim_line sheets.now cells.now (option_map (λ g. (goal_of g, objective.now)) goal) ∷ [])) }
+    ensures { OnOk result (string_bytes to.new ≡ string_bytes to.old ++ ended
+        (aim_line sheets.now cells.now (option_map (λ g. (goal_of g, objective.now)) goal) ∷ [])) }
 {
     match goal {
         None => to.push_str("none")?,
@@ -149,7 +161,8 @@ fn print_aim(
 
 // Appends a relation to 0.
 fn print_relation(relation: Relation, to: &mut String) -> Result<(), Memory>
-    ensures { OnOk result (string_bytes to.new ≡ string_bytes to.old ++ relation_text (relation_of relation)) }
+    ensures { OnOk result (string_bytes to.new
+        ≡ string_bytes to.old ++ relation_text (relation_of relation)) }
 {
     to.push_str(match relation {
         Relation::AtMost => " <= 0",
@@ -178,7 +191,8 @@ fn print_row(
 ) -> Result<(), Memory>
     requires listed { All (IsListed sheets.now) cells.now }
     requires reach { ReachTo row.now.0.terms (length cells.now) }
-    ensures { OnOk result (string_bytes to.new ≡ string_bytes to.old ++ row_line sheets.now cells.now (number, row.now)) }
+    ensures { OnOk result (string_bytes to.new
+        ≡ string_bytes to.old ++ row_line sheets.now cells.now (number, row.now)) }
 {
     to.push_str("row ")?;
     print_number(number, to)?;
@@ -197,7 +211,8 @@ fn print_rows(
 ) -> Result<(), Memory>
     requires listed { All (IsListed sheets.now) cells.now }
     requires reach { AllByRecursion (RowReaches (length cells.now)) rows.now }
-    ensures { OnOk result (string_bytes to.new ≡ string_bytes to.old ++ ended (map (row_line sheets.now cells.now) (zip numbers.now rows.now))) }
+    ensures { OnOk result (string_bytes to.new ≡ string_bytes to.old
+        ++ ended (map (row_line sheets.now cells.now) (zip numbers.now rows.now))) }
 {
     let [number, numbers @ ..] = numbers else {
         return Ok(());
@@ -243,7 +258,8 @@ fn print_decided(
     to: &mut String,
 ) -> Result<(), Memory>
     requires { IsListed sheets.now cell.now }
-    ensures { OnOk result (string_bytes to.new ≡ string_bytes to.old ++ cell_line sheets.now cell.now whole low high) }
+    ensures { OnOk result (string_bytes to.new
+        ≡ string_bytes to.old ++ cell_line sheets.now cell.now whole low high) }
 {
     to.push_str("cell ")?;
     print_listed(cell, sheets, to)?;
@@ -263,7 +279,8 @@ fn print_cells(
     to: &mut String,
 ) -> Result<(), Memory>
     requires { AllByRecursion (IsListed sheets.now) cells.now }
-    ensures { OnOk result (string_bytes to.new ≡ string_bytes to.old ++ ended (cell_lines sheets.now cells.now marks.now lows.now highs.now)) }
+    ensures { OnOk result (string_bytes to.new ≡ string_bytes to.old
+        ++ ended (cell_lines sheets.now cells.now marks.now lows.now highs.now)) }
 {
     let [cell, cells @ ..] = cells else {
         return Ok(());

@@ -12,7 +12,8 @@ pub(crate) fn add_all(
     found: &mut CellSet,
     pending: &mut Vec<Cell>,
 ) -> Result<(), Memory>
-    ensures { OnOk result (AreAdded cells.now found.old pending.old.items found.new pending.new.items) }
+    ensures { OnOk result
+        (AreAdded cells.now found.old pending.old.items found.new pending.new.items) }
 {
     for &cell in cells {
         add(cell, found, pending)?;
@@ -22,7 +23,8 @@ pub(crate) fn add_all(
 
 // Adds one.
 fn add(cell: Cell, found: &mut CellSet, pending: &mut Vec<Cell>) -> Result<(), Memory>
-    ensures { OnOk result (AreAdded (cell ∷ []) found.old pending.old.items found.new pending.new.items) }
+    ensures { OnOk result
+        (AreAdded (cell ∷ []) found.old pending.old.items found.new pending.new.items) }
 {
     if found.has(cell) {
         return Ok(());

@@ -24,8 +24,10 @@ use workbook::{Adj, Place, Workbook};
 
 /// The cells at which a place looks.
 pub(crate) fn looks_of(alloc: Global, sheet: &Sheet, place: Place) -> Result<Vec<Cell>, Memory>
-    requires settled { IsSettled (book_of sheet.now.book.now) sheet.now.sides.now sheet.now.adj.now sheet.now.forms.now }
-    ensures { IfOk result (λ looks. (b : Cell) → Contains looks.items b ↔ PlaceLooksAt (asked sheet.now.book.now sheet.now.sides.now sheet.now.adj.now sheet.now.roots.now) place b) }
+    requires settled { IsSettled
+        (book_of sheet.now.book.now) sheet.now.sides.now sheet.now.adj.now sheet.now.forms.now }
+    ensures { IfOk result (λ looks. (b : Cell) → Contains looks.items b ↔ PlaceLooksAt (asked
+        sheet.now.book.now sheet.now.sides.now sheet.now.adj.now sheet.now.roots.now) place b) }
 {
     match tree_at(sheet, place) {
         Some(tree) => looks_from(alloc, sheet, place, tree),
@@ -35,9 +37,13 @@ pub(crate) fn looks_of(alloc: Global, sheet: &Sheet, place: Place) -> Result<Vec
 
 // Those of a place with this tree.
 fn looks_from(alloc: Global, sheet: &Sheet, place: Place, tree: &Expr) -> Result<Vec<Cell>, Memory>
-    requires settled { IsSettled (book_of sheet.now.book.now) sheet.now.sides.now sheet.now.adj.now sheet.now.forms.now }
-    requires tree { place_tree (asked sheet.now.book.now sheet.now.sides.now sheet.now.adj.now sheet.now.roots.now) place ≡ Some tree.now }
-    ensures { IfOk result (λ looks. (b : Cell) → Contains looks.items b ↔ PlaceLooksAt (asked sheet.now.book.now sheet.now.sides.now sheet.now.adj.now sheet.now.roots.now) place b) }
+    requires settled { IsSettled
+        (book_of sheet.now.book.now) sheet.now.sides.now sheet.now.adj.now sheet.now.forms.now }
+    requires tree { place_tree
+        (asked sheet.now.book.now sheet.now.sides.now sheet.now.adj.now sheet.now.roots.now) place
+        ≡ Some tree.now }
+    ensures { IfOk result (λ looks. (b : Cell) → Contains looks.items b ↔ PlaceLooksAt (asked
+        sheet.now.book.now sheet.now.sides.now sheet.now.adj.now sheet.now.roots.now) place b) }
 {
     if is_kept_circular(sheet.forms, place) {
         let referred = referred_by(alloc, sheet.book, sheet.adj, tree)?;
@@ -51,7 +57,8 @@ fn looks_from(alloc: Global, sheet: &Sheet, place: Place, tree: &Expr) -> Result
 
 // The tree of a side, or of a formula cell that isn't to be decided.
 fn tree_at<'a>(sheet: &Sheet<'a>, place: Place) -> Option<&'a Expr>
-    ensures { option_map (λ t. t.now) result ≡ place_tree (asked sheet.now.book.now sheet.now.sides.now sheet.now.adj.now sheet.now.roots.now) place }
+    ensures { option_map (λ t. t.now) result ≡ place_tree
+        (asked sheet.now.book.now sheet.now.sides.now sheet.now.adj.now sheet.now.roots.now) place }
 {
     match place {
         Place::Cell(cell) => tree_in(sheet.book, sheet.adj, cell),
@@ -61,7 +68,8 @@ fn tree_at<'a>(sheet: &Sheet<'a>, place: Place) -> Option<&'a Expr>
 
 // That of a formula cell that isn't to be decided.
 fn tree_in<'a>(book: &'a Workbook, adj: &Adj, cell: Cell) -> Option<&'a Expr>
-    ensures { option_map (λ t. t.now) result ≡ unless_decided (numbered_in adj.now cell) (tree_said (entry (book_of book.now) cell)) }
+    ensures { option_map (λ t. t.now) result
+        ≡ unless_decided (numbered_in adj.now cell) (tree_said (entry (book_of book.now) cell)) }
 {
     match adj.find(cell) {
         Some(_) => None,

@@ -31,7 +31,12 @@ pub fn needed_cells(
 ) -> Result<CellSet, Memory>
     requires settled { IsSettled (book_of book.now) sides.now adj.now forms.now }
     requires roots { All (IsRoot sides.now) roots.now }
-    ensures { IfOk result (λ found. (c : Cell) → (set.contains found c ≡ true) ↔ IsNeeded (record { book = book_of book.now; sides = sides.now; decisions = adj.now; roots = roots.now }) (place.Cell c)) }
+    ensures { IfOk result (λ found. (c : Cell) → (set.contains found c ≡ true) ↔ IsNeeded (record {
+      book = book_of book.now;
+      sides = sides.now;
+      decisions = adj.now;
+      roots = roots.now;
+    }) (place.Cell c)) }
 {
     let sheet = Sheet {
         book,
@@ -54,10 +59,14 @@ fn start(
     found: &mut CellSet,
     pending: &mut Vec<Cell>,
 ) -> Result<(), Memory>
-    requires settled { IsSettled (book_of sheet.now.book.now) sheet.now.sides.now sheet.now.adj.now sheet.now.forms.now }
-    requires spreads { IsSpreading (asked sheet.now.book.now sheet.now.sides.now sheet.now.adj.now sheet.now.roots.now) found.old pending.old.items }
-    ensures spreads { OnOk result (IsSpreading (asked sheet.now.book.now sheet.now.sides.now sheet.now.adj.now sheet.now.roots.now) found.new pending.new.items) }
-    ensures started { OnOk result (All (IsStarted (asked sheet.now.book.now sheet.now.sides.now sheet.now.adj.now sheet.now.roots.now) found.new) sheet.now.roots.now) }
+    requires settled { IsSettled
+        (book_of sheet.now.book.now) sheet.now.sides.now sheet.now.adj.now sheet.now.forms.now }
+    requires spreads { IsSpreading (asked sheet.now.book.now sheet.now.sides.now
+        sheet.now.adj.now sheet.now.roots.now) found.old pending.old.items }
+    ensures spreads { OnOk result (IsSpreading (asked sheet.now.book.now sheet.now.sides.now
+        sheet.now.adj.now sheet.now.roots.now) found.new pending.new.items) }
+    ensures started { OnOk result (All (IsStarted (asked sheet.now.book.now sheet.now.sides.now
+        sheet.now.adj.now sheet.now.roots.now) found.new) sheet.now.roots.now) }
 {
     for &root in sheet.roots {
         let cells = first_cells(alloc, sheet, root)?;
@@ -68,8 +77,10 @@ fn start(
 
 // The cells at which the search starts from a root.
 fn first_cells(alloc: Global, sheet: &Sheet, root: Place) -> Result<Vec<Cell>, Memory>
-    requires settled { IsSettled (book_of sheet.now.book.now) sheet.now.sides.now sheet.now.adj.now sheet.now.forms.now }
-    ensures { IfOk result (λ cells. (b : Cell) → Contains cells.items b ↔ StartsAt (asked sheet.now.book.now sheet.now.sides.now sheet.now.adj.now sheet.now.roots.now) root b) }
+    requires settled { IsSettled
+        (book_of sheet.now.book.now) sheet.now.sides.now sheet.now.adj.now sheet.now.forms.now }
+    ensures { IfOk result (λ cells. (b : Cell) → Contains cells.items b ↔ StartsAt (asked
+        sheet.now.book.now sheet.now.sides.now sheet.now.adj.now sheet.now.roots.now) root b) }
 {
     let Place::Cell(cell) = root else {
         return looks_of(alloc, sheet, root);
@@ -88,9 +99,12 @@ fn spread(
     found: &mut CellSet,
     pending: &mut Vec<Cell>,
 ) -> Result<(), Memory>
-    requires settled { IsSettled (book_of sheet.now.book.now) sheet.now.sides.now sheet.now.adj.now sheet.now.forms.now }
-    requires spreads { IsSpreading (asked sheet.now.book.now sheet.now.sides.now sheet.now.adj.now sheet.now.roots.now) found.old pending.old.items }
-    ensures spreads { OnOk result (IsSpreading (asked sheet.now.book.now sheet.now.sides.now sheet.now.adj.now sheet.now.roots.now) found.new []) }
+    requires settled { IsSettled
+        (book_of sheet.now.book.now) sheet.now.sides.now sheet.now.adj.now sheet.now.forms.now }
+    requires spreads { IsSpreading (asked sheet.now.book.now sheet.now.sides.now
+        sheet.now.adj.now sheet.now.roots.now) found.old pending.old.items }
+    ensures spreads { OnOk result (IsSpreading (asked sheet.now.book.now
+        sheet.now.sides.now sheet.now.adj.now sheet.now.roots.now) found.new []) }
     ensures kept { OnOk result ((c : Cell) → Has found.old c → Has found.new c) }
 {
     while let Some(cell) = pending.pop() {

@@ -20,7 +20,9 @@ pub(crate) fn referred_by(
     adj: &Adj,
     tree: &Expr,
 ) -> Result<Vec<Cell>, Memory>
-    ensures { IfOk result (λ found. (b : Cell) → Contains found.items b ↔ ((is_open_text (book_of book.now) adj.now b ≡ true) × (refers (Some (Formula tree.now)) b ≡ true))) }
+    ensures { IfOk result (λ found. (b : Cell) → Contains found.items b
+        ↔ ((is_open_text (book_of book.now) adj.now b ≡ true)
+        × (refers (Some (Formula tree.now)) b ≡ true))) }
 {
     let areas = tree.references(alloc)?;
     let mut found = Vec::new(alloc);
@@ -32,7 +34,8 @@ pub(crate) fn referred_by(
 
 // Adds those in an area.
 fn add_within(book: &Workbook, adj: &Adj, area: &Area, found: &mut Vec<Cell>) -> Result<(), Memory>
-    ensures { OnOk result ((b : Cell) → Contains found.new.items b ↔ (Contains found.old.items b ⊎ (is_open_within (book_of book.now) adj.now area.now b ≡ true))) }
+    ensures { OnOk result ((b : Cell) → Contains found.new.items b ↔ (Contains found.old.items b
+        ⊎ (is_open_within (book_of book.now) adj.now area.now b ≡ true))) }
 {
     if area.len() as usize <= book.texts() {
         add_of_area(book, adj, area, found)
@@ -43,7 +46,8 @@ fn add_within(book: &Workbook, adj: &Adj, area: &Area, found: &mut Vec<Cell>) ->
 
 // Adds them cell by cell of the area.
 fn add_of_area(book: &Workbook, adj: &Adj, area: &Area, found: &mut Vec<Cell>) -> Result<(), Memory>
-    ensures { OnOk result ((b : Cell) → Contains found.new.items b ↔ (Contains found.old.items b ⊎ (is_open_within (book_of book.now) adj.now area.now b ≡ true))) }
+    ensures { OnOk result ((b : Cell) → Contains found.new.items b ↔ (Contains found.old.items b
+        ⊎ (is_open_within (book_of book.now) adj.now area.now b ≡ true))) }
 {
     for place in 0..area.len() {
         add_open(book, adj, area, area.at(place), found)?;
@@ -58,7 +62,8 @@ fn add_of_texts(
     area: &Area,
     found: &mut Vec<Cell>,
 ) -> Result<(), Memory>
-    ensures { OnOk result ((b : Cell) → Contains found.new.items b ↔ (Contains found.old.items b ⊎ (is_open_within (book_of book.now) adj.now area.now b ≡ true))) }
+    ensures { OnOk result ((b : Cell) → Contains found.new.items b ↔ (Contains found.old.items b
+        ⊎ (is_open_within (book_of book.now) adj.now area.now b ≡ true))) }
 {
     let mut after = None;
     while let Some(cell) = book.next_cell(after) {
@@ -76,7 +81,8 @@ fn add_open(
     cell: Cell,
     found: &mut Vec<Cell>,
 ) -> Result<(), Memory>
-    ensures { OnOk result (found.new.items ≡ (if is_open_within (book_of book.now) adj.now area.now cell then found.old.items ++ cell ∷ [] else found.old.items)) }
+    ensures { OnOk result (found.new.items ≡ (if is_open_within (book_of book.now)
+        adj.now area.now cell then found.old.items ++ cell ∷ [] else found.old.items)) }
 {
     if is_open_within(book, adj, area, cell) {
         found.push(cell)?;

@@ -12,7 +12,8 @@ use workbook::Place;
 
 /// The least of some places with a refusal of this kind.
 pub(crate) fn least_in(told: &Told, stage: Stage, places: &[Place]) -> Option<Place>
-    ensures { result ≡ least_in (is_told (told_refusal (book_of told.now.book.now) told.now.adj.now told.now.forms.now) stage) places.now }
+    ensures { result ≡ least_in (is_told (told_refusal
+        (book_of told.now.book.now) told.now.adj.now told.now.forms.now) stage) places.now }
 {
     let mut least = None;
     let mut place = places.len();
@@ -25,7 +26,8 @@ pub(crate) fn least_in(told: &Told, stage: Stage, places: &[Place]) -> Option<Pl
 
 // The lesser of a place, if it has a refusal of this kind, and of another.
 fn with_least(told: &Told, stage: Stage, place: Place, least: Option<Place>) -> Option<Place>
-    ensures { result ≡ with_least (is_told (told_refusal (book_of told.now.book.now) told.now.adj.now told.now.forms.now) stage place) place least }
+    ensures { result ≡ with_least (is_told (told_refusal
+        (book_of told.now.book.now) told.now.adj.now told.now.forms.now) stage place) place least }
 {
     if is_in(stage, told.refusal(place)) {
         return Some(lesser(place, least));

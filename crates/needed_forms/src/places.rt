@@ -26,7 +26,12 @@ pub(crate) fn needed_places(
 ) -> Result<Vec<Place>, Memory>
     requires settled { IsSettled (book_of book.now) sides.now adj.now forms.now }
     requires roots { All (IsRoot sides.now) roots.now }
-    ensures { IfOk result (λ found. (p : Place) → Contains found.items p ↔ IsNeeded (record { book = book_of book.now; sides = sides.now; decisions = adj.now; roots = roots.now }) p) }
+    ensures { IfOk result (λ found. (p : Place) → Contains found.items p ↔ IsNeeded (record {
+      book = book_of book.now;
+      sides = sides.now;
+      decisions = adj.now;
+      roots = roots.now;
+    }) p) }
 {
     let found = needed_cells(alloc, book, adj, sides, forms, roots)?;
     let cells = found.cells(alloc)?;

@@ -29,7 +29,12 @@ pub fn first_refusal(
 ) -> Result<Option<FormRefusal>, Memory>
     requires settled { IsSettled (book_of book.now) sides.now adj.now forms.now }
     requires roots { All (IsRoot sides.now) roots.now }
-    ensures { IfOk result (IsRefusal (record { book = book_of book.now; sides = sides.now; decisions = adj.now; roots = roots.now })) }
+    ensures { IfOk result (IsRefusal (record {
+      book = book_of book.now;
+      sides = sides.now;
+      decisions = adj.now;
+      roots = roots.now;
+    })) }
 {
     let needed = needed_places(alloc, book, adj, sides, forms, roots)?;
     let told = Told { book, adj, forms };
@@ -38,7 +43,8 @@ pub fn first_refusal(
 
 // The first refusal over needed places and over roots.
 fn first_told(told: &Told, needed: &[Place], roots: &[Place]) -> Option<FormRefusal>
-    ensures { result ≡ first_told (told_refusal (book_of told.now.book.now) told.now.adj.now told.now.forms.now) needed.now roots.now }
+    ensures { result ≡ first_told (told_refusal
+        (book_of told.now.book.now) told.now.adj.now told.now.forms.now) needed.now roots.now }
 {
     if let Some(refusal) = least_told(told, Stage::Malformed, needed) {
         return Some(refusal);
@@ -54,7 +60,8 @@ fn first_told(told: &Told, needed: &[Place], roots: &[Place]) -> Option<FormRefu
 
 // The refusal of this kind of the least place that has one.
 fn least_told(told: &Told, stage: Stage, places: &[Place]) -> Option<FormRefusal>
-    ensures { result ≡ least_told (told_refusal (book_of told.now.book.now) told.now.adj.now told.now.forms.now) stage places.now }
+    ensures { result ≡ least_told (told_refusal
+        (book_of told.now.book.now) told.now.adj.now told.now.forms.now) stage places.now }
 {
     match least_in(told, stage, places) {
         Some(place) => told.refusal(place),

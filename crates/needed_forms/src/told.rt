@@ -28,7 +28,8 @@ pub(crate) struct Told<'a> {
 impl Told<'_> {
     /// What refuses a place by its own form, where something does.
     pub(crate) fn refusal(&self, place: Place) -> Option<FormRefusal>
-        ensures { result ≡ told_refusal (book_of self.now.book.now) self.now.adj.now self.now.forms.now place }
+        ensures { result
+            ≡ told_refusal (book_of self.now.book.now) self.now.adj.now self.now.forms.now place }
     {
         match place {
             Place::Cell(cell) => self.cell_refusal(cell),
@@ -38,7 +39,8 @@ impl Told<'_> {
 
     // What refuses a cell.
     fn cell_refusal(&self, cell: Cell) -> Option<FormRefusal>
-        ensures { result ≡ told_refusal (book_of self.now.book.now) self.now.adj.now self.now.forms.now (place.Cell cell) }
+        ensures { result ≡ told_refusal
+            (book_of self.now.book.now) self.now.adj.now self.now.forms.now (place.Cell cell) }
     {
         match self.adj.find(cell) {
             Some(_) => None,
@@ -49,7 +51,8 @@ impl Told<'_> {
 
 // What refuses a cell that isn't to be decided.
 fn said_refusal(book: &Workbook, forms: &FormTable, cell: Cell) -> Option<FormRefusal>
-    ensures { result ≡ refusal_by_kind (place.Cell cell) (kind_of (entry (book_of book.now) cell)) (form_at forms.now (place.Cell cell)) }
+    ensures { result ≡ refusal_by_kind (place.Cell cell)
+        (kind_of (entry (book_of book.now) cell)) (form_at forms.now (place.Cell cell)) }
 {
     match book.kind(cell) {
         Kind::Empty => None,

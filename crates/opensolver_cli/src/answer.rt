@@ -30,14 +30,19 @@ pub(crate) fn answer_records<F: Folder, K: Sink>(
 ) -> Status
     requires few { job.now.budget ≤ MOST_UNITS }
     requires pick { rule pick.old ≡ rule_of (pick_read job.now.pick) }
-    ensures answers { IfSome (F.content folder.old) (λ files. AnswersRecords (setting_of (job_read job.now) book files) rows.now
-        (put_in (F.content folder.old) (F.write_faults folder.old) (F.write_wants folder.old) (K.pieces out.old) (K.faults out.old))
-        (put_in (F.content folder.new) (F.write_faults folder.new) (F.write_wants folder.new) (K.pieces out.new) (K.faults out.new))
+    ensures answers { IfSome (F.content folder.old)
+        (λ files. AnswersRecords (setting_of (job_read job.now) book files) rows.now
+        (put_in (F.content folder.old) (F.write_faults folder.old)
+        (F.write_wants folder.old) (K.pieces out.old) (K.faults out.old))
+        (put_in (F.content folder.new) (F.write_faults folder.new)
+        (F.write_wants folder.new) (K.pieces out.new) (K.faults out.new))
         result) }
     ensures ends { EndsAnswering result }
     ensures cause { IsPutFault
-        (put_in (F.content folder.old) (F.write_faults folder.old) (F.write_wants folder.old) (K.pieces out.old) (K.faults out.old))
-        (put_in (F.content folder.new) (F.write_faults folder.new) (F.write_wants folder.new) (K.pieces out.new) (K.faults out.new))
+        (put_in (F.content folder.old) (F.write_faults folder.old)
+        (F.write_wants folder.old) (K.pieces out.old) (K.faults out.old))
+        (put_in (F.content folder.new) (F.write_faults folder.new)
+        (F.write_wants folder.new) (K.pieces out.new) (K.faults out.new))
         result }
     ensures reads { F.read_faults folder.new ≡ F.read_faults folder.old }
 {
@@ -70,9 +75,12 @@ fn answer_record<F: Folder, K: Sink>(
     pick: &mut Box<dyn Picker>,
 ) -> Result<bool, PutEnd>
     requires pick { rule pick.old ≡ rule_of (pick_read job.now.pick) }
-    ensures answers { AnswersRecord (rule_of (pick_read job.now.pick)) (named_of job.now.named) session.old.state fields.now
-        (put_in (F.content folder.old) (F.write_faults folder.old) (F.write_wants folder.old) (K.pieces out.old) (K.faults out.old))
-        (put_in (F.content folder.new) (F.write_faults folder.new) (F.write_wants folder.new) (K.pieces out.new) (K.faults out.new))
+    ensures answers { AnswersRecord (rule_of (pick_read job.now.pick))
+        (named_of job.now.named) session.old.state fields.now
+        (put_in (F.content folder.old) (F.write_faults folder.old)
+        (F.write_wants folder.old) (K.pieces out.old) (K.faults out.old))
+        (put_in (F.content folder.new) (F.write_faults folder.new)
+        (F.write_wants folder.new) (K.pieces out.new) (K.faults out.new))
         session.new.state result }
     ensures sheets { session.new.state.book.sheets ≡ session.old.state.book.sheets }
     ensures rule { rule pick.new ≡ rule pick.old }

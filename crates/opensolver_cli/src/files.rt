@@ -20,8 +20,10 @@ pub(crate) fn open_files<F: Folder>(
 ) -> Result<Workbook, End>
     requires some { 0 < length named.now.sheets.items }
     requires sheets { All (λ w. is_sheet (string_bytes w) ≡ true) named.now.sheets.items }
-    ensures many { SHEETS < length named.now.sheets.items → result ≡ Err (End.Stopped (Stop.TooMuch Limit.Sheets)) }
-    ensures opens { IfSome (F.content folder.old) (λ files. OpensFiles (named_of named.now) files result) }
+    ensures many { SHEETS < length named.now.sheets.items
+        → result ≡ Err (End.Stopped (Stop.TooMuch Limit.Sheets)) }
+    ensures opens { IfSome (F.content folder.old)
+        (λ files. OpensFiles (named_of named.now) files result) }
     ensures same { F.content folder.new ≡ F.content folder.old }
     ensures cause { EndCause (F.read_faults folder.old) (F.read_faults folder.new) result }
     ensures writes { F.write_faults folder.new ≡ F.write_faults folder.old }
@@ -45,7 +47,8 @@ pub(crate) fn open_files<F: Folder>(
 fn read_sheets<F: Folder>(alloc: Global, folder: &mut F, words: &[String]) -> Result<Vec<File>, End>
     requires few { length words.now ≤ SHEETS }
     requires sheets { All (λ w. is_sheet (string_bytes w) ≡ true) words.now }
-    ensures reads { IfSome (F.content folder.old) (λ files. ReadsSheets files (texts_of words.now) result) }
+    ensures reads { IfSome (F.content folder.old)
+        (λ files. ReadsSheets files (texts_of words.now) result) }
     ensures count { IfOk result (λ files. length files.items ≡ length words.now) }
     ensures open { IfOk result (λ files. All CanBeOpened files.items) }
     ensures same { F.content folder.new ≡ F.content folder.old }
@@ -66,7 +69,8 @@ fn read_sheets<F: Folder>(alloc: Global, folder: &mut F, words: &[String]) -> Re
 // Reads the file of a sheet, by the sheet's number.
 fn read_sheet<F: Folder>(alloc: Global, folder: &mut F, place: u8, word: &str) -> Result<File, End>
     requires { is_sheet word.now ≡ true }
-    ensures reads { IfSome (F.content folder.old) (λ files. ReadsSheet (Input.Sheet place) word.now (get files word.now) result) }
+    ensures reads { IfSome (F.content folder.old)
+        (λ files. ReadsSheet (Input.Sheet place) word.now (get files word.now) result) }
     ensures open { IfOk result CanBeOpened }
     ensures same { F.content folder.new ≡ F.content folder.old }
     ensures cause { EndCause (F.read_faults folder.old) (F.read_faults folder.new) result }
@@ -90,7 +94,8 @@ fn read_file<F: Folder>(
     input: Input,
     word: &str,
 ) -> Result<Vec<u8>, End>
-    ensures reads { IfSome (F.content folder.old) (λ files. ReadsFile input (get files word.now) result) }
+    ensures reads { IfSome (F.content folder.old)
+        (λ files. ReadsFile input (get files word.now) result) }
     ensures fits { IfOk result (λ bytes. length bytes.items ≤ FILE_BYTES) }
     ensures same { F.content folder.new ≡ F.content folder.old }
     ensures cause { EndCause (F.read_faults folder.old) (F.read_faults folder.new) result }

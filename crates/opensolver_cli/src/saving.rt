@@ -18,7 +18,8 @@ pub(crate) fn save<F: Folder>(
     session: &mut Session,
     folder: &mut F,
 ) -> Result<(), PutEnd>
-    ensures files { SavesAnswer (named_of named.now) answer.now (F.content folder.old) (F.content folder.new) result }
+    ensures files { SavesAnswer (named_of named.now) answer.now
+        (F.content folder.old) (F.content folder.new) result }
     ensures session { OnOk result (session.new.state ≡ once_written answer.now session.old.state) }
     ensures cause { PutCause (F.write_faults folder.old) (F.write_faults folder.new) result }
     ensures want { PutWant (F.write_wants folder.old) (F.write_wants folder.new) result }
@@ -34,7 +35,8 @@ pub(crate) fn save<F: Folder>(
 
 // Writes files, in their order.
 fn save_files<F: Folder>(named: &Named, files: &[SaveFile], folder: &mut F) -> Result<(), PutEnd>
-    ensures saves { SavesFiles (named_of named.now) files.now (F.content folder.old) (F.content folder.new) result }
+    ensures saves { SavesFiles (named_of named.now) files.now
+        (F.content folder.old) (F.content folder.new) result }
     ensures cause { PutCause (F.write_faults folder.old) (F.write_faults folder.new) result }
     ensures want { PutWant (F.write_wants folder.old) (F.write_wants folder.new) result }
     ensures reads { F.read_faults folder.new ≡ F.read_faults folder.old }

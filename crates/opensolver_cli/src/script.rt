@@ -12,7 +12,8 @@ const CHUNK: usize = 4096;
 
 /// Reads the script to its end, and the records in it.
 pub(crate) fn read_commands<S: Source>(alloc: Global, script: &mut S) -> Result<Rows, End>
-    ensures finds { IfSome (S.left script.old) (λ bytes. FindsCommands bytes (S.left script.new) result) }
+    ensures finds { IfSome (S.left script.old)
+        (λ bytes. FindsCommands bytes (S.left script.new) result) }
     ensures cause { EndCause (S.faults script.old) (S.faults script.new) result }
 {
     let bytes = read_script(alloc, script)?;
@@ -21,7 +22,8 @@ pub(crate) fn read_commands<S: Source>(alloc: Global, script: &mut S) -> Result<
 
 // Reads all that is left of the script.
 fn read_script<S: Source>(alloc: Global, script: &mut S) -> Result<Vec<u8>, End>
-    ensures reads { IfSome (S.left script.old) (λ bytes. ReadsScript bytes (S.left script.new) result) }
+    ensures reads { IfSome (S.left script.old)
+        (λ bytes. ReadsScript bytes (S.left script.new) result) }
     ensures fits { IfOk result (λ bytes. length bytes.items ≤ FILE_BYTES) }
     ensures cause { EndCause (S.faults script.old) (S.faults script.new) result }
 {

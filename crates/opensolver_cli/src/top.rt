@@ -41,15 +41,25 @@ pub fn run<F: Folder, S: Source, K: Sink>(
     out: &mut K,
     pickers: Vec<Box<dyn Picker>>,
 ) -> Status
-    requires three { map (λ p. rule p) pickers.items ≡ depth_first ∷ best_first ∷ oldest_first ∷ [] }
+    requires three { map (λ p. rule p) pickers.items
+        ≡ depth_first ∷ best_first ∷ oldest_first ∷ [] }
     ensures headline { RunsAs (asked_of (texts_of words.now))
-        (seen (F.content folder.old) (F.read_faults folder.old) (F.write_faults folder.old) (F.write_wants folder.old) (S.left script.old) (S.faults script.old) (K.pieces out.old) (K.faults out.old))
-        (seen (F.content folder.new) (F.read_faults folder.new) (F.write_faults folder.new) (F.write_wants folder.new) (S.left script.new) (S.faults script.new) (K.pieces out.new) (K.faults out.new))
+        (seen (F.content folder.old) (F.read_faults folder.old)
+        (F.write_faults folder.old) (F.write_wants folder.old) (S.left script.old)
+        (S.faults script.old) (K.pieces out.old) (K.faults out.old))
+        (seen (F.content folder.new) (F.read_faults folder.new)
+        (F.write_faults folder.new) (F.write_wants folder.new) (S.left script.new)
+        (S.faults script.new) (K.pieces out.new) (K.faults out.new))
         result }
-    ensures exactly { EndsExactly (asked_of (texts_of words.now)) (F.content folder.old) (S.left script.old) result }
+    ensures exactly { EndsExactly (asked_of (texts_of words.now))
+        (F.content folder.old) (S.left script.old) result }
     ensures counts { IsCounted
-        (seen (F.content folder.old) (F.read_faults folder.old) (F.write_faults folder.old) (F.write_wants folder.old) (S.left script.old) (S.faults script.old) (K.pieces out.old) (K.faults out.old))
-        (seen (F.content folder.new) (F.read_faults folder.new) (F.write_faults folder.new) (F.write_wants folder.new) (S.left script.new) (S.faults script.new) (K.pieces out.new) (K.faults out.new))
+        (seen (F.content folder.old) (F.read_faults folder.old)
+        (F.write_faults folder.old) (F.write_wants folder.old) (S.left script.old)
+        (S.faults script.old) (K.pieces out.old) (K.faults out.old))
+        (seen (F.content folder.new) (F.read_faults folder.new)
+        (F.write_faults folder.new) (F.write_wants folder.new) (S.left script.new)
+        (S.faults script.new) (K.pieces out.new) (K.faults out.new))
         result }
 {
     let asked = match request(alloc, words) {
@@ -71,7 +81,8 @@ pub fn run<F: Folder, S: Source, K: Sink>(
 
 // The picker that is asked for; the others are let go.
 fn picker_of(pickers: Vec<Box<dyn Picker>>, pick: Pick) -> Box<dyn Picker>
-    requires three { map (λ p. rule p) pickers.items ≡ depth_first ∷ best_first ∷ oldest_first ∷ [] }
+    requires three { map (λ p. rule p) pickers.items
+        ≡ depth_first ∷ best_first ∷ oldest_first ∷ [] }
     ensures { rule result ≡ rule_of (pick_read pick) }
 {
     let mut pickers = pickers;
@@ -96,13 +107,22 @@ fn run_job<F: Folder, S: Source, K: Sink>(
     requires few { job.now.budget ≤ MOST_UNITS }
     requires pick { rule pick.old ≡ rule_of (pick_read job.now.pick) }
     ensures headline { RunsAs (Some (Script (job_read job.now)))
-        (seen (F.content folder.old) (F.read_faults folder.old) (F.write_faults folder.old) (F.write_wants folder.old) (S.left script.old) (S.faults script.old) (K.pieces out.old) (K.faults out.old))
-        (seen (F.content folder.new) (F.read_faults folder.new) (F.write_faults folder.new) (F.write_wants folder.new) (S.left script.new) (S.faults script.new) (K.pieces out.new) (K.faults out.new))
+        (seen (F.content folder.old) (F.read_faults folder.old)
+        (F.write_faults folder.old) (F.write_wants folder.old) (S.left script.old)
+        (S.faults script.old) (K.pieces out.old) (K.faults out.old))
+        (seen (F.content folder.new) (F.read_faults folder.new)
+        (F.write_faults folder.new) (F.write_wants folder.new) (S.left script.new)
+        (S.faults script.new) (K.pieces out.new) (K.faults out.new))
         result }
-    ensures exactly { EndsExactly (Some (Script (job_read job.now))) (F.content folder.old) (S.left script.old) result }
+    ensures exactly { EndsExactly (Some (Script (job_read job.now)))
+        (F.content folder.old) (S.left script.old) result }
     ensures counts { IsCounted
-        (seen (F.content folder.old) (F.read_faults folder.old) (F.write_faults folder.old) (F.write_wants folder.old) (S.left script.old) (S.faults script.old) (K.pieces out.old) (K.faults out.old))
-        (seen (F.content folder.new) (F.read_faults folder.new) (F.write_faults folder.new) (F.write_wants folder.new) (S.left script.new) (S.faults script.new) (K.pieces out.new) (K.faults out.new))
+        (seen (F.content folder.old) (F.read_faults folder.old)
+        (F.write_faults folder.old) (F.write_wants folder.old) (S.left script.old)
+        (S.faults script.old) (K.pieces out.old) (K.faults out.old))
+        (seen (F.content folder.new) (F.read_faults folder.new)
+        (F.write_faults folder.new) (F.write_wants folder.new) (S.left script.new)
+        (S.faults script.new) (K.pieces out.new) (K.faults out.new))
         result }
 {
     match find(alloc, &job.named, folder, script) {
@@ -122,15 +142,24 @@ fn find<F: Folder, S: Source>(
 ) -> Result<(Workbook, Rows), End>
     requires some { 0 < length named.now.sheets.items }
     requires sheets { All (λ w. is_sheet (string_bytes w) ≡ true) named.now.sheets.items }
-    ensures finds { IfSome (F.content folder.old) (λ files. IfSome (S.left script.old) (λ bytes. FindsAll (named_of named.now) files bytes (S.left script.new) result)) }
-    ensures order { IfSome (F.content folder.old) (λ files. (stop : Stop) → book_in (named_of named.now) files ≡ Err stop → IsSourceLeft (S.left script.old) (S.left script.new) (S.faults script.old) (S.faults script.new)) }
-    ensures many { SHEETS < length named.now.sheets.items → (result ≡ Err (End.Stopped (Stop.TooMuch limit.Sheets)))
-        × (F.read_faults folder.new ≡ F.read_faults folder.old) × IsSourceLeft (S.left script.old) (S.left script.new) (S.faults script.old) (S.faults script.new) }
+    ensures finds { IfSome (F.content folder.old) (λ files. IfSome (S.left script.old)
+        (λ bytes. FindsAll (named_of named.now) files bytes (S.left script.new) result)) }
+    ensures order { IfSome (F.content folder.old)
+        (λ files. (stop : Stop) → book_in (named_of named.now) files ≡ Err stop → IsSourceLeft
+        (S.left script.old) (S.left script.new) (S.faults script.old) (S.faults script.new)) }
+    ensures many { SHEETS < length named.now.sheets.items
+        → (result ≡ Err (End.Stopped (Stop.TooMuch limit.Sheets)))
+        × (F.read_faults folder.new ≡ F.read_faults folder.old) × IsSourceLeft
+        (S.left script.old) (S.left script.new) (S.faults script.old) (S.faults script.new) }
     ensures folder { F.content folder.new ≡ F.content folder.old }
     ensures writes { F.write_faults folder.new ≡ F.write_faults folder.old }
     ensures wants { F.write_wants folder.new ≡ F.write_wants folder.old }
-    ensures read_fault { result ≡ Err End.Failed → IsFaultOf (F.read_faults folder.old) (F.read_faults folder.new) (S.left script.old) (S.left script.new) (S.faults script.old) (S.faults script.new) }
-    ensures no_read_fault { result ≢ Err End.Failed → (F.read_faults folder.new ≡ F.read_faults folder.old) × (S.faults script.new ≡ S.faults script.old) }
+    ensures read_fault { result ≡ Err End.Failed
+        → IsFaultOf (F.read_faults folder.old) (F.read_faults folder.new)
+        (S.left script.old) (S.left script.new) (S.faults script.old) (S.faults script.new) }
+    ensures no_read_fault { result ≢ Err End.Failed
+        → (F.read_faults folder.new ≡ F.read_faults folder.old)
+        × (S.faults script.new ≡ S.faults script.old) }
 {
     let book = open_files(alloc, named, folder)?;
     let rows = read_commands(alloc, script)?;
@@ -139,7 +168,8 @@ fn find<F: Folder, S: Source>(
 
 // Prints why a run ends before the first record.
 fn say_stop<K: Sink>(alloc: Global, named: &Named, stop: Stop, out: &mut K) -> Status
-    ensures says { Says (stop_line (named_of named.now) stop) (status_of stop) (K.pieces out.old) (K.pieces out.new) result }
+    ensures says { Says (stop_line (named_of named.now) stop)
+        (status_of stop) (K.pieces out.old) (K.pieces out.new) result }
     ensures cause { IsSinkFault (K.faults out.old) (K.faults out.new) result }
 {
     match stop.line(alloc, named) {

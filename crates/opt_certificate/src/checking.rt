@@ -81,7 +81,8 @@ fn check_optimal(
     requires wanted { wanted.now ≡ maximised of.now.goal of.now.objective }
     requires below { ReachTo wanted.now.terms (length of.now.whole) }
     requires one_each { length point.now ≡ length of.now.whole }
-    ensures { (t : Option Certificate) → IsListed tree.now t → Checked of.now t (optimal point.now) result }
+    ensures { (t : Option Certificate) → IsListed tree.now t
+        → Checked of.now t (optimal point.now) result }
 {
     match is_point(of, point) {
         Ok(true) => match wanted.eval(point) {
@@ -105,7 +106,8 @@ fn check_unbounded(
     requires below { ReachTo wanted.now.terms (length of.now.whole) }
     requires point { length point.now ≡ length of.now.whole }
     requires direction { length direction.now ≡ length of.now.whole }
-    ensures { (t : Option Certificate) → Checked of.now t (unbounded point.now direction.now) result }
+    ensures { (t : Option Certificate)
+        → Checked of.now t (unbounded point.now direction.now) result }
 {
     match is_point(of, point) {
         Ok(true) => match is_way_out(of, wanted, direction) {
@@ -122,7 +124,8 @@ fn check_unbounded(
 fn check_claim(alloc: Global, of: &LinModel, tree: &Tree, claim: &Claim) -> Result<bool, CheckStop>
     requires valid { IsValid of.now }
     requires sizes { IsOfSize (length of.now.whole) claim.now }
-    ensures { (t : Option Certificate) → IsListed tree.now t → Checked of.now t (claim_of claim.now) result }
+    ensures { (t : Option Certificate) → IsListed tree.now t
+        → Checked of.now t (claim_of claim.now) result }
 {
     let Ok(wanted) = of.greatest_form(alloc, false) else {
         return Err(CheckStop::Memory);
@@ -139,7 +142,8 @@ fn check_claim(alloc: Global, of: &LinModel, tree: &Tree, claim: &Claim) -> Resu
 pub fn check(alloc: Global, of: &LinModel, tree: &Tree, claim: &Claim) -> Result<bool, CheckStop>
     requires sizes { IsOfSize (length of.now.whole) claim.now }
     ensures listed { IsTree tree.now }
-    ensures checked { (t : Option Certificate) → IsListed tree.now t → Checked of.now t (claim_of claim.now) result }
+    ensures checked { (t : Option Certificate) → IsListed tree.now t
+        → Checked of.now t (claim_of claim.now) result }
     ensures holds { result ≡ Ok true → IsTrueOf of.now (claim_of claim.now) }
 {
     let _marks = of.whole();

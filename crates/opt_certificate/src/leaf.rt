@@ -46,7 +46,8 @@ fn column_reaches(
     requires few { length multipliers.now ≤ length program.now.rows }
     requires regular { IsRegular program.now }
     requires column { column < length program.now.objective }
-    ensures { Judged (floor_of plain program.now column ≤ℚ at (combined multipliers.now program.now.rows) column)
+    ensures { Judged (floor_of plain program.now column
+        ≤ℚ at (combined multipliers.now program.now.rows) column)
         (StaysNarrow (column_sum column multipliers.now program.now.rows)) result }
 {
     let floor = floor_of(program, column, plain);
@@ -66,7 +67,8 @@ fn column_reaches(
 fn columns_reach(program: &Standard, multipliers: &[Frac], plain: bool) -> Result<bool, Wide>
     requires few { length multipliers.now ≤ length program.now.rows }
     requires regular { IsRegular program.now }
-    ensures { Judged (ColumnsReach plain program.now multipliers.now) (ColumnsAreNarrow program.now multipliers.now) result }
+    ensures { Judged (ColumnsReach plain program.now multipliers.now)
+        (ColumnsAreNarrow program.now multipliers.now) result }
 {
     for column in 0..program.objective().len() {
         match column_reaches(program, multipliers, column, plain) {
@@ -81,7 +83,8 @@ fn columns_reach(program: &Standard, multipliers: &[Frac], plain: bool) -> Resul
 // Whether the combination's bound with the objective's constant is at most that number.
 fn bound_is_within(program: &Standard, multipliers: &[Frac], most: Frac) -> Result<bool, Wide>
     requires few { length multipliers.now ≤ length program.now.rows }
-    ensures { Judged ((combined_bound multipliers.now program.now.rows +ℚ program.now.constant) ≤ℚ most)
+    ensures { Judged ((combined_bound multipliers.now program.now.rows +ℚ program.now.constant)
+        ≤ℚ most)
         (StaysNarrow (whole_bound multipliers.now program.now)) result }
 {
     match bound_sum(multipliers, program.rows()) {
@@ -102,7 +105,8 @@ fn bound_is_within(program: &Standard, multipliers: &[Frac], most: Frac) -> Resu
 // Whether the combination's bound is negative.
 fn bound_is_negative(program: &Standard, multipliers: &[Frac]) -> Result<bool, Wide>
     requires few { length multipliers.now ≤ length program.now.rows }
-    ensures { Judged (combined_bound multipliers.now program.now.rows <ℚ zero_ℚ) (StaysNarrow (bound_sum multipliers.now program.now.rows)) result }
+    ensures { Judged (combined_bound multipliers.now program.now.rows
+        <ℚ zero_ℚ) (StaysNarrow (bound_sum multipliers.now program.now.rows)) result }
 {
     match bound_sum(multipliers, program.rows()) {
         Ok(bound) => {
@@ -118,8 +122,10 @@ fn bound_is_negative(program: &Standard, multipliers: &[Frac]) -> Result<bool, W
 
 /// Whether the multipliers bound the objective by that number.
 pub(crate) fn is_best(program: &Standard, multipliers: &[Frac], most: Frac) -> Result<bool, Wide>
-    ensures { Judged ((length multipliers.now ≤ length program.now.rows) × Bounds program.now multipliers.now most)
-        (ColumnsAreNarrow program.now multipliers.now × StaysNarrow (whole_bound multipliers.now program.now)) result }
+    ensures { Judged ((length multipliers.now ≤ length program.now.rows)
+        × Bounds program.now multipliers.now most)
+        (ColumnsAreNarrow program.now multipliers.now
+        × StaysNarrow (whole_bound multipliers.now program.now)) result }
 {
     if multipliers.len() > program.rows().len() {
         return Ok(false);
@@ -136,8 +142,10 @@ pub(crate) fn is_best(program: &Standard, multipliers: &[Frac], most: Frac) -> R
 
 /// Whether the multipliers are contradictory.
 pub(crate) fn is_contradictory(program: &Standard, multipliers: &[Frac]) -> Result<bool, Wide>
-    ensures { Judged ((length multipliers.now ≤ length program.now.rows) × IsContradictory program.now multipliers.now)
-        (ColumnsAreNarrow program.now multipliers.now × StaysNarrow (bound_sum multipliers.now program.now.rows)) result }
+    ensures { Judged ((length multipliers.now ≤ length program.now.rows)
+        × IsContradictory program.now multipliers.now)
+        (ColumnsAreNarrow program.now multipliers.now
+        × StaysNarrow (bound_sum multipliers.now program.now.rows)) result }
 {
     if multipliers.len() > program.rows().len() {
         return Ok(false);

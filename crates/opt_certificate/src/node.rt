@@ -32,7 +32,8 @@ fn proves_best(
 ) -> Result<bool, LeafStop>
     requires valid { IsValid of.now }
     requires sized { IsBoxOf of.now within.now }
-    ensures { LeafJudged (ProvesBest of.now (Some most) within.now multipliers.now) (NodeIsNarrow of.now (within.now, best_leaf multipliers.now)) result }
+    ensures { LeafJudged (ProvesBest of.now (Some most) within.now multipliers.now)
+        (NodeIsNarrow of.now (within.now, best_leaf multipliers.now)) result }
 {
     match of.standard(alloc, within, false) {
         Ok(program) => match is_best(&program, multipliers, most) {
@@ -52,7 +53,8 @@ fn proves_empty(
 ) -> Result<bool, LeafStop>
     requires valid { IsValid of.now }
     requires sized { IsBoxOf of.now within.now }
-    ensures { LeafJudged (ProvesEmpty of.now within.now multipliers.now) (NodeIsNarrow of.now (within.now, empty_leaf multipliers.now)) result }
+    ensures { LeafJudged (ProvesEmpty of.now within.now multipliers.now)
+        (NodeIsNarrow of.now (within.now, empty_leaf multipliers.now)) result }
 {
     match of.standard(alloc, within, false) {
         Ok(program) => match is_contradictory(&program, multipliers) {
@@ -86,7 +88,8 @@ pub(crate) fn node_proves(
 ) -> Result<bool, LeafStop>
     requires valid { IsValid of.now }
     requires sized { IsBoxOf of.now within.now }
-    ensures { LeafJudged (NodeProves of.now most (within.now, node_of node.now)) (NodeIsNarrow of.now (within.now, node_of node.now)) result }
+    ensures { LeafJudged (NodeProves of.now most (within.now, node_of node.now))
+        (NodeIsNarrow of.now (within.now, node_of node.now)) result }
 {
     match node {
         TreeNode::Split(decision, _, _, _) => {

@@ -43,7 +43,8 @@ fn row_sum(row: &FormRow, point: &[Frac], with_constant: bool) -> Result<Frac, W
 // Whether a row holds there.
 fn row_stands(row: &FormRow, point: &[Frac], with_constant: bool) -> Result<bool, Wide>
     requires { ReachTo row.now.0.terms (length point.now) }
-    ensures { Judged (RowStands with_constant point.now row.now) (RowIsNarrow with_constant point.now row.now) result }
+    ensures { Judged (RowStands with_constant point.now row.now)
+        (RowIsNarrow with_constant point.now row.now) result }
 {
     match row_sum(row, point, with_constant) {
         Ok(sum) => {
@@ -64,7 +65,8 @@ pub(crate) fn rows_stand(
     with_constant: bool,
 ) -> Result<bool, Wide>
     requires { All (λ r. ReachTo r.0.terms (length point.now)) rows.now }
-    ensures { Judged (All (RowStands with_constant point.now) rows.now) (All (RowIsNarrow with_constant point.now) rows.now) result }
+    ensures { Judged (All (RowStands with_constant point.now) rows.now)
+        (All (RowIsNarrow with_constant point.now) rows.now) result }
 {
     for row in rows {
         match row_stands(row, point, with_constant) {
@@ -92,7 +94,8 @@ fn are_whole(marks: &[bool], point: &[Frac]) -> bool
 // Whether each number is at least its least value.
 fn are_above(bounds: &[Option<Frac>], point: &[Frac]) -> bool
     requires { length point.now ≡ length bounds.now }
-    ensures { IsTrue result ↔ ((j : ℕ) (b : ℚ) → bound_at bounds.now j ≡ Some b → b ≤ℚ at point.now j) }
+    ensures { IsTrue result
+        ↔ ((j : ℕ) (b : ℚ) → bound_at bounds.now j ≡ Some b → b ≤ℚ at point.now j) }
 {
     for (decision, bound) in bounds.iter().enumerate() {
         if let Some(least) = *bound {
@@ -107,7 +110,8 @@ fn are_above(bounds: &[Option<Frac>], point: &[Frac]) -> bool
 // Whether each number is at most its greatest value.
 fn are_below(bounds: &[Option<Frac>], point: &[Frac]) -> bool
     requires { length point.now ≡ length bounds.now }
-    ensures { IsTrue result ↔ ((j : ℕ) (b : ℚ) → bound_at bounds.now j ≡ Some b → at point.now j ≤ℚ b) }
+    ensures { IsTrue result
+        ↔ ((j : ℕ) (b : ℚ) → bound_at bounds.now j ≡ Some b → at point.now j ≤ℚ b) }
 {
     for (decision, bound) in bounds.iter().enumerate() {
         if let Some(greatest) = *bound {

@@ -40,7 +40,8 @@ impl Model for Tree {
 impl Tree {
     /// The tree of these nodes; none where they are no tree in preorder, or a floor or the number above it does not fit.
     pub fn from_nodes(nodes: Vec<TreeNode>) -> Option<Tree>
-        ensures { MatchOption result (¬ (IsTree (map node_of nodes.items))) (λ t. (t ≡ map node_of nodes.items) × IsTree t) }
+        ensures { MatchOption result (¬ (IsTree (map node_of nodes.items)))
+            (λ t. (t ≡ map node_of nodes.items) × IsTree t) }
     {
         if !is_tree(&nodes) {
             return None;
@@ -61,7 +62,8 @@ impl Tree {
 fn part_end(nodes: &[TreeNode], start: usize) -> usize
     requires within { start < length nodes.now }
     requires parts { PartsFrom (map node_of nodes.now) start }
-    ensures { (t : Certificate) (rest : List Node) → drop start (map node_of nodes.now) ≡ listing start t ++ rest → result ≡ start + size t }
+    ensures { (t : Certificate) (rest : List Node) → drop start (map node_of nodes.now)
+        ≡ listing start t ++ rest → result ≡ start + size t }
 {
     let mut place = start;
     loop {
@@ -89,7 +91,10 @@ fn is_narrow_floor(floor: i128) -> bool
 fn has_parts(nodes: &[TreeNode], place: usize, lower: usize, upper: usize) -> bool
     requires within { place < length nodes.now }
     requires parts { PartsFrom (map node_of nodes.now) (place + 1) }
-    ensures { IsTrue result ↔ ((lower ≡ place + 1) × (upper < length nodes.now) × (t : Certificate) × (rest : List Node) × (drop (place + 1) (map node_of nodes.now) ≡ listing (place + 1) t ++ rest) × (upper ≡ (place + 1) + size t)) }
+    ensures { IsTrue result
+        ↔ ((lower ≡ place + 1) × (upper < length nodes.now) × (t : Certificate) × (rest : List Node)
+        × (drop (place + 1) (map node_of nodes.now) ≡ listing (place + 1) t ++ rest)
+        × (upper ≡ (place + 1) + size t)) }
 {
     if lower != place + 1 || upper >= nodes.len() || lower >= nodes.len() {
         return false;

@@ -41,7 +41,8 @@ fn push_parts(
     requires greatest { decision < length within.now.greatest }
     requires floor { IsNarrowWhole floor }
     requires above { IsNarrowWhole (floor +ℤ pos 1) }
-    ensures { OnOk result (boxes.new.items ≡ boxes.old.items ++ upper_child within.now decision floor ∷ lower_child within.now decision floor ∷ []) }
+    ensures { OnOk result (boxes.new.items ≡ boxes.old.items
+        ++ upper_child within.now decision floor ∷ lower_child within.now decision floor ∷ []) }
 {
     let upper = within.at_least(alloc, decision, whole(floor + 1))?;
     let lower = within.at_most(alloc, decision, whole(floor))?;
@@ -62,7 +63,8 @@ fn step(
     requires floor { HasNarrowFloor (node_of node.now) }
     requires waits { 0 < length boxes.old.items }
     requires sized { All (IsBoxOf of.now) boxes.old.items }
-    ensures { (rest : List Box) (box : Box) → boxes.old.items ≡ rest ++ box ∷ [] → Stepped of.now most rest box (node_of node.now) boxes.new.items result }
+    ensures { (rest : List Box) (box : Box) → boxes.old.items ≡ rest ++ box ∷ []
+        → Stepped of.now most rest box (node_of node.now) boxes.new.items result }
 {
     let Some(within) = boxes.pop() else {
         unreachable!();
@@ -106,7 +108,8 @@ fn walk(
     requires floors { All HasNarrowFloor (map node_of nodes.now) }
     requires tree { (t : Tree) × (map node_of nodes.now ≡ listing 0 t) }
     requires start { start.items ≡ of.now.bounds ∷ [] }
-    ensures { (t : Tree) → map node_of nodes.now ≡ listing 0 t → Walked of.now most.now (boxed of.now.bounds t) result }
+    ensures { (t : Tree) → map node_of nodes.now ≡ listing 0 t
+        → Walked of.now most.now (boxed of.now.bounds t) result }
 {
     let mut boxes = start;
     for (number, node) in nodes.iter().enumerate() {
@@ -131,7 +134,8 @@ pub(crate) fn nodes_prove(
     requires places { length nodes.now ≤ 2 ^ 32 }
     requires floors { All HasNarrowFloor (map node_of nodes.now) }
     requires tree { (t : Tree) × (map node_of nodes.now ≡ listing 0 t) }
-    ensures { (t : Tree) → map node_of nodes.now ≡ listing 0 t → Walked of.now most (boxed of.now.bounds t) result }
+    ensures { (t : Tree) → map node_of nodes.now ≡ listing 0 t
+        → Walked of.now most (boxed of.now.bounds t) result }
 {
     match root(alloc, of) {
         Ok(boxes) => walk(alloc, of, nodes, &most, boxes),

@@ -20,7 +20,8 @@ use lin_model::LinModel;
 // Whether no number with a least value falls along the direction.
 fn none_falls(bounds: &[Option<Frac>], direction: &[Frac]) -> bool
     requires { length direction.now ≡ length bounds.now }
-    ensures { IsTrue result ↔ ((j : ℕ) (b : ℚ) → bound_at bounds.now j ≡ Some b → zero_ℚ ≤ℚ at direction.now j) }
+    ensures { IsTrue result
+        ↔ ((j : ℕ) (b : ℚ) → bound_at bounds.now j ≡ Some b → zero_ℚ ≤ℚ at direction.now j) }
 {
     for (decision, bound) in bounds.iter().enumerate() {
         if let Some(_least) = *bound {
@@ -35,7 +36,8 @@ fn none_falls(bounds: &[Option<Frac>], direction: &[Frac]) -> bool
 // Whether no number with a greatest value rises.
 fn none_rises(bounds: &[Option<Frac>], direction: &[Frac]) -> bool
     requires { length direction.now ≡ length bounds.now }
-    ensures { IsTrue result ↔ ((j : ℕ) (b : ℚ) → bound_at bounds.now j ≡ Some b → at direction.now j ≤ℚ zero_ℚ) }
+    ensures { IsTrue result
+        ↔ ((j : ℕ) (b : ℚ) → bound_at bounds.now j ≡ Some b → at direction.now j ≤ℚ zero_ℚ) }
 {
     for (decision, bound) in bounds.iter().enumerate() {
         if let Some(_greatest) = *bound {
@@ -50,7 +52,8 @@ fn none_rises(bounds: &[Option<Frac>], direction: &[Frac]) -> bool
 // Whether the form rises along the direction.
 fn rises(form: &Form, direction: &[Frac]) -> Result<bool, Wide>
     requires { ReachTo form.now.terms (length direction.now) }
-    ensures { Judged (zero_ℚ <ℚ form_at (without_constant form.now) direction.now) (StaysNarrow (form_sum (without_constant form.now) direction.now)) result }
+    ensures { Judged (zero_ℚ <ℚ form_at (without_constant form.now) direction.now)
+        (StaysNarrow (form_sum (without_constant form.now) direction.now)) result }
 {
     match terms_sum(Frac::zero(), form.terms(), direction) {
         Ok(sum) => {
@@ -71,7 +74,8 @@ pub(crate) fn is_way_out(of: &LinModel, wanted: &Form, direction: &[Frac]) -> Re
     requires wanted { wanted.now ≡ maximised of.now.goal of.now.objective }
     requires below { ReachTo wanted.now.terms (length of.now.whole) }
     requires one_each { length direction.now ≡ length of.now.whole }
-    ensures { Judged (IsWayOut of.now direction.now) (StepsAreNarrow of.now direction.now × StaysNarrow (form_sum (without_constant wanted.now) direction.now)) result }
+    ensures { Judged (IsWayOut of.now direction.now) (StepsAreNarrow of.now direction.now
+        × StaysNarrow (form_sum (without_constant wanted.now) direction.now)) result }
 {
     if !none_falls(of.bounds().least(), direction) {
         return Ok(false);

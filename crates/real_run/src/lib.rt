@@ -50,15 +50,28 @@ pub fn run_with_pickers<F: Folder, S: Source, K: Sink>(
     out: &mut K,
 ) -> Result<Status, AllocError>
     ensures headline { IfOk result (RunsAs (asked_of (texts_of words.now))
-        (seen (F.content folder.old) (F.read_faults folder.old) (F.write_faults folder.old) (F.write_wants folder.old) (S.left script.old) (S.faults script.old) (K.pieces out.old) (K.faults out.old))
-        (seen (F.content folder.new) (F.read_faults folder.new) (F.write_faults folder.new) (F.write_wants folder.new) (S.left script.new) (S.faults script.new) (K.pieces out.new) (K.faults out.new))) }
-    ensures exactly { IfOk result (EndsExactly (asked_of (texts_of words.now)) (F.content folder.old) (S.left script.old)) }
+        (seen (F.content folder.old) (F.read_faults folder.old)
+        (F.write_faults folder.old) (F.write_wants folder.old) (S.left script.old)
+        (S.faults script.old) (K.pieces out.old) (K.faults out.old))
+        (seen (F.content folder.new) (F.read_faults folder.new)
+        (F.write_faults folder.new) (F.write_wants folder.new) (S.left script.new)
+        (S.faults script.new) (K.pieces out.new) (K.faults out.new))) }
+    ensures exactly { IfOk result
+        (EndsExactly (asked_of (texts_of words.now)) (F.content folder.old) (S.left script.old)) }
     ensures counts { IfOk result (IsCounted
-        (seen (F.content folder.old) (F.read_faults folder.old) (F.write_faults folder.old) (F.write_wants folder.old) (S.left script.old) (S.faults script.old) (K.pieces out.old) (K.faults out.old))
-        (seen (F.content folder.new) (F.read_faults folder.new) (F.write_faults folder.new) (F.write_wants folder.new) (S.left script.new) (S.faults script.new) (K.pieces out.new) (K.faults out.new))) }
+        (seen (F.content folder.old) (F.read_faults folder.old)
+        (F.write_faults folder.old) (F.write_wants folder.old) (S.left script.old)
+        (S.faults script.old) (K.pieces out.old) (K.faults out.old))
+        (seen (F.content folder.new) (F.read_faults folder.new)
+        (F.write_faults folder.new) (F.write_wants folder.new) (S.left script.new)
+        (S.faults script.new) (K.pieces out.new) (K.faults out.new))) }
     ensures unread { OnErr result (
-        seen (F.content folder.new) (F.read_faults folder.new) (F.write_faults folder.new) (F.write_wants folder.new) (S.left script.new) (S.faults script.new) (K.pieces out.new) (K.faults out.new)
-        ≡ seen (F.content folder.old) (F.read_faults folder.old) (F.write_faults folder.old) (F.write_wants folder.old) (S.left script.old) (S.faults script.old) (K.pieces out.old) (K.faults out.old)) }
+        seen (F.content folder.new) (F.read_faults folder.new)
+        (F.write_faults folder.new) (F.write_wants folder.new) (S.left script.new)
+        (S.faults script.new) (K.pieces out.new) (K.faults out.new)
+        ≡ seen (F.content folder.old) (F.read_faults folder.old)
+        (F.write_faults folder.old) (F.write_wants folder.old) (S.left script.old)
+        (S.faults script.old) (K.pieces out.old) (K.faults out.old)) }
 {
     let mut pickers: Vec<Box<dyn Picker>> = Vec::new(alloc);
     pickers.push(Box::new(alloc, Depth)?)?;

@@ -18,7 +18,8 @@ pub(crate) fn add_row(
     columns: u16,
     rows: &mut Rows,
 ) -> Result<(), Memory>
-    ensures { OnOk result (rows.new ≡ rows.old ++ fields_to book.now.contents sheet.0 row columns ∷ []) }
+    ensures { OnOk result (rows.new
+        ≡ rows.old ++ fields_to book.now.contents sheet.0 row columns ∷ []) }
 {
     if columns == 0 {
         return rows.add(&[""]);

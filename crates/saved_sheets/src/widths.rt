@@ -29,7 +29,8 @@ pub(crate) fn used_widths(
 // Makes the row of a cell reach to it, where the cell lies on the sheet.
 fn reach(widths: &mut Vec<u16>, sheet: SheetId, cell: Cell) -> Result<(), Memory>
     requires { cell.col < COLUMNS }
-    ensures { OnOk result (IsReachedOn (cell.sheet.0 == sheet.0) cell widths.old.items widths.new.items) }
+    ensures { OnOk result
+        (IsReachedOn (cell.sheet.0 == sheet.0) cell widths.old.items widths.new.items) }
 {
     if cell.sheet != sheet {
         return Ok(());
@@ -44,7 +45,8 @@ fn reach(widths: &mut Vec<u16>, sheet: SheetId, cell: Cell) -> Result<(), Memory
 
 // Adds rows that reach nowhere, up to so many.
 fn have_rows(widths: &mut Vec<u16>, rows: usize) -> Result<(), Memory>
-    ensures same { OnOk result ((row : ℕ) → slice_index widths.new.items row ≡ slice_index widths.old.items row) }
+    ensures same { OnOk result ((row : ℕ) → slice_index widths.new.items row
+        ≡ slice_index widths.old.items row) }
     ensures rows { OnOk result (length widths.new.items ≡ max (length widths.old.items) rows) }
 {
     if widths.len() < rows {

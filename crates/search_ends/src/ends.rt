@@ -39,7 +39,8 @@ fn is_better(best: Option<Frac>, value: Frac) -> bool
 // The split at a decision and the number that isn't whole there.
 fn split_at(decision: u16, number: Frac, value: Frac) -> NodeEnd
     requires { denominator number ≢ 1 }
-    ensures split { (point way : List ℚ) → end_at result point way ≡ split decision (floor_ℚ number) value }
+    ensures split { (point way : List ℚ) → end_at result point way
+        ≡ split decision (floor_ℚ number) value }
     ensures narrow { HasNarrowParts result }
 {
     let _num = number.num();
@@ -49,7 +50,8 @@ fn split_at(decision: u16, number: Frac, value: Frac) -> NodeEnd
 // What becomes of a node whose program has its best value at the point.
 fn end_at_best(model: &LinModel, best: Option<Frac>, point: &[Frac], value: Frac) -> NodeEnd
     requires one_each { length point.now ≡ length model.now.whole }
-    ensures comes { (way : List ℚ) → ComesToWith model.now best (at_best point.now value) (end_at result point.now way) }
+    ensures comes { (way : List ℚ)
+        → ComesToWith model.now best (at_best point.now value) (end_at result point.now way) }
     ensures narrow { HasNarrowParts result }
 {
     let _valid = model.whole();
@@ -77,7 +79,8 @@ pub fn end_of(
     requires decisions { length of.now.columns ≡ length model.now.whole }
     requires point { length point.old ≡ length model.now.whole }
     requires direction { length direction.old ≡ length model.now.whole }
-    ensures end { MatchOption result (¬ (HasEnded dict.now)) (λ e. IsEndOf model.now best of.now dict.now (end_at e point.new direction.new)) }
+    ensures end { MatchOption result (¬ (HasEnded dict.now))
+        (λ e. IsEndOf model.now best of.now dict.now (end_at e point.new direction.new)) }
     ensures narrow { IfSome result HasNarrowParts }
 {
     match choose_next(of, dict) {

@@ -55,7 +55,8 @@ fn copy_bounds(alloc: Global, bounds: &[Option<Frac>]) -> Result<Vec<Option<Frac
 
 // The part of the box: a decision past the last one has no bounds.
 fn narrow(part: &Part, least: &mut [Option<Frac>], greatest: &mut [Option<Frac>])
-    ensures { record { least = least.new; greatest = greatest.new } ≡ part_of (record { least = least.old; greatest = greatest.old }) part.now }
+    ensures { record { least = least.new; greatest = greatest.new }
+        ≡ part_of (record { least = least.old; greatest = greatest.old }) part.now }
 {
     let (decision, is_upper, bound) = part.step();
     let decision = decision as usize;

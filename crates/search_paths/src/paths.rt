@@ -66,7 +66,10 @@ impl Paths {
     pub fn push_part(&mut self, parent: usize, part: Part)
         requires room { HasRoom self.old 1 }
         requires parent { parent < length self.old.paths }
-        ensures { self.new ≡ record { paths = self.old.paths ++ (path_at self.old parent ++ part ∷ []) ∷ []; room = self.old.room } }
+        ensures { self.new ≡ record {
+          paths = self.old.paths ++ (path_at self.old parent ++ part ∷ []) ∷ [];
+          room = self.old.room;
+        } }
     {
         self.origins.push_reserved(part.origin(parent));
     }

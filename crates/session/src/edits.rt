@@ -15,10 +15,13 @@ use workbook::{EditFault, sheet_in, unname_fault};
 impl Session {
     // Gives a name a text, for the sheet that is named or for the whole workbook.
     pub(crate) fn name(&mut self, sheet: &str, name: &str, text: &str) -> Result<Answer, Memory>
-        ensures step { IfOk result (λ answer. Does (λ home. IsDone (with_name self.old.state home name.now text.now)) self.old.state (home_to_name self.old.state.book sheet.now name.now text.now) answer self.new.state) }
+        ensures step { IfOk result (λ answer.
+            Does (λ home. IsDone (with_name self.old.state home name.now text.now)) self.old.state
+            (home_to_name self.old.state.book sheet.now name.now text.now) answer self.new.state) }
         ensures said { IfOk result (CanBeSaid self.old.state.book.sheets) }
         ensures sheets { self.new.state.book.sheets ≡ self.old.state.book.sheets }
-        ensures memory { OnErr result (IsInterrupted self.old.state (Name sheet.now name.now text.now) self.new.state) }
+        ensures memory { OnErr result
+            (IsInterrupted self.old.state (Name sheet.now name.now text.now) self.new.state) }
     {
         let Some(home) = sheet_in(self.book.sheets(), sheet) else {
             return Ok(Answer::UnknownSheet);
@@ -34,10 +37,13 @@ impl Session {
 
     // Takes away a name of the sheet that is named, or of the whole workbook.
     pub(crate) fn unname(&mut self, sheet: &str, name: &str) -> Result<Answer, Memory>
-        ensures step { IfOk result (λ answer. Does (λ home. IsDone (without_name self.old.state home name.now)) self.old.state (home_to_unname self.old.state.book sheet.now name.now) answer self.new.state) }
+        ensures step { IfOk result (λ answer.
+            Does (λ home. IsDone (without_name self.old.state home name.now)) self.old.state
+            (home_to_unname self.old.state.book sheet.now name.now) answer self.new.state) }
         ensures said { IfOk result (CanBeSaid self.old.state.book.sheets) }
         ensures sheets { self.new.state.book.sheets ≡ self.old.state.book.sheets }
-        ensures memory { OnErr result (IsInterrupted self.old.state (Unname sheet.now name.now) self.new.state) }
+        ensures memory { OnErr result
+            (IsInterrupted self.old.state (Unname sheet.now name.now) self.new.state) }
     {
         let Some(home) = sheet_in(self.book.sheets(), sheet) else {
             return Ok(Answer::UnknownSheet);
@@ -52,7 +58,8 @@ impl Session {
 
     // Sets how many units a later search may spend.
     pub(crate) fn set_budget(&mut self, units: &str) -> Answer
-        ensures step { Does (λ n. IsDone (with_budget self.old.state n)) self.old.state (units_named units.now) result self.new.state }
+        ensures step { Does (λ n. IsDone (with_budget self.old.state n)) self.old.state
+            (units_named units.now) result self.new.state }
         ensures said { CanBeSaid self.old.state.book.sheets result }
         ensures sheets { self.new.state.book.sheets ≡ self.old.state.book.sheets }
     {

@@ -35,9 +35,12 @@ pub(crate) fn model_of(alloc: Global, book: &Workbook, sheet: SheetId) -> Result
 
 /// The answer for a sheet without a model.
 pub(crate) fn answer_without_model(stop: NoModel) -> Result<Answer, Memory>
-    ensures models { IfOk result (λ answer. (book : State) (sheet : ℕ) → Prepares book sheet (Err stop) → Models book sheet answer) }
-    ensures solves { IfOk result (λ answer. (rule : Rule) (before : SessionState) (sheet : ℕ) → Prepares before.book sheet (Err stop) → SolvesSheet rule before sheet answer before) }
-    ensures said { IfOk result (λ answer. (book : State) (sheet : ℕ) → Prepares book sheet (Err stop) → StopIsListed book stop → CanBeSaid book.sheets answer) }
+    ensures models { IfOk result (λ answer. (book : State) (sheet : ℕ)
+        → Prepares book sheet (Err stop) → Models book sheet answer) }
+    ensures solves { IfOk result (λ answer. (rule : Rule) (before : SessionState) (sheet : ℕ)
+        → Prepares before.book sheet (Err stop) → SolvesSheet rule before sheet answer before) }
+    ensures said { IfOk result (λ answer. (book : State) (sheet : ℕ)
+        → Prepares book sheet (Err stop) → StopIsListed book stop → CanBeSaid book.sheets answer) }
 {
     match stop {
         NoModel::Names(fault) => Ok(Answer::Names(fault)),

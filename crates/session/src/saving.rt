@@ -36,8 +36,10 @@ impl Session {
 
     // The files of the sheets that have changed, in their order.
     fn changed_files(&self) -> Result<Vec<SaveFile>, Memory>
-        ensures files { IfOk result (λ files. files.items ≡ changed_from self.now.state.book 0 self.now.state.changed.sheets) }
-        ensures memory { OnErr result (changed_from self.now.state.book 0 self.now.state.changed.sheets ≢ []) }
+        ensures files { IfOk result (λ files. files.items
+            ≡ changed_from self.now.state.book 0 self.now.state.changed.sheets) }
+        ensures memory { OnErr result
+            (changed_from self.now.state.book 0 self.now.state.changed.sheets ≢ []) }
     {
         let mut files = Vec::new(self.alloc);
         for place in 0..self.book.sheets().len() {

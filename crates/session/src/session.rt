@@ -90,10 +90,12 @@ impl Session {
     /// Does what the command says.
     pub fn apply(&mut self, command: &Command, pick: &mut Box<dyn Picker>) -> Result<Answer, Memory>
         ensures rule { rule pick.new ≡ rule pick.old }
-        ensures step { IfOk result (λ answer. Applies (rule pick.old) self.old.state (spoken command.now) answer self.new.state) }
+        ensures step { IfOk result (λ answer.
+            Applies (rule pick.old) self.old.state (spoken command.now) answer self.new.state) }
         ensures said { IfOk result (CanBeSaid self.old.state.book.sheets) }
         ensures sheets { self.new.state.book.sheets ≡ self.old.state.book.sheets }
-        ensures memory { OnErr result (IsInterrupted self.old.state (spoken command.now) self.new.state) }
+        ensures memory { OnErr result
+            (IsInterrupted self.old.state (spoken command.now) self.new.state) }
     {
         match command {
             Command::Set(address, text) => self.set(address.as_str(), text.as_str()),
@@ -113,10 +115,13 @@ impl Session {
 
     // Puts a text into the cell that is named.
     fn set(&mut self, address: &str, text: &str) -> Result<Answer, Memory>
-        ensures step { IfOk result (λ answer. Does (λ cell. IsDone (with_text self.old.state cell text.now)) self.old.state (cell_to_set self.old.state.book address.now text.now) answer self.new.state) }
+        ensures step { IfOk result (λ answer.
+            Does (λ cell. IsDone (with_text self.old.state cell text.now)) self.old.state
+            (cell_to_set self.old.state.book address.now text.now) answer self.new.state) }
         ensures said { IfOk result (CanBeSaid self.old.state.book.sheets) }
         ensures sheets { self.new.state.book.sheets ≡ self.old.state.book.sheets }
-        ensures memory { OnErr result (IsInterrupted self.old.state (Set address.now text.now) self.new.state) }
+        ensures memory { OnErr result
+            (IsInterrupted self.old.state (Set address.now text.now) self.new.state) }
     {
         match locate(self.book.sheets(), address) {
             Ok(cell) => self.put(cell, text),
@@ -127,7 +132,9 @@ impl Session {
     // Puts a text into a cell.
     fn put(&mut self, cell: Cell, text: &str) -> Result<Answer, Memory>
         requires listed { cell.sheet.0 < length self.old.state.book.sheets }
-        ensures step { IfOk result (λ answer. Does (λ c. IsDone (with_text self.old.state c text.now)) self.old.state (unless (set_fault self.old.state.book cell text.now) cell) answer self.new.state) }
+        ensures step { IfOk result (λ answer.
+            Does (λ c. IsDone (with_text self.old.state c text.now)) self.old.state
+            (unless (set_fault self.old.state.book cell text.now) cell) answer self.new.state) }
         ensures said { IfOk result (CanBeSaid self.old.state.book.sheets) }
         ensures sheets { self.new.state.book.sheets ≡ self.old.state.book.sheets }
         ensures allowed { OnErr result (set_fault self.old.state.book cell text.now ≡ None) }
@@ -145,7 +152,8 @@ impl Session {
 
     // Takes away the text of the cell that is named.
     fn clear(&mut self, address: &str) -> Answer
-        ensures step { Does (λ cell. IsDone (with_text self.old.state cell [])) self.old.state (cell_named self.old.state.book.sheets address.now) result self.new.state }
+        ensures step { Does (λ cell. IsDone (with_text self.old.state cell [])) self.old.state
+            (cell_named self.old.state.book.sheets address.now) result self.new.state }
         ensures said { CanBeSaid self.old.state.book.sheets result }
         ensures sheets { self.new.state.book.sheets ≡ self.old.state.book.sheets }
     {
@@ -161,9 +169,11 @@ impl Session {
 
     // Shows the cell that is named.
     fn show(&self, address: &str) -> Result<Answer, Memory>
-        ensures step { IfOk result (λ answer. Does (Shows self.now.state) self.now.state (cell_named self.now.state.book.sheets address.now) answer self.now.state) }
+        ensures step { IfOk result (λ answer. Does (Shows self.now.state) self.now.state
+            (cell_named self.now.state.book.sheets address.now) answer self.now.state) }
         ensures said { IfOk result (CanBeSaid self.now.state.book.sheets) }
-        ensures memory { OnErr result (IsInterrupted self.now.state (Show address.now) self.now.state) }
+        ensures memory { OnErr result
+            (IsInterrupted self.now.state (Show address.now) self.now.state) }
     {
         match locate(self.book.sheets(), address) {
             Ok(cell) => self.show_cell(cell),
@@ -186,9 +196,11 @@ impl Session {
 
     // The model of the sheet that is named.
     fn model(&self, name: &str) -> Result<Answer, Memory>
-        ensures step { IfOk result (λ answer. Does (ModelsSheet self.now.state) self.now.state (sheet_named self.now.state.book.sheets name.now) answer self.now.state) }
+        ensures step { IfOk result (λ answer. Does (ModelsSheet self.now.state) self.now.state
+            (sheet_named self.now.state.book.sheets name.now) answer self.now.state) }
         ensures said { IfOk result (CanBeSaid self.now.state.book.sheets) }
-        ensures memory { OnErr result (IsInterrupted self.now.state (ToModel name.now) self.now.state) }
+        ensures memory { OnErr result
+            (IsInterrupted self.now.state (ToModel name.now) self.now.state) }
     {
         match self.book.sheets().find(name) {
             Some(sheet) => model_of(self.alloc, &self.book, sheet),
@@ -198,10 +210,12 @@ impl Session {
 
     // Solves the sheet that is named.
     fn solve(&mut self, name: &str, pick: &mut Box<dyn Picker>) -> Result<Answer, Memory>
-        ensures step { IfOk result (λ answer. Applies (rule pick.old) self.old.state (Solve name.now) answer self.new.state) }
+        ensures step { IfOk result (λ answer.
+            Applies (rule pick.old) self.old.state (Solve name.now) answer self.new.state) }
         ensures said { IfOk result (CanBeSaid self.old.state.book.sheets) }
         ensures sheets { self.new.state.book.sheets ≡ self.old.state.book.sheets }
-        ensures memory { OnErr result (IsInterrupted self.old.state (Solve name.now) self.new.state) }
+        ensures memory { OnErr result
+            (IsInterrupted self.old.state (Solve name.now) self.new.state) }
         ensures rule { rule pick.new ≡ rule pick.old }
     {
         match self.book.sheets().find(name) {
@@ -213,7 +227,8 @@ impl Session {
     // Solves a sheet.
     fn solve_sheet(&mut self, sheet: SheetId, pick: &mut Box<dyn Picker>) -> Result<Answer, Memory>
         requires listed { sheet.0 < length self.old.state.book.sheets }
-        ensures step { IfOk result (λ answer. SolvesSheet (rule pick.old) self.old.state sheet.0 answer self.new.state) }
+        ensures step { IfOk result (λ answer.
+            SolvesSheet (rule pick.old) self.old.state sheet.0 answer self.new.state) }
         ensures said { IfOk result (CanBeSaid self.old.state.book.sheets) }
         ensures sheets { self.new.state.book.sheets ≡ self.old.state.book.sheets }
         ensures memory { OnErr result (self.new.state ≡ self.old.state) }
@@ -233,9 +248,11 @@ impl Session {
         pick: &mut Box<dyn Picker>,
     ) -> Result<Answer, Memory>
         requires prepared { IsPrepared self.old.state.book sheet.0 (prepared_of prepared) }
-        requires model { ModelIsTheSheet self.old.state.book (statement_of prepared.statement) prepared.model }
+        requires model { ModelIsTheSheet self.old.state.book
+            (statement_of prepared.statement) prepared.model }
         requires whole { IsWhole self.old.state.book (statement_of prepared.statement) }
-        ensures step { IfOk result (λ answer. SearchEnds (rule pick.old) self.old.state (prepared_of prepared) answer self.new.state) }
+        ensures step { IfOk result (λ answer. SearchEnds (rule pick.old) self.old.state
+            (prepared_of prepared) answer self.new.state) }
         ensures said { IfOk result (CanBeSaid self.old.state.book.sheets) }
         ensures sheets { self.new.state.book.sheets ≡ self.old.state.book.sheets }
         ensures memory { OnErr result (self.new.state ≡ self.old.state) }

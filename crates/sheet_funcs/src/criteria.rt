@@ -61,7 +61,9 @@ fn total_met(
     others: &[Value],
 ) -> Result<Option<Frac>, ErrorKind>
     requires { length tested.now ≡ length others.now }
-    ensures { result ≡ tally_or_error Total (Some zero_ℚ) (numbers_among (map (λ (p : Value × Value). p.1) (filter (λ (p : Value × Value). is_met criterion.now p.0) (zip tested.now others.now)))) }
+    ensures { result
+        ≡ tally_or_error Total (Some zero_ℚ) (numbers_among (map (λ (p : Value × Value). p.1)
+        (filter (λ (p : Value × Value). is_met criterion.now p.0) (zip tested.now others.now)))) }
 {
     let mut total = Some(Frac::zero());
     for (place, item) in tested.iter().enumerate() {

@@ -10,7 +10,8 @@ use sheet_model::{Arg, Value};
 
 /// The one value of an argument, or the error that it is.
 pub fn value_or_error(arg: &Arg) -> Result<&Value, ErrorKind>
-    ensures { result_map_both (λ value. value.now) (λ kind. kind) result ≡ no_error (value_of arg.now) }
+    ensures { result_map_both (λ value. value.now) (λ kind. kind) result
+        ≡ no_error (value_of arg.now) }
 {
     match value_of(arg) {
         Ok(Value::Error(kind)) => Err(*kind),

@@ -12,8 +12,10 @@ use sheet_model::{Arg, Value, to_logical, to_number};
 
 /// The single value, or the one element of an area; the error stands for an area of another size.
 pub fn value_of(arg: &Arg) -> Result<&Value, ErrorKind>
-    ensures value { MatchResult result (λ value. value.now ≡ value_of arg.now) (λ kind. Error kind ≡ value_of arg.now) }
-    ensures one { result_map_both (λ value. value.now) (λ kind. kind) result ≡ one_of (elements_of arg.now) }
+    ensures value { MatchResult result (λ value. value.now ≡ value_of arg.now)
+        (λ kind. Error kind ≡ value_of arg.now) }
+    ensures one { result_map_both (λ value. value.now) (λ kind. kind) result
+        ≡ one_of (elements_of arg.now) }
 {
     match elements_of(arg) {
         [value] => Ok(value),

@@ -156,7 +156,8 @@ fn lookup(
     rest: &[Arg],
 ) -> Result<Arg, FuncStop>
     requires { IsIndexed table.now }
-    ensures { (g : Rectangle) → IsTable table.now g → Answers (lookup_of g (key.now ∷ place.now ∷ rest.now)) result }
+    ensures { (g : Rectangle) → IsTable table.now g
+        → Answers (lookup_of g (key.now ∷ place.now ∷ rest.now)) result }
 {
     match field_found(table, key, place, rest) {
         Ok((record, field)) => Ok(Arg::One(table.at(record, field).copy(alloc)?)),
@@ -172,7 +173,8 @@ fn field_found(
     rest: &[Arg],
 ) -> Result<(u32, u32), ErrorKind>
     requires { HasKeys table.now }
-    ensures pick { one_field result ≡ record_pick table.now.fields (keys_of table.now) (key.now ∷ place.now ∷ rest.now) }
+    ensures pick { one_field result
+        ≡ record_pick table.now.fields (keys_of table.now) (key.now ∷ place.now ∷ rest.now) }
     ensures within { IfOk result (AreWithin table.now.keys table.now.fields) }
 {
     let key = value_or_error(key)?;

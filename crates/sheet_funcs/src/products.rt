@@ -124,7 +124,8 @@ fn product_in(args: &[Arg], place: usize) -> Result<Frac, FuncStop>
 
 // The product of a number and the factors in one place.
 fn product_from(first: Frac, others: &[Arg], place: usize) -> Result<Frac, FuncStop>
-    ensures answer { Answers (product_of (first ∷ factors_at (map grid_of others.now) place)) result }
+    ensures answer { Answers
+        (product_of (first ∷ factors_at (map grid_of others.now) place)) result }
     ensures stop { IsOkUnless result stops.Wide }
 {
     let mut product = first;
@@ -185,7 +186,9 @@ fn size_of(arg: &Arg) -> (u32, u32)
 
 // The elements of the matrix product, row by row.
 fn product_items(alloc: Global, left: &Arg, right: &Arg) -> Result<Vec<Value>, FuncStop>
-    ensures { Answers (for_each (value_at (grid_of left.now) (grid_of right.now)) (places_of (grid_of left.now).rows (grid_of right.now).columns)) (result_map_both (λ items. items.items) (λ stop. stop) result) }
+    ensures { Answers (for_each (value_at (grid_of left.now) (grid_of right.now))
+        (places_of (grid_of left.now).rows (grid_of right.now).columns))
+        (result_map_both (λ items. items.items) (λ stop. stop) result) }
 {
     let mut items = Vec::new(alloc);
     for row in 0..rows_of(left) {
@@ -196,7 +199,11 @@ fn product_items(alloc: Global, left: &Arg, right: &Arg) -> Result<Vec<Value>, F
 
 // Adds a row of the matrix product.
 fn push_products(left: &Arg, right: &Arg, row: u32, items: &mut Vec<Value>) -> Result<(), FuncStop>
-    ensures { MatchResult result (λ _. behind_items items.old.items (narrow (for_each (value_at (grid_of left.now) (grid_of right.now)) (places_in (grid_of right.now).columns row))) ≡ Some items.new.items) (λ stop. Answers (for_each (value_at (grid_of left.now) (grid_of right.now)) (places_in (grid_of right.now).columns row)) (Err stop)) }
+    ensures { MatchResult result (λ _. behind_items items.old.items
+        (narrow (for_each (value_at (grid_of left.now) (grid_of right.now))
+        (places_in (grid_of right.now).columns row))) ≡ Some items.new.items)
+        (λ stop. Answers (for_each (value_at (grid_of left.now) (grid_of right.now))
+        (places_in (grid_of right.now).columns row)) (Err stop)) }
 {
     for column in 0..columns_of(right) {
         items.push(Value::Number(product_at(left, right, row, column)?))?;
@@ -243,7 +250,8 @@ fn transposed_items(alloc: Global, arg: &Arg) -> Result<Vec<Value>, Memory>
 
 // Adds the elements of a column.
 fn push_column(alloc: Global, arg: &Arg, column: u32, items: &mut Vec<Value>) -> Result<(), Memory>
-    ensures { OnOk result (items.new.items ≡ items.old.items ++ column_of (grid_of arg.now) column) }
+    ensures { OnOk result (items.new.items
+        ≡ items.old.items ++ column_of (grid_of arg.now) column) }
 {
     for row in 0..rows_of(arg) {
         items.push(copy_at(alloc, arg, row, column)?)?;

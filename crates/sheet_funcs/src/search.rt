@@ -49,7 +49,8 @@ fn first_equal(key: &Value, items: &[Value], step: u32, count: u32) -> Option<u3
 fn last_before(order: Ordering, key: &Value, items: &[Value], step: u32, count: u32) -> Option<u32>
     requires key { (k : ErrorKind) → key.now ≢ Error k }
     requires spaced { IsSpaced items.now step count }
-    ensures place { result ≡ last_place is_key (before_first (stands order key.now) (spaced items.now step count)) }
+    ensures place { result
+        ≡ last_place is_key (before_first (stands order key.now) (spaced items.now step count)) }
     ensures within { IfSome result (λ place. place < count) }
 {
     let mut last = None;

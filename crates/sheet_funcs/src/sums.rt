@@ -91,7 +91,8 @@ pub fn max(args: &[Arg]) -> Result<Arg, FuncStop>
 // A sum divided by how many numbers there are.
 fn mean(sum: Frac, count: i128) -> Result<Arg, FuncStop>
     requires { IsNarrowWhole count }
-    ensures answer { (xs : List ℚ) → narrow (total xs) ≡ Some sum → count ≡ pos (length xs) → Answers (mean xs) result }
+    ensures answer { (xs : List ℚ) → narrow (total xs) ≡ Some sum
+        → count ≡ pos (length xs) → Answers (mean xs) result }
     ensures stop { IsOkUnless result stops.Wide }
 {
     if count == 0 {
@@ -138,7 +139,9 @@ fn is_item(value: &Value) -> bool
 
 /// A sum as a result: the sum, what stops it where it isn't narrow, or the error that it met.
 pub(crate) fn sum_answer(sum: Result<Option<Frac>, ErrorKind>) -> Result<Arg, FuncStop>
-    ensures answer { (numbers : Result (List ℚ) ErrorKind) → sum ≡ tally_or_error Total (Some zero_ℚ) numbers → Answers (on_ok numbers (λ xs. counted (total xs))) result }
+    ensures answer { (numbers : Result (List ℚ) ErrorKind) → sum
+        ≡ tally_or_error Total (Some zero_ℚ) numbers
+        → Answers (on_ok numbers (λ xs. counted (total xs))) result }
     ensures stop { IsOkUnless result stops.Wide }
 {
     match sum {

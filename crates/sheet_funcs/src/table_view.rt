@@ -26,7 +26,8 @@ impl TableView<'_> {
         requires indexed { IsIndexed self.now }
         requires key { key < self.now.keys }
         requires field { field < self.now.fields }
-        ensures { result.now ≡ slice_index_or self.now.items.now (field_place self.now key field) Empty }
+        ensures { result.now
+            ≡ slice_index_or self.now.items.now (field_place self.now key field) Empty }
     {
         &self.items[key as usize * self.key_step as usize
             + field as usize * self.field_step as usize]

@@ -69,7 +69,8 @@ impl Tally {
         before: Option<Frac>,
         item: &Value,
     ) -> Result<Option<Frac>, ErrorKind>
-        ensures { result ≡ tally_or_error self before (all_or_error (option_to_list (number_at item.now))) }
+        ensures { result
+            ≡ tally_or_error self before (all_or_error (option_to_list (number_at item.now))) }
     {
         match item {
             Value::Number(number) => Ok(self.with(before, *number)),

@@ -61,7 +61,9 @@ fn on_numbers<F: Fn(Frac, Frac) -> Result<Value, FuncStop>>(
     work: F,
 ) -> Result<Value, FuncStop>
     requires { F.IsAlwaysCallable work }
-    ensures { (f : ℚ → ℚ → Calculation Value) → ((x y : ℚ) (r : _) → F.post work x y r → Answers (f x y) r) → Answers (on_numbers f (number_in a.now) (number_in b.now)) result }
+    ensures { (f : ℚ → ℚ → Calculation Value)
+        → ((x y : ℚ) (r : _) → F.post work x y r → Answers (f x y) r)
+        → Answers (on_numbers f (number_in a.now) (number_in b.now)) result }
 {
     match (to_number(a), to_number(b)) {
         (Ok(x), Ok(y)) => work(x, y),
@@ -134,7 +136,8 @@ fn is_zero_below_zero(x: Frac, y: Frac) -> bool
 
 // The whole number from -1000 to 1000 that a number is.
 fn exponent(number: Frac) -> Option<i32>
-    ensures found { MatchOption result (is_exponent number ≡ false) (λ e. (is_exponent number ≡ true) × (e ≡ numerator number)) }
+    ensures found { MatchOption result (is_exponent number ≡ false)
+        (λ e. (is_exponent number ≡ true) × (e ≡ numerator number)) }
     ensures low { IfSome result (λ e. negsuc 999 ≤ℤ e) }
     ensures high { IfSome result (λ e. e ≤ℤ pos 1000) }
 {

@@ -39,7 +39,8 @@ pub fn to_logical(value: &Value) -> Result<bool, ErrorKind>
 
 /// The value as a text.
 pub(crate) fn to_text(alloc: Global, value: &Value) -> Result<Result<String, ErrorKind>, Memory>
-    ensures { IfOk result (λ text. result_map_both string_bytes (λ kind. kind) text ≡ text_in value.now) }
+    ensures { IfOk result (λ text. result_map_both string_bytes (λ kind. kind) text
+        ≡ text_in value.now) }
 {
     match value {
         Value::Number(number) => Ok(Ok(numeral(alloc, *number)?)),

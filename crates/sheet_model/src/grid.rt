@@ -22,14 +22,17 @@ impl Model for Grid {
 
     ghost view = { λ g. record { rows = g.rows; columns = g.cols; items = g.items.items } };
 
-    ghost invariant = { λ g. IsFull (record { rows = g.rows; columns = g.cols; items = g.items.items }) };
+    ghost invariant = { λ g.
+        IsFull (record { rows = g.rows; columns = g.cols; items = g.items.items }) };
 }
 
 impl Grid {
     /// The grid of these values, row by row; none where there is no row or no column, or another number of values.
     pub fn new(rows: u32, cols: u32, items: Vec<Value>) -> Option<Grid>
-        ensures found { IfSome result (λ g. IsFull g × (g ≡ record { rows = rows; columns = cols; items = items.items })) }
-        ensures none { IfNone result (IsFull (record { rows = rows; columns = cols; items = items.items }) → ⊥) }
+        ensures found { IfSome result (λ g. IsFull g
+            × (g ≡ record { rows = rows; columns = cols; items = items.items })) }
+        ensures none { IfNone result
+            (IsFull (record { rows = rows; columns = cols; items = items.items }) → ⊥) }
     {
         if rows == 0 || cols == 0 || items.len() as u64 != rows as u64 * cols as u64 {
             return None;
@@ -73,7 +76,8 @@ impl Grid {
     /// The grid of the same size with these values.
     pub(crate) fn with_items(&self, items: Vec<Value>) -> Grid
         requires { length items.items ≡ length self.now.items }
-        ensures { result ≡ record { rows = self.now.rows; columns = self.now.columns; items = items.items } }
+        ensures { result
+            ≡ record { rows = self.now.rows; columns = self.now.columns; items = items.items } }
     {
         Grid {
             rows: self.rows,

@@ -82,7 +82,9 @@ fn on_each<F: Fn(&Value) -> Result<Value, FuncStop>>(
     work: F,
 ) -> Result<Arg, FuncStop>
     requires { F.IsAlwaysCallable work }
-    ensures { (f : Value → Calculation Value) → ((x : _) (r : _) → F.post work x r → Answers (f x.now) r) → Answers (on_each f (single arg.now)) result }
+    ensures { (f : Value → Calculation Value)
+        → ((x : _) (r : _) → F.post work x r → Answers (f x.now) r)
+        → Answers (on_each f (single arg.now)) result }
 {
     match side_of(arg) {
         Side::One(value) => as_one(work(value)),
@@ -97,7 +99,9 @@ fn on_grid<F: Fn(&Value) -> Result<Value, FuncStop>>(
     work: F,
 ) -> Result<Arg, FuncStop>
     requires { F.IsAlwaysCallable work }
-    ensures { (f : Value → Calculation Value) → ((x : _) (r : _) → F.post work x r → Answers (f x.now) r) → Answers (turned_into (with_items grid.now) (for_each f grid.now.items)) result }
+    ensures { (f : Value → Calculation Value)
+        → ((x : _) (r : _) → F.post work x r → Answers (f x.now) r)
+        → Answers (turned_into (with_items grid.now) (for_each f grid.now.items)) result }
 {
     let answers = each(alloc, grid.items(), work)?;
     Ok(Arg::Area(grid.with_items(answers)))
@@ -111,7 +115,9 @@ fn each<F: Fn(&Value) -> Result<Value, FuncStop>>(
 ) -> Result<Vec<Value>, FuncStop>
     requires { F.IsAlwaysCallable work }
     ensures count { IfOk result (λ answers. length answers.items ≡ length items.now) }
-    ensures narrow { (f : Value → Calculation Value) → ((x : _) (r : _) → F.post work x r → Answers (f x.now) r) → Answers (for_each f items.now) (result_map_both (λ answers. answers.items) (λ stop. stop) result) }
+    ensures narrow { (f : Value → Calculation Value)
+        → ((x : _) (r : _) → F.post work x r → Answers (f x.now) r) → Answers
+        (for_each f items.now) (result_map_both (λ answers. answers.items) (λ stop. stop) result) }
 {
     let mut answers = Vec::new(alloc);
     for item in items {
@@ -140,7 +146,9 @@ fn each_pair(
 ) -> Result<Vec<Value>, FuncStop>
     requires { length first.now ≡ length second.now }
     ensures count { IfOk result (λ answers. length answers.items ≡ length first.now) }
-    ensures narrow { Answers (for_each (λ (p : Value × Value). infix_value op p.0 p.1) (zip first.now second.now)) (result_map_both (λ answers. answers.items) (λ stop. stop) result) }
+    ensures narrow { Answers
+        (for_each (λ (p : Value × Value). infix_value op p.0 p.1) (zip first.now second.now))
+        (result_map_both (λ answers. answers.items) (λ stop. stop) result) }
 {
     let mut answers = Vec::new(alloc);
     for (index, a) in first.iter().enumerate() {

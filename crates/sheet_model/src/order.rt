@@ -82,7 +82,8 @@ pub fn compare_numbers(a: Frac, b: Frac) -> Ordering
 
 /// The order of two texts, letters of ASCII as small letters.
 pub fn compare_texts(a: &[u8], b: &[u8]) -> Ordering
-    ensures { result ≡ slice_cmp nat_cmp (map to_ascii_lowercase a.now) (map to_ascii_lowercase b.now) }
+    ensures { result
+        ≡ slice_cmp nat_cmp (map to_ascii_lowercase a.now) (map to_ascii_lowercase b.now) }
 {
     a.iter()
         .map(|byte| byte.to_ascii_lowercase())

@@ -23,7 +23,8 @@ use workbook::Adj;
 
 // Whether a row bounds a decision: its left side is that decision, and its right side a number.
 fn is_bound(decisions: &Adj, row: &RowOf, right: &Form) -> bool
-    ensures { result ≡ is_some (bounded_by (numbered_in decisions.now row.now.left) right.now.terms) }
+    ensures { result
+        ≡ is_some (bounded_by (numbered_in decisions.now row.now.left) right.now.terms) }
 {
     match decisions.find(row.left) {
         Some(_) => right.terms().is_empty(),
@@ -38,7 +39,8 @@ fn push_number(
     row: &RowOf,
     right: &Form,
 ) -> Result<(), Memory>
-    ensures { OnOk result (numbers.new.items ≡ numbers.old.items ++ number_where (is_some (bounded_by (numbered_in decisions.now row.now.left) right.now.terms)) row.now.k) }
+    ensures { OnOk result (numbers.new.items ≡ numbers.old.items ++ number_where
+        (is_some (bounded_by (numbered_in decisions.now row.now.left) right.now.terms)) row.now.k) }
 {
     if !is_bound(decisions, row, right) {
         numbers.push(row.k)?;
@@ -54,7 +56,8 @@ fn row_numbers(
     sides: &[(Form, Form)],
 ) -> Result<Vec<u16>, Memory>
     requires { length sides.now ≡ length rows.now }
-    ensures { IfOk result (λ numbers. numbers.items ≡ row_numbers (map row_of rows.now) (constraints (map (condition_of decisions.now) (map row_of rows.now)) sides.now)) }
+    ensures { IfOk result (λ numbers. numbers.items ≡ row_numbers (map row_of rows.now)
+        (constraints (map (condition_of decisions.now) (map row_of rows.now)) sides.now)) }
 {
     let mut numbers = Vec::new(alloc);
     for (place, row) in rows.iter().enumerate() {

@@ -73,7 +73,8 @@ fn number_of_kind(alloc: Global, kind: Kind) -> Option<Form>
 
 // The number of a cell that is to be decided, or whose text is no formula.
 fn number_said(alloc: Global, book: &Workbook, decisions: &Adj, cell: Cell) -> Option<Form>
-    ensures { result ≡ number_said (numbered_in decisions.now cell) (kind_of (entry (book_of book.now) cell)) }
+    ensures { result
+        ≡ number_said (numbered_in decisions.now cell) (kind_of (entry (book_of book.now) cell)) }
 {
     match decisions.find(cell) {
         Some(number) => Some(Form::decision(alloc, number)),
@@ -118,7 +119,8 @@ fn number(
 ) -> Result<Form, Memory>
     requires kept { IsKeptFor book.now (statement_of of.now) forms.now }
     requires number { HasNumber book.now (statement_of of.now) place }
-    ensures { IfOk result (HasForm (book_of book.now) (sides_in book.now of.now.sheet.0) of.now.adj place) }
+    ensures { IfOk result
+        (HasForm (book_of book.now) (sides_in book.now of.now.sheet.0) of.now.adj place) }
 {
     match number_at(alloc, book, of, forms, place)? {
         Some(form) => Ok(form),
@@ -134,8 +136,10 @@ pub(crate) fn objective(
     forms: &Forms,
 ) -> Result<Form, Memory>
     requires kept { IsKeptFor book.now (statement_of of.now) forms.now }
-    requires number { (c : Cell) → of.now.objective ≡ Some c → HasNumber book.now (statement_of of.now) (place.Cell c) }
-    ensures form { IfOk result (λ form. (c : Cell) → of.now.objective ≡ Some c → HasForm (book_of book.now) (sides_in book.now of.now.sheet.0) of.now.adj (place.Cell c) form) }
+    requires number { (c : Cell) → of.now.objective ≡ Some c
+        → HasNumber book.now (statement_of of.now) (place.Cell c) }
+    ensures form { IfOk result (λ form. (c : Cell) → of.now.objective ≡ Some c → HasForm
+        (book_of book.now) (sides_in book.now of.now.sheet.0) of.now.adj (place.Cell c) form) }
     ensures none { IfOk result (λ form. of.now.objective ≡ None → form ≡ constant_form zero_ℚ) }
 {
     match of.objective {
@@ -154,7 +158,8 @@ fn row_sides(
 ) -> Result<(Form, Form), Memory>
     requires kept { IsKeptFor book.now (statement_of of.now) forms.now }
     requires numbers { RowHasNumbers book.now (statement_of of.now) (row_of row.now) }
-    ensures { IfOk result (HasSides (book_of book.now) (sides_in book.now of.now.sheet.0) of.now.adj (row_of row.now)) }
+    ensures { IfOk result (HasSides (book_of book.now)
+        (sides_in book.now of.now.sheet.0) of.now.adj (row_of row.now)) }
 {
     let left = number(alloc, book, of, forms, Place::Cell(row.left))?;
     let right = number(alloc, book, of, forms, row.right)?;
@@ -170,8 +175,10 @@ fn sides_of_rows(
     rows: &[RowOf],
 ) -> Result<Vec<(Form, Form)>, Memory>
     requires kept { IsKeptFor book.now (statement_of of.now) forms.now }
-    requires numbers { All (λ row. RowHasNumbers book.now (statement_of of.now) (row_of row)) rows.now }
-    ensures { IfOk result (λ sides. AllZip (HasSides (book_of book.now) (sides_in book.now of.now.sheet.0) of.now.adj) (map row_of rows.now) sides.items) }
+    requires numbers { All
+        (λ row. RowHasNumbers book.now (statement_of of.now) (row_of row)) rows.now }
+    ensures { IfOk result (λ sides. AllZip (HasSides (book_of book.now)
+        (sides_in book.now of.now.sheet.0) of.now.adj) (map row_of rows.now) sides.items) }
 {
     let mut sides = Vec::new(alloc);
     for row in rows {
@@ -188,8 +195,10 @@ pub(crate) fn sides(
     forms: &Forms,
 ) -> Result<Vec<(Form, Form)>, Memory>
     requires kept { IsKeptFor book.now (statement_of of.now) forms.now }
-    requires numbers { All (λ row. RowHasNumbers book.now (statement_of of.now) (row_of row)) of.now.rows.items }
-    ensures { IfOk result (λ sides. AllZip (HasSides (book_of book.now) (sides_in book.now of.now.sheet.0) of.now.adj) (map row_of of.now.rows.items) sides.items) }
+    requires numbers { All
+        (λ row. RowHasNumbers book.now (statement_of of.now) (row_of row)) of.now.rows.items }
+    ensures { IfOk result (λ sides. AllZip (HasSides (book_of book.now)
+        (sides_in book.now of.now.sheet.0) of.now.adj) (map row_of of.now.rows.items) sides.items) }
 {
     sides_of_rows(alloc, book, of, forms, &of.rows)
 }

@@ -12,7 +12,8 @@ use workbook::Place;
 
 // Adds both sides of each row.
 fn push_sides(roots: &mut Vec<Place>, rows: &[RowOf]) -> Result<(), Memory>
-    ensures { OnOk result (roots.new.items ≡ roots.old.items ++ flat_map (λ (r : Row). place.Cell r.left ∷ r.right ∷ []) (map row_of rows.now)) }
+    ensures { OnOk result (roots.new.items ≡ roots.old.items
+        ++ flat_map (λ (r : Row). place.Cell r.left ∷ r.right ∷ []) (map row_of rows.now)) }
 {
     for row in rows {
         roots.push(Place::Cell(row.left))?;

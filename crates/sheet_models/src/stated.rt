@@ -52,7 +52,11 @@ pub(crate) fn statement_or_stop(
 // No form is kept yet for what is stated.
 fn open_forms(alloc: Global, book: &Workbook, of: &Statement) -> Result<Forms, Memory>
     requires { IsStatement book.now (statement_of of.now) }
-    ensures { IfOk result (λ forms. forms ≡ record { decisions = of.now.adj; sides = sides_in book.now of.now.sheet.0; table = no_forms }) }
+    ensures { IfOk result (λ forms. forms ≡ record {
+      decisions = of.now.adj;
+      sides = sides_in book.now of.now.sheet.0;
+      table = no_forms;
+    }) }
 {
     let sides = side_trees(alloc, book, of)?;
     Forms::open(alloc, &of.adj, sides)

@@ -31,7 +31,8 @@ pub fn solve(
     requires prepared { (sheet : ℕ) × IsPrepared book.old sheet (prepared_of of) }
     requires model { ModelIsTheSheet book.old (statement_of of.statement) of.model }
     requires whole { IsWhole book.old (statement_of of.statement) }
-    ensures solves { IfOk result (λ s. Solves (rule pick.old) budget book.old (prepared_of of) s book.new) }
+    ensures solves { IfOk result
+        (λ s. Solves (rule pick.old) budget book.old (prepared_of of) s book.new) }
     ensures said { IfOk result (CellsAreListed book.old) }
     ensures sheets { book.new.sheets ≡ book.old.sheets }
     ensures memory { OnErr result (book.new ≡ book.old) }

@@ -43,7 +43,8 @@ pub(crate) fn write(
     requires each { length point.now ≡ length statement.now.adj }
     requires listed { All (IsListed book.old.sheets) statement.now.adj }
     requires distinct { AreDistinct statement.now.adj }
-    ensures written { IfOk result (λ s. Writes book.old (statement_of statement.now) point.now value s book.new) }
+    ensures written { IfOk result
+        (λ s. Writes book.old (statement_of statement.now) point.now value s book.new) }
     ensures said { IfOk result (CellsAreListed book.old) }
     ensures sheets { book.new.sheets ≡ book.old.sheets }
     ensures memory { OnErr result (book.new ≡ book.old) }

@@ -18,7 +18,8 @@ use std::test::Fail;
 struct ButB2;
 
 impl Cells for ButB2 {
-    ghost known = { λ _ (a : Cell). if (a.row == 1) && (a.col == 1) then None else Some (Number (whole_ℚ (pos (10 * (a.row + 1) + (a.col + 1))))) };
+    ghost known = { λ _ (a : Cell). if (a.row == 1) && (a.col == 1) then None
+        else Some (Number (whole_ℚ (pos (10 * (a.row + 1) + (a.col + 1))))) };
 
     fn value(&self, _alloc: Global, cell: Cell) -> Result<Option<Value>, Memory> {
         if cell.row == 1 && cell.col == 1 {

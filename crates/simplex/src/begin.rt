@@ -32,7 +32,8 @@ fn worst_step(dict: &Dict, best: Option<u16>, row: u16) -> Option<u16>
 
 /// The row with the least constant, where that is negative.
 pub fn worst(dict: &Dict) -> Option<u16>
-    ensures { MatchOption result (IsFeasible dict.now) (λ r. WorstOf dict.now (length dict.now.basic) r × at (row_of dict.now r) 0 <ℚ zero_ℚ) }
+    ensures { MatchOption result (IsFeasible dict.now)
+        (λ r. WorstOf dict.now (length dict.now.basic) r × at (row_of dict.now r) 0 <ℚ zero_ℚ) }
 {
     let mut best = None;
     for row in 0..dict.height() {

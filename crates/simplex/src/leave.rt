@@ -14,7 +14,8 @@ fn ratio(dict: &Dict, row: u16, col: u16) -> Result<Frac, Wide>
     requires row { row < length dict.now.basic }
     requires column { col < length dict.now.nonbasic }
     requires entry { at (row_of dict.now row) (suc col) <ℚ zero_ℚ }
-    ensures { MatchResult result (λ r. (r ≡ ratio_of dict.now col row) × IsNarrowRatio dict.now col row) (λ _. ¬ (IsNarrowRatio dict.now col row)) }
+    ensures { MatchResult result (λ r. (r ≡ ratio_of dict.now col row)
+        × IsNarrowRatio dict.now col row) (λ _. ¬ (IsNarrowRatio dict.now col row)) }
 {
     dict.rest(row).div(dict.entry(row, col).neg())
 }
@@ -47,7 +48,8 @@ fn blocked_step(dict: &Dict, col: u16, best: Option<u16>, row: u16) -> Option<u1
 /// The row of least number among those whose ratio is not narrow.
 pub fn blocking_row(dict: &Dict, col: u16) -> Option<u16>
     requires { col < length dict.now.nonbasic }
-    ensures { MatchOption result (AllNarrow dict.now col) (λ r. BlockedOf dict.now col (length dict.now.basic) r) }
+    ensures { MatchOption result (AllNarrow dict.now col)
+        (λ r. BlockedOf dict.now col (length dict.now.basic) r) }
 {
     let mut best = None;
     for row in 0..dict.height() {

@@ -16,7 +16,9 @@ use tableau::{Dict, Row};
 
 /// The row whose basic variable this is.
 pub fn row_with(dict: &Dict, variable: u16) -> Option<u16>
-    ensures { MatchOption result ((i : ℕ) → i < length dict.now.basic → slice_index dict.now.basic i ≢ variable) (λ r. (r < length dict.now.basic) × (slice_index dict.now.basic r ≡ variable) × ((i : ℕ) → i < r → slice_index dict.now.basic i ≢ variable)) }
+    ensures { MatchOption result ((i : ℕ) → i < length dict.now.basic → slice_index dict.now.basic i
+        ≢ variable) (λ r. (r < length dict.now.basic) × (slice_index dict.now.basic r ≡ variable)
+        × ((i : ℕ) → i < r → slice_index dict.now.basic i ≢ variable)) }
 {
     for row in 0..dict.height() {
         if dict.basic(row) == variable {
@@ -28,7 +30,10 @@ pub fn row_with(dict: &Dict, variable: u16) -> Option<u16>
 
 /// The column at which the variable stands.
 pub fn column_with(dict: &Dict, variable: u16) -> Option<u16>
-    ensures { MatchOption result ((i : ℕ) → i < length dict.now.nonbasic → slice_index dict.now.nonbasic i ≢ variable) (λ c. (c < length dict.now.nonbasic) × (slice_index dict.now.nonbasic c ≡ variable) × ((i : ℕ) → i < c → slice_index dict.now.nonbasic i ≢ variable)) }
+    ensures { MatchOption result ((i : ℕ) → i < length dict.now.nonbasic
+        → slice_index dict.now.nonbasic i ≢ variable)
+        (λ c. (c < length dict.now.nonbasic) × (slice_index dict.now.nonbasic c ≡ variable)
+        × ((i : ℕ) → i < c → slice_index dict.now.nonbasic i ≢ variable)) }
 {
     for col in 0..dict.width() {
         if dict.column(col) == variable {
@@ -136,7 +141,8 @@ pub fn cell_change(of: &Standard, dict: &Dict, col: u16, cell: (u16, Option<u16>
 /// The cells' numbers at the dictionary's point.
 pub fn point(alloc: Global, of: &Standard, dict: &Dict) -> Result<Vec<Frac>, Memory>
     requires reached { IsReached of.now dict.now }
-    ensures { IfOk result (λ v. v.items ≡ cell_numbers of.now (point_of of.now (basic_solution dict.now))) }
+    ensures { IfOk result (λ v. v.items
+        ≡ cell_numbers of.now (point_of of.now (basic_solution dict.now))) }
 {
     let mut made = Vec::new(alloc);
     for cell in of.columns() {
@@ -155,7 +161,8 @@ fn changes_of_cells(
     requires dictionary { IsDictionaryOf of.now dict.now }
     requires column { col < length dict.now.nonbasic }
     requires improves { zero_ℚ <ℚ at dict.now.objective (suc col) }
-    ensures { IfOk result (λ v. v.items ≡ cell_numbers of.now (point_of of.now (change_along dict.now col))) }
+    ensures { IfOk result (λ v. v.items
+        ≡ cell_numbers of.now (point_of of.now (change_along dict.now col))) }
 {
     let mut made = Vec::new(alloc);
     for cell in of.columns() {
@@ -168,7 +175,8 @@ fn changes_of_cells(
 pub fn direction(alloc: Global, of: &Standard, dict: &Dict, col: u16) -> Result<Vec<Frac>, Memory>
     requires reached { IsReached of.now dict.now }
     requires end { IsUnboundedEnd dict.now col }
-    ensures { IfOk result (λ v. v.items ≡ cell_numbers of.now (point_of of.now (change_along dict.now col))) }
+    ensures { IfOk result (λ v. v.items
+        ≡ cell_numbers of.now (point_of of.now (change_along dict.now col))) }
 {
     let _regular = of.rows();
     changes_of_cells(alloc, of, dict, col)
@@ -185,7 +193,8 @@ fn slack_multipliers(
     requires width { length row.now ≡ length dict.now.nonbasic + 1 }
     requires columns { columns < 2 ^ 15 }
     requires rows { rows < 2 ^ 15 }
-    ensures { IfOk result (λ v. v.items ≡ map (λ v. neg_ℚ (entry_of dict.now.nonbasic row.now v)) (range_with_len (columns + 1) rows)) }
+    ensures { IfOk result (λ v. v.items ≡ map (λ v. neg_ℚ (entry_of dict.now.nonbasic row.now v))
+        (range_with_len (columns + 1) rows)) }
 {
     let mut made = Vec::new(alloc);
     for i in 0..rows {

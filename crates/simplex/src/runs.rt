@@ -22,7 +22,9 @@ pub struct Work {
 pub fn make_pivot(of: &Standard, dict: &mut Dict, row: u16, col: u16) -> Result<(), Wide>
     requires reached { IsReached of.now dict.old }
     requires next { NextPivot dict.old row col }
-    ensures made { MatchResult result (λ _. (dict.new ≡ pivoted dict.old row col) × IsNarrowPivot dict.old row col) (λ _. (dict.new ≡ dict.old) × ¬ (IsNarrowPivot dict.old row col)) }
+    ensures made { MatchResult result (λ _. (dict.new ≡ pivoted dict.old row col)
+        × IsNarrowPivot dict.old row col)
+        (λ _. (dict.new ≡ dict.old) × ¬ (IsNarrowPivot dict.old row col)) }
     ensures reached { IsReached of.now dict.new }
 {
     let _regular = of.rows();
@@ -45,7 +47,8 @@ pub fn resume(
     ensures answer { IfOk result (λ a. IsAnswer of.now dict.new a) }
     ensures stop { IfErr result (λ e. IsStop dict.new work.new.left e) }
     // However long the run is, no two of its dictionaries have the same basic variables.
-    ensures unrepeated { (later : List Dictionary) → Follow (first_of_program of.now) later → AllPairs (λ d e. ¬ (SameBasis d e)) (first_of_program of.now ∷ later) }
+    ensures unrepeated { (later : List Dictionary) → Follow (first_of_program of.now) later
+        → AllPairs (λ d e. ¬ (SameBasis d e)) (first_of_program of.now ∷ later) }
 {
     let _regular = of.rows();
     loop {
@@ -68,9 +71,12 @@ pub fn resume(
 
 /// Solves the program.
 pub fn solve(alloc: Global, of: &Standard, work: &mut Work) -> Result<LpAnswer, LpStop>
-    ensures run { (d : Dictionary) × (k : ℕ) × Leads k (first_of_program of.now) d × (k + work.new.left ≡ work.old.left) × MatchResult result (λ a. IsAnswer of.now d a) (λ e. IsStop d work.new.left e) }
+    ensures run { (d : Dictionary) × (k : ℕ) × Leads k (first_of_program of.now) d
+        × (k + work.new.left ≡ work.old.left)
+        × MatchResult result (λ a. IsAnswer of.now d a) (λ e. IsStop d work.new.left e) }
     // However long the run is, no two of its dictionaries have the same basic variables.
-    ensures unrepeated { (later : List Dictionary) → Follow (first_of_program of.now) later → AllPairs (λ d e. ¬ (SameBasis d e)) (first_of_program of.now ∷ later) }
+    ensures unrepeated { (later : List Dictionary) → Follow (first_of_program of.now) later
+        → AllPairs (λ d e. ¬ (SameBasis d e)) (first_of_program of.now ∷ later) }
 {
     let _regular = of.rows();
     match start(alloc, of) {

@@ -56,7 +56,8 @@ impl<R: Runtime> Folder for DirFolder<R> {
         ensures leaves { LeavesIn limit into.new.items result }
         ensures later { self.old.failed_reads ≤ self.new.failed_reads }
         ensures cause { ReadCause self.old.failed_reads self.new.failed_reads result }
-        ensures counted { self.new ≡ record self.old { failed_reads = count_after_read self.old.failed_reads result } }
+        ensures counted { self.new
+            ≡ record self.old { failed_reads = count_after_read self.old.failed_reads result } }
     {
         let end = read_file(&self.rt, name, limit, into);
         if end == ReadEnd::Failed {
@@ -70,7 +71,8 @@ impl<R: Runtime> Folder for DirFolder<R> {
         ensures later { self.old.failed_writes ≤ self.new.failed_writes }
         ensures cause { PutCause self.old.failed_writes self.new.failed_writes result }
         ensures sure { result ≢ Err PutEnd.Memory }
-        ensures counted { self.new ≡ record self.old { failed_writes = count_after_put self.old.failed_writes result } }
+        ensures counted { self.new
+            ≡ record self.old { failed_writes = count_after_put self.old.failed_writes result } }
     {
         if write_file(&self.rt, name, bytes).is_err() {
             self.failed_writes = self.failed_writes.saturating_add(1);

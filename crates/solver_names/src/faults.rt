@@ -300,7 +300,8 @@ fn as_count(count: usize) -> Result<u32, Memory>
 
 // The code of a constraint as it stands.
 fn code_text(alloc: Global, book: &Workbook, sheet: SheetId, k: u16) -> Result<String, Memory>
-    ensures { IfOk result (λ s. string_bytes s ≡ unwrap_or (named book.now sheet.0 (name.Code k)) []) }
+    ensures { IfOk result (λ s. string_bytes s
+        ≡ unwrap_or (named book.now sheet.0 (name.Code k)) []) }
 {
     let text = Name::Code(k).find(alloc, book, sheet)?.unwrap_or("");
     Ok(String::from_str(alloc, text)?)

@@ -49,7 +49,8 @@ impl Name {
         book: &Workbook,
         sheet: SheetId,
     ) -> Result<Option<&str>, Memory>
-        ensures text { IfOk result (λ text. option_map (λ t. t.now) text ≡ named book.now sheet.0 self) }
+        ensures text { IfOk result (λ text. option_map (λ t. t.now) text
+            ≡ named book.now sheet.0 self) }
         ensures short { IfOk result (λ text. IfSome text (λ t. length t.now ≤ TEXT_BYTES)) }
     {
         let name = self.text(alloc)?;

@@ -33,7 +33,8 @@ pub(crate) struct Names {
 // The cells to be decided.
 fn decisions_said(alloc: Global, book: &Workbook, sheet: SheetId) -> Result<Said<Cells>, Memory>
     requires listed { sheet.0 < length book.now.sheets }
-    ensures { IfOk result (λ said. said ≡ said_by (cells_in book.now sheet.0) (named book.now sheet.0 name.Decisions)) }
+    ensures { IfOk result (λ said. said
+        ≡ said_by (cells_in book.now sheet.0) (named book.now sheet.0 name.Decisions)) }
 {
     match Name::Decisions.find(alloc, book, sheet)? {
         Some(text) => Ok(Said::by_form(cells_in(alloc, book, sheet, text)?)),
@@ -44,7 +45,8 @@ fn decisions_said(alloc: Global, book: &Workbook, sheet: SheetId) -> Result<Said
 // The cell of the objective.
 fn objective_said(alloc: Global, book: &Workbook, sheet: SheetId) -> Result<Said<Cell>, Memory>
     requires listed { sheet.0 < length book.now.sheets }
-    ensures { IfOk result (λ said. said ≡ said_by (cell_in book.now sheet.0) (named book.now sheet.0 name.Objective)) }
+    ensures { IfOk result (λ said. said
+        ≡ said_by (cell_in book.now sheet.0) (named book.now sheet.0 name.Objective)) }
 {
     match Name::Objective.find(alloc, book, sheet)? {
         Some(text) => Ok(Said::by_form(cell_in(alloc, book, sheet, text)?)),
@@ -61,7 +63,8 @@ fn whole_said(
     least: u16,
     greatest: u16,
 ) -> Result<Said<u16>, Memory>
-    ensures said { IfOk result (λ said. said ≡ said_by (whole_in least greatest) (named book.now sheet.0 name)) }
+    ensures said { IfOk result (λ said. said
+        ≡ said_by (whole_in least greatest) (named book.now sheet.0 name)) }
     ensures within { IfOk result (λ said. or_else said 0 ≤ greatest) }
 {
     match name.find(alloc, book, sheet)? {

@@ -66,7 +66,8 @@ fn add_related(
     left: Area,
 ) -> Result<(), Memory>
     requires { (i : ℕ) → i < area_len left → PlaceFits constraint.now.right i }
-    ensures { OnOk result (rows.new.items ≡ rows.old.items ++ map (found.row_at constraint.now relation left) (range_with_len 0 (area_len left))) }
+    ensures { OnOk result (rows.new.items ≡ rows.old.items
+        ++ map (found.row_at constraint.now relation left) (range_with_len 0 (area_len left))) }
 {
     for place in 0..left.len() {
         rows.push((relation, left.at(place), right_place(constraint, place)))?;

@@ -80,7 +80,8 @@ fn in_text(
     k: u16,
     tree: &Expr,
 ) -> Result<Expr, Memory>
-    ensures { IfOk result (λ e. e ≡ placed_in (unwrap_or (named book.now sheet.0 (name.Right k)) []) tree.now) }
+    ensures { IfOk result (λ e. e
+        ≡ placed_in (unwrap_or (named book.now sheet.0 (name.Right k)) []) tree.now) }
 {
     let text = Name::Right(k).find(alloc, book, sheet)?.unwrap_or("");
     if text.starts_with('=') {
@@ -97,7 +98,8 @@ fn add_side(
     constraint: &Constraint,
     trees: &mut Vec<(u16, Expr)>,
 ) -> Result<(), Memory>
-    ensures { OnOk result (trees.new.items ≡ trees.old.items ++ sides.side_tree book.now sheet.0 constraint.now.k constraint.now.right) }
+    ensures { OnOk result (trees.new.items ≡ trees.old.items
+        ++ sides.side_tree book.now sheet.0 constraint.now.k constraint.now.right) }
 {
     let Said::Says(Side::Tree(tree)) = &constraint.right else {
         return Ok(());

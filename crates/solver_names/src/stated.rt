@@ -65,7 +65,8 @@ fn is_code(code: Code, said: &Said<Code>) -> bool
 
 // Puts the cells on the left of a constraint, where it is of this code.
 fn put_left(cells: &mut Cells, code: Code, constraint: &Constraint) -> Result<(), Memory>
-    ensures { OnOk result ((c : Cell) → is_among cells.new c ≡ (is_among cells.old c || told.is_marked_by code c constraint.now)) }
+    ensures { OnOk result ((c : Cell) → is_among cells.new c
+        ≡ (is_among cells.old c || told.is_marked_by code c constraint.now)) }
 {
     let Said::Says(left) = &constraint.left else {
         return Ok(());
@@ -78,7 +79,8 @@ fn put_left(cells: &mut Cells, code: Code, constraint: &Constraint) -> Result<()
 
 // The cells on the left of the constraints of this code.
 fn left_cells(alloc: Global, code: Code, constraints: &[Constraint]) -> Result<Cells, Memory>
-    ensures { IfOk result (λ cells. (c : Cell) → is_among cells c ≡ told.is_marked code constraints.now c) }
+    ensures { IfOk result (λ cells. (c : Cell) → is_among cells c
+        ≡ told.is_marked code constraints.now c) }
 {
     let mut cells = Cells::new(alloc);
     for constraint in constraints {

@@ -41,10 +41,22 @@ impl Dict {
         nonbasic: Vec<u16>,
         table: Table,
     ) -> Result<Dict, Memory>
-        requires shaped { IsShaped (record { basic = basic.items; nonbasic = nonbasic.items; rows = table.rows; objective = table.objective; auxiliary = table.auxiliary }) }
+        requires shaped { IsShaped (record {
+          basic = basic.items;
+          nonbasic = nonbasic.items;
+          rows = table.rows;
+          objective = table.objective;
+          auxiliary = table.auxiliary;
+        }) }
         requires high { length basic.items < 2 ^ 16 }
         requires small { length nonbasic.items < 2 ^ 16 }
-        ensures { IfOk result (λ d. d ≡ record { basic = basic.items; nonbasic = nonbasic.items; rows = table.rows; objective = table.objective; auxiliary = table.auxiliary }) }
+        ensures { IfOk result (λ d. d ≡ record {
+          basic = basic.items;
+          nonbasic = nonbasic.items;
+          rows = table.rows;
+          objective = table.objective;
+          auxiliary = table.auxiliary;
+        }) }
     {
         let width = nonbasic.len() + 1;
         let room = Table::blank(alloc, basic.len(), width)?;
@@ -62,7 +74,9 @@ impl Dict {
     /// column, and in them the places where the leaving row isn't 0, are worked out.
     pub fn pivot(&mut self, row: u16, col: u16) -> Result<(), Wide>
         requires { IsPlace self.old row col }
-        ensures { MatchResult result (λ _. (self.new ≡ pivoted self.old row col) × IsNarrowPivot self.old row col) (λ _. (self.new ≡ self.old) × ¬ (IsNarrowPivot self.old row col)) }
+        ensures { MatchResult result (λ _. (self.new ≡ pivoted self.old row col)
+            × IsNarrowPivot self.old row col)
+            (λ _. (self.new ≡ self.old) × ¬ (IsNarrowPivot self.old row col)) }
     {
         let row = row as usize;
         let col = col as usize;

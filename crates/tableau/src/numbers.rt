@@ -14,7 +14,8 @@ use frac128::{Frac, Wide};
 #[tactic(auto, unfolding(dictionaries::specs::Narrow::IsNarrowQuotient))]
 fn quotient(a: Frac, b: Frac) -> Result<Frac, Wide>
     requires { b ≢ zero_ℚ }
-    ensures { MatchResult result (λ f. (f ≡ a /ℚ b) × IsNarrowQuotient a b) (λ _. ¬ (IsNarrowQuotient a b)) }
+    ensures { MatchResult result (λ f. (f ≡ a /ℚ b) × IsNarrowQuotient a b)
+        (λ _. ¬ (IsNarrowQuotient a b)) }
 {
     a.div(b)
 }
@@ -49,7 +50,9 @@ fn solved_number(row: &[Frac], k: usize, j: usize) -> Result<Frac, Wide>
     requires place { k < length row.now }
     requires entry { at row.now k ≢ zero_ℚ }
     requires within { j < length row.now }
-    ensures { MatchResult result (λ f. (f ≡ dividend row.now k j /ℚ at row.now k) × IsNarrowQuotient (dividend row.now k j) (at row.now k)) (λ _. ¬ (IsNarrowQuotient (dividend row.now k j) (at row.now k))) }
+    ensures { MatchResult result (λ f. (f ≡ dividend row.now k j /ℚ at row.now k)
+        × IsNarrowQuotient (dividend row.now k j) (at row.now k))
+        (λ _. ¬ (IsNarrowQuotient (dividend row.now k j) (at row.now k))) }
 {
     let pivot = row[k];
     if j == k {
@@ -67,7 +70,8 @@ pub fn solve_for(row: &[Frac], k: usize, into: &mut [Frac]) -> Result<(), Wide>
     requires place { k < length row.now }
     requires entry { at row.now k ≢ zero_ℚ }
     requires room { length into.old ≡ length row.now }
-    ensures made { MatchResult result (λ _. (into.new ≡ solved_row row.now k) × IsNarrowSolvedRow row.now k) (λ _. ¬ (IsNarrowSolvedRow row.now k)) }
+    ensures made { MatchResult result (λ _. (into.new ≡ solved_row row.now k)
+        × IsNarrowSolvedRow row.now k) (λ _. ¬ (IsNarrowSolvedRow row.now k)) }
     ensures entry { IfOk result (λ _. at into.new k ≢ zero_ℚ) }
 {
     for j in 0..row.len() {
@@ -84,7 +88,8 @@ fn substitute(row: &[Frac], k: usize, by: &[Frac], into: &mut [Frac]) -> Result<
     requires place { k < length row.now }
     requires other { length by.now ≡ length row.now }
     requires room { length into.old ≡ length row.now }
-    ensures { MatchResult result (λ _. IsWritten row.now k by.now into.new × IsNarrowSubstituted row.now k by.now) (λ _. ¬ (IsNarrowSubstituted row.now k by.now)) }
+    ensures { MatchResult result (λ _. IsWritten row.now k by.now into.new
+        × IsNarrowSubstituted row.now k by.now) (λ _. ¬ (IsNarrowSubstituted row.now k by.now)) }
 {
     let factor = row[k];
     for j in 0..row.len() {
@@ -106,8 +111,10 @@ fn take(row: &mut [Frac], by: &[Frac], from: &[Frac])
     requires other { length by.now ≡ length row.old }
     requires room { length from.now ≡ length row.old }
     ensures size { length row.new ≡ length row.old }
-    ensures taken { (j : ℕ) → j < length row.old → at by.now j ≢ zero_ℚ → at row.new j ≡ at from.now j }
-    ensures left { (j : ℕ) → j < length row.old → at by.now j ≡ zero_ℚ → at row.new j ≡ at row.old j }
+    ensures taken { (j : ℕ) → j < length row.old
+        → at by.now j ≢ zero_ℚ → at row.new j ≡ at from.now j }
+    ensures left { (j : ℕ) → j < length row.old
+        → at by.now j ≡ zero_ℚ → at row.new j ≡ at row.old j }
 {
     for j in 0..row.len() {
         if by[j].is_zero() {
@@ -122,7 +129,8 @@ pub fn write(row: &[Frac], k: usize, by: &[Frac], into: &mut [Frac]) -> Result<(
     requires place { k < length row.now }
     requires other { length by.now ≡ length row.now }
     requires room { length into.old ≡ length row.now }
-    ensures { MatchResult result (λ _. IsWritten row.now k by.now into.new × IsNarrowSubstituted row.now k by.now) (λ _. ¬ (IsNarrowSubstituted row.now k by.now)) }
+    ensures { MatchResult result (λ _. IsWritten row.now k by.now into.new
+        × IsNarrowSubstituted row.now k by.now) (λ _. ¬ (IsNarrowSubstituted row.now k by.now)) }
 {
     if row[k].is_zero() {
         all_narrow(row);

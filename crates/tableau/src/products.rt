@@ -31,7 +31,8 @@ fn unit_product(factor: Frac, number: Frac) -> Option<Frac>
 
 /// `b * c`.
 fn product(b: Frac, c: Frac) -> Result<Frac, Wide>
-    ensures { MatchResult result (λ f. (f ≡ b *ℚ c) × IsNarrow (b *ℚ c)) (λ _. ¬ (IsNarrow (b *ℚ c))) }
+    ensures { MatchResult result (λ f. (f ≡ b *ℚ c) × IsNarrow (b *ℚ c))
+        (λ _. ¬ (IsNarrow (b *ℚ c))) }
 {
     if let Some(found) = unit_product(b, c) {
         return Ok(found);
@@ -45,7 +46,8 @@ fn product(b: Frac, c: Frac) -> Result<Frac, Wide>
 /// `a + b * c`.
 #[tactic(auto, unfolding(dictionaries::specs::Narrow::IsNarrowStep))]
 pub fn plus_product(a: Frac, b: Frac, c: Frac) -> Result<Frac, Wide>
-    ensures { MatchResult result (λ f. (f ≡ a +ℚ b *ℚ c) × IsNarrowStep a b c) (λ _. ¬ (IsNarrowStep a b c)) }
+    ensures { MatchResult result (λ f. (f ≡ a +ℚ b *ℚ c) × IsNarrowStep a b c)
+        (λ _. ¬ (IsNarrowStep a b c)) }
 {
     match product(b, c) {
         Ok(found) => {

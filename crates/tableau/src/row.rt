@@ -115,7 +115,8 @@ impl Row {
         requires place { k < length row.now }
         requires entry { at row.now k ≢ zero_ℚ }
         requires room { length self.old ≡ length row.now }
-        ensures made { MatchResult result (λ _. (self.new ≡ solved_row row.now k) × IsNarrowSolvedRow row.now k) (λ _. ¬ (IsNarrowSolvedRow row.now k)) }
+        ensures made { MatchResult result (λ _. (self.new ≡ solved_row row.now k)
+            × IsNarrowSolvedRow row.now k) (λ _. ¬ (IsNarrowSolvedRow row.now k)) }
         ensures entry { IfOk result (λ _. at self.new k ≢ zero_ℚ) }
         ensures size { length self.new ≡ length self.old }
     {
@@ -127,7 +128,9 @@ impl Row {
         requires place { k < length row.now }
         requires other { length by.now ≡ length row.now }
         requires room { length self.old ≡ length row.now }
-        ensures made { MatchResult result (λ _. IsWritten row.now k by.now self.new × IsNarrowSubstituted row.now k by.now) (λ _. ¬ (IsNarrowSubstituted row.now k by.now)) }
+        ensures made { MatchResult result (λ _. IsWritten row.now k by.now self.new
+            × IsNarrowSubstituted row.now k by.now)
+            (λ _. ¬ (IsNarrowSubstituted row.now k by.now)) }
         ensures size { length self.new ≡ length self.old }
     {
         write(&row.numbers, k, &by.numbers, &mut self.numbers)

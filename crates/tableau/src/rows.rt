@@ -24,7 +24,8 @@ pub fn write_rows(
     requires widths { All (λ r. length r ≡ length by.now) rows.now }
     requires room { length into.old ≡ length rows.now }
     requires wide_room { All (λ r. length r ≡ length by.now) into.old }
-    ensures made { MatchResult result (λ _. AreWritten rows.now leaving k by.now into.new × AreNarrow rows.now leaving k by.now) (λ _. ¬ (AreNarrow rows.now leaving k by.now)) }
+    ensures made { MatchResult result (λ _. AreWritten rows.now leaving k by.now into.new
+        × AreNarrow rows.now leaving k by.now) (λ _. ¬ (AreNarrow rows.now leaving k by.now)) }
     ensures size { length into.new ≡ length into.old }
     ensures widths { All (λ r. length r ≡ length by.now) into.new }
 {
@@ -49,7 +50,8 @@ pub fn take_rows(rows: &mut [Row], leaving: usize, k: usize, by: &Row, from: &[R
     requires wide_room { All (λ r. length r ≡ length by.now) from.now }
     requires written { AreWritten rows.old leaving k by.now from.now }
     ensures size { length rows.new ≡ length rows.old }
-    ensures taken { (i : ℕ) → i < length rows.old → i ≢ leaving → slice_index_or rows.new i [] ≡ substituted (slice_index_or rows.old i []) k by.now }
+    ensures taken { (i : ℕ) → i < length rows.old → i ≢ leaving
+        → slice_index_or rows.new i [] ≡ substituted (slice_index_or rows.old i []) k by.now }
     ensures left { slice_index_or rows.new leaving [] ≡ slice_index_or rows.old leaving [] }
 {
     for i in 0..rows.len() {
@@ -69,7 +71,8 @@ pub fn next_rows(rows: &mut [Row], leaving: usize, k: usize, by: &mut Row, from:
     requires room { length from.now ≡ length rows.old }
     requires wide_room { All (λ r. length r ≡ length by.old) from.now }
     requires written { AreWritten rows.old leaving k by.old from.now }
-    ensures made { rows.new ≡ slice_set (map (λ r. substituted r k by.old) rows.old) leaving by.old }
+    ensures made { rows.new
+        ≡ slice_set (map (λ r. substituted r k by.old) rows.old) leaving by.old }
     ensures size { length by.new ≡ length by.old }
 {
     take_rows(rows, leaving, k, by, from);

@@ -24,12 +24,14 @@ impl Model for Table {
 
     ghost Value = { Numbers };
 
-    ghost view = { λ t. record { rows = t.rows.items; objective = t.objective; auxiliary = t.auxiliary } };
+    ghost view = { λ t.
+        record { rows = t.rows.items; objective = t.objective; auxiliary = t.auxiliary } };
 }
 
 impl Table {
     pub fn new(rows: Vec<Row>, objective: Row, auxiliary: Row) -> Table
-        ensures { result ≡ record { rows = rows.items; objective = objective; auxiliary = auxiliary } }
+        ensures { result
+            ≡ record { rows = rows.items; objective = objective; auxiliary = auxiliary } }
     {
         Table {
             rows,
@@ -76,7 +78,9 @@ impl Table {
         requires place { k < length by.now }
         requires shaped { IsTable of.now (length of.now.rows) (length by.now) }
         requires room { IsTable self.old (length of.now.rows) (length by.now) }
-        ensures made { MatchResult result (λ _. IsTableWritten of.now leaving k by.now self.new × IsNarrowTable of.now leaving k by.now) (λ _. ¬ (IsNarrowTable of.now leaving k by.now)) }
+        ensures made { MatchResult result (λ _. IsTableWritten of.now leaving k by.now self.new
+            × IsNarrowTable of.now leaving k by.now)
+            (λ _. ¬ (IsNarrowTable of.now leaving k by.now)) }
         ensures room { IsTable self.new (length of.now.rows) (length by.now) }
     {
         match write_rows(&of.rows, leaving, k, by, &mut self.rows) {

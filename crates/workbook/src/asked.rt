@@ -20,7 +20,8 @@ impl Workbook {
         sheet: Option<SheetId>,
         name: &str,
     ) -> Result<Option<&str>, Memory>
-        ensures text { IfOk result (λ text. option_map (λ t. t.now) text ≡ text_of self.now.names (option_map (λ s. s.0) sheet) name.now) }
+        ensures text { IfOk result (λ text. option_map (λ t. t.now) text
+            ≡ text_of self.now.names (option_map (λ s. s.0) sheet) name.now) }
         ensures short { IfOk result (λ text. IfSome text (λ t. length t.now ≤ TEXT_BYTES)) }
     {
         let key = Key::new(alloc, sheet, name)?;
@@ -31,7 +32,8 @@ impl Workbook {
     pub fn formula(&self, alloc: Global, home: SheetId, text: &str) -> Result<Option<Expr>, Memory>
         requires length { length text.now ≤ TEXT_BYTES + 1 }
         requires listed { home.0 < length self.now.sheets }
-        ensures { IfOk result (λ tree. tree ≡ formula_tree self.now.sheets self.now.names home.0 text.now) }
+        ensures { IfOk result (λ tree. tree
+            ≡ formula_tree self.now.sheets self.now.names home.0 text.now) }
     {
         tree(alloc, &self.scope(home), text)
     }

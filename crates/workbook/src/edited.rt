@@ -19,7 +19,8 @@ impl Workbook {
         text: &str,
     ) -> Result<Change, Memory>
         requires listed { IfSome sheet (λ s. s.0 < length self.now.sheets) }
-        ensures names { IfOk result (λ change. after_change self.now.names change ≡ names_after self.now (option_map (λ s. s.0) sheet) name.now text.now) }
+        ensures names { IfOk result (λ change. after_change self.now.names change
+            ≡ names_after self.now (option_map (λ s. s.0) sheet) name.now text.now) }
         ensures short { IfOk result (λ _. All IsShort self.now.names) }
     {
         let alloc = self.alloc();
@@ -48,7 +49,8 @@ impl Workbook {
 
     /// The edit by which a name is taken away.
     pub(crate) fn unnaming(&self, sheet: Option<SheetId>, name: &str) -> Result<Change, Memory>
-        ensures names { IfOk result (λ change. after_change self.now.names change ≡ without (option_map (λ s. s.0) sheet) name.now self.now.names) }
+        ensures names { IfOk result (λ change. after_change self.now.names change
+            ≡ without (option_map (λ s. s.0) sheet) name.now self.now.names) }
         ensures short { IfOk result (λ _. All IsShort self.now.names) }
     {
         let _names = self.names();

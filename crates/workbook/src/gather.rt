@@ -23,7 +23,8 @@ pub(crate) enum Stop {
 pub(crate) fn texts_in(alloc: Global, sheets: &[Rows]) -> Result<Vec<(Cell, Text)>, Stop>
     requires few { length sheets.now ≤ 32 }
     requires fit { All FitsSheet sheets.now }
-    ensures { MatchResult result (λ v. (v.items ≡ texts_in_sheets 0 sheets.now) × (length v.items ≤ TEXTS))
+    ensures { MatchResult result (λ v. (v.items ≡ texts_in_sheets 0 sheets.now)
+        × (length v.items ≤ TEXTS))
         (IsStop (texts_in_sheets 0 sheets.now)) }
 {
     let mut texts = Vec::new(alloc);
@@ -42,7 +43,8 @@ fn with_sheet(
 ) -> Result<Vec<(Cell, Text)>, Stop>
     requires room { length texts.items ≤ TEXTS }
     requires fit { FitsSheet rows.now }
-    ensures { MatchResult result (λ v. (v.items ≡ texts.items ++ texts_in_records sheet.0 0 rows.now) × (length v.items ≤ TEXTS))
+    ensures { MatchResult result (λ v.
+        (v.items ≡ texts.items ++ texts_in_records sheet.0 0 rows.now) × (length v.items ≤ TEXTS))
         (IsStop (texts.items ++ texts_in_records sheet.0 0 rows.now)) }
 {
     for row in 0..rows.len() {
@@ -65,7 +67,8 @@ fn add_record(
     fields: &Record,
 ) -> Result<(), Memory>
     requires columns { length fields.now ≤ COLUMNS }
-    ensures { OnOk result (texts.new.items ≡ texts.old.items ++ texts_in_record sheet.0 row 0 fields.now) }
+    ensures { OnOk result (texts.new.items
+        ≡ texts.old.items ++ texts_in_record sheet.0 row 0 fields.now) }
 {
     for column in 0..fields.len() {
         let text = fields.text(column);

@@ -59,7 +59,8 @@ impl Held {
 
     /// The tree of a formula.
     pub(crate) fn tree(&self) -> Option<&Expr>
-        ensures { option_map (λ t. t.now) result ≡ tree_of (Some (entry_of self.now.text self.now.said)) }
+        ensures { option_map (λ t. t.now) result
+            ≡ tree_of (Some (entry_of self.now.text self.now.said)) }
     {
         match &self.said {
             Said::Formula(tree) => Some(tree),
@@ -72,7 +73,8 @@ impl Held {
 pub(crate) fn take_away(cells: &mut BTreeMap<Cell, Held>, cell: Cell)
     ensures taken { (q : Cell) → held_at cells.new.entries q
         ≡ (if is_at (cell_cmp cell) q then None else held_at cells.old.entries q) }
-    ensures len { length cells.new.entries + (if is_some (held_at cells.old.entries cell) then 1 else 0)
+    ensures len { length cells.new.entries
+        + (if is_some (held_at cells.old.entries cell) then 1 else 0)
         ≡ length cells.old.entries }
 {
     drop(cells.remove(&cell));
@@ -114,7 +116,8 @@ pub(crate) fn put_back(cells: &mut BTreeMap<Cell, Held>, cell: Cell, was: Option
     requires { IsSome (held_at cells.old.entries cell) }
     ensures back { (q : Cell) → held_at cells.new.entries q
         ≡ (if is_at (cell_cmp cell) q then was else held_at cells.old.entries q) }
-    ensures len { length cells.new.entries + 1 ≡ length cells.old.entries + (if is_some was then 1 else 0) }
+    ensures len { length cells.new.entries + 1
+        ≡ length cells.old.entries + (if is_some was then 1 else 0) }
 {
     match was {
         Some(held) => put_over(cells, cell, held),
@@ -136,7 +139,8 @@ pub(crate) fn say_otherwise(cells: &mut BTreeMap<Cell, Held>, mut said: Vec<(Cel
 // Says something else of the text of a cell, where it has one.
 fn say_over(cells: &mut BTreeMap<Cell, Held>, cell: Cell, said: Said)
     ensures resaid { (q : Cell) → held_at cells.new.entries q
-        ≡ (if is_at (cell_cmp cell) q then resaid (Some said) (held_at cells.old.entries q) else held_at cells.old.entries q) }
+        ≡ (if is_at (cell_cmp cell) q then resaid (Some said) (held_at cells.old.entries q)
+        else held_at cells.old.entries q) }
     ensures len { length cells.new.entries ≡ length cells.old.entries }
 {
     if let Some(place) = cells.get_mut(&cell) {

@@ -58,7 +58,8 @@ fn meaning_of(
 
 // The text of a name, for the formula's sheet or else for the whole workbook.
 fn text_for<'a>(alloc: Global, scope: &Scope<'a>, name: &str) -> Result<Option<&'a str>, Memory>
-    ensures { IfOk result (λ t. option_map (λ t. t.now) t ≡ text_for (names_in scope.now) scope.now.home.0 name.now) }
+    ensures { IfOk result (λ t. option_map (λ t. t.now) t
+        ≡ text_for (names_in scope.now) scope.now.home.0 name.now) }
 {
     if let Some(text) = text_of(alloc, scope, Some(scope.home), name)? {
         return Ok(Some(text));
@@ -73,7 +74,8 @@ fn text_of<'a>(
     sheet: Option<SheetId>,
     name: &str,
 ) -> Result<Option<&'a str>, Memory>
-    ensures { IfOk result (λ t. option_map (λ t. t.now) t ≡ text_of (names_in scope.now) (option_map (λ s. s.0) sheet) name.now) }
+    ensures { IfOk result (λ t. option_map (λ t. t.now) t
+        ≡ text_of (names_in scope.now) (option_map (λ s. s.0) sheet) name.now) }
 {
     let Some(change) = scope.change else {
         return text_in(alloc, scope.names, sheet, name);
@@ -91,7 +93,8 @@ fn text_in<'a>(
     sheet: Option<SheetId>,
     name: &str,
 ) -> Result<Option<&'a str>, Memory>
-    ensures { IfOk result (λ t. option_map (λ t. t.now) t ≡ text_of names.now (option_map (λ s. s.0) sheet) name.now) }
+    ensures { IfOk result (λ t. option_map (λ t. t.now) t
+        ≡ text_of names.now (option_map (λ s. s.0) sheet) name.now) }
 {
     let key = Key::new(alloc, sheet, name)?;
     Ok(names.text(&key))
@@ -101,7 +104,8 @@ fn text_in<'a>(
 pub(crate) fn stands_for(alloc: Global, scope: &Scope, name: &str) -> Result<Option<Meant>, Memory>
     requires listed { scope.now.home.0 < length scope.now.sheets.now }
     requires short { All IsShort (names_in scope.now) }
-    ensures meant { IfOk result (λ m. option_map meant_of m ≡ meant scope.now.sheets.now (names_in scope.now) scope.now.home.0 name.now) }
+    ensures meant { IfOk result (λ m. option_map meant_of m
+        ≡ meant scope.now.sheets.now (names_in scope.now) scope.now.home.0 name.now) }
     ensures on_sheet { IfOk result (λ m. IfSome m IsMeantOnSheet) }
 {
     match text_for(alloc, scope, name)? {

@@ -56,7 +56,8 @@ impl Name {
 
     // Adds its record at the end.
     fn add_to(&self, rows: &mut Rows) -> Result<(), Memory>
-        ensures { OnOk result (rows.new ≡ rows.old ++ (self.now.sheet_text ∷ self.now.name ∷ self.now.text ∷ []) ∷ []) }
+        ensures { OnOk result (rows.new
+            ≡ rows.old ++ (self.now.sheet_text ∷ self.now.name ∷ self.now.text ∷ []) ∷ []) }
     {
         rows.add(&[
             self.sheet_text.as_str(),
@@ -160,7 +161,8 @@ impl Names {
 
     /// The text of a name, for which each is looked at.
     pub(crate) fn find(&self, sheet: Option<SheetId>, name: &str) -> Option<&str>
-        ensures { option_map (λ t. t.now) result ≡ text_of self.now (option_map (λ s. s.0) sheet) name.now }
+        ensures { option_map (λ t. t.now) result
+            ≡ text_of self.now (option_map (λ s. s.0) sheet) name.now }
     {
         for place in 0..self.names.len() {
             let Some((_, own)) = self.names.get_index(place) else {
@@ -176,7 +178,8 @@ impl Names {
     /// Puts a name last, if it is not there yet, and says so.
     pub(crate) fn add(&mut self, alloc: Global, name: Name) -> Result<bool, Memory>
         ensures { IfOk result (λ fresh. MatchBool fresh
-            ((list_any (is_called name.sheet name.name) self.old ≡ false) × (self.new ≡ self.old ++ name ∷ []))
+            ((list_any (is_called name.sheet name.name) self.old ≡ false)
+            × (self.new ≡ self.old ++ name ∷ []))
             ((list_any (is_called name.sheet name.name) self.old ≡ true) × (self.new ≡ self.old))) }
     {
         let key = Key::new(alloc, name.sheet, name.name.as_str())?;
@@ -225,7 +228,8 @@ impl Names {
 
     // Takes a name away, where it is there.
     fn remove(&mut self, alloc: Global, sheet: Option<SheetId>, name: &str) -> Result<(), Memory>
-        ensures ok { OnOk result (self.new ≡ without (option_map (λ s. s.0) sheet) name.now self.old) }
+        ensures ok { OnOk result (self.new
+            ≡ without (option_map (λ s. s.0) sheet) name.now self.old) }
         ensures err { OnErr result (self.new ≡ self.old) }
     {
         let key = Key::new(alloc, sheet, name)?;
@@ -259,7 +263,8 @@ fn remove_key(names: &mut IndexMap<Key, Name>, key: &Key)
 
 // Puts a text in the place of that of a name.
 fn put_text(names: &mut IndexMap<Key, Name>, key: &Key, text: String)
-    ensures entries { names.new.entries ≡ retexted (is_key key.now) (string_bytes text) names.old.entries }
+    ensures entries { names.new.entries
+        ≡ retexted (is_key key.now) (string_bytes text) names.old.entries }
     ensures unique { IsDistinct is_key (keys_of names.old.entries) }
 {
     if let Some(own) = names.get_mut(key) {

@@ -71,9 +71,11 @@ fn all_named(
     requires short { All IsShort (names_in scope.now) }
     requires within { AreSoundWithin span (trees exprs.now) }
     ensures found { IfOk result (λ found. option_map (λ v. trees v.items) found
-        ≡ all_with_names (meant scope.now.sheets.now (names_in scope.now) scope.now.home.0) (trees exprs.now)) }
+        ≡ all_with_names (meant scope.now.sheets.now (names_in scope.now) scope.now.home.0)
+        (trees exprs.now)) }
     ensures sound { IfOk result (λ found. IfSome found (λ v. AreSoundWithin span (trees v.items))) }
-    ensures count { IfOk result (λ found. IfSome found (λ v. count (trees v.items) ≡ count (trees exprs.now))) }
+    ensures count { IfOk result (λ found.
+        IfSome found (λ v. count (trees v.items) ≡ count (trees exprs.now))) }
 {
     let mut found = Vec::new(alloc);
     for expr in exprs {
@@ -156,7 +158,8 @@ fn infix(span: Span, op: Op, left: Box<Expr>, right: Option<Box<Expr>>) -> Optio
     requires left { IsWithin (span_of left.value) span × IsSound left.value }
     requires within { IfSome right (λ b. IsWithin (span_of b.value) span) }
     requires sound { IfSome right (λ b. IsSound b.value) }
-    ensures { result ≡ option_map (tree.Infix span op left.value) (option_map (λ b. b.value) right) }
+    ensures { result
+        ≡ option_map (tree.Infix span op left.value) (option_map (λ b. b.value) right) }
 {
     match right {
         Some(right) => Some(Expr {

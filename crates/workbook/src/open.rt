@@ -183,7 +183,8 @@ fn put_name(
     names: &mut Names,
 ) -> Result<bool, Memory>
     ensures { IfOk result (λ fresh. (fresh ≡ is_new names.old (name_in sheets.now fields.now))
-        × MatchBool fresh (names.new ≡ with_name names.old (name_in sheets.now fields.now)) (names.new ≡ names.old)) }
+        × MatchBool fresh (names.new
+        ≡ with_name names.old (name_in sheets.now fields.now)) (names.new ≡ names.old)) }
 {
     match name_in(alloc, sheets, fields)? {
         Some(name) => names.add(alloc, name),
@@ -235,7 +236,8 @@ pub fn sheet_in(sheets: &SheetNames, text: &str) -> Option<Option<SheetId>>
 // The workbook with all texts in their cells, the last of them first.
 fn with_texts(mut workbook: Workbook, mut texts: Vec<(Cell, Text)>) -> Result<Workbook, Memory>
     requires { TextsFit workbook texts.items }
-    ensures { IfOk result (λ w. w ≡ record workbook { contents = put_all texts.items workbook.contents }) }
+    ensures { IfOk result (λ w. w
+        ≡ record workbook { contents = put_all texts.items workbook.contents }) }
 {
     while let Some((cell, text)) = texts.pop() {
         workbook.put(cell, text)?;

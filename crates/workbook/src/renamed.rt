@@ -45,7 +45,8 @@ pub(crate) fn sayings_after(
     requires others { OthersStay edit.now.name.now edit.now.before.now (names_with edit.now) }
     requires short { All IsShort edit.now.before.now }
     requires short_after { All IsShort (names_with edit.now) }
-    ensures { IfOk result (λ said. AreResaid edit.now.sheets.now edit.now.before.now (names_with edit.now) cells.now.entries said.items) }
+    ensures { IfOk result (λ said. AreResaid edit.now.sheets.now edit.now.before.now
+        (names_with edit.now) cells.now.entries said.items) }
 {
     let mut said = Vec::new(alloc);
     let Some(known) = users.of(alloc, edit.name)? else {
@@ -91,7 +92,8 @@ fn resaid_at(
     requires others { OthersStay edit.now.name.now edit.now.before.now (names_with edit.now) }
     requires short { All IsShort edit.now.before.now }
     requires short_after { All IsShort (names_with edit.now) }
-    ensures { IfOk result (λ said. ResaidAt edit.now.sheets.now edit.now.before.now (names_with edit.now) cell (held_at cells.now.entries cell) said) }
+    ensures { IfOk result (λ said. ResaidAt edit.now.sheets.now edit.now.before.now
+        (names_with edit.now) cell (held_at cells.now.entries cell) said) }
 {
     match cells.get(&cell) {
         Some(held) => saying_after(alloc, edit, cell, held),
@@ -105,7 +107,8 @@ fn saying_after(alloc: Global, edit: &Edit, cell: Cell, held: &Held) -> Result<O
     requires others { OthersStay edit.now.name.now edit.now.before.now (names_with edit.now) }
     requires short { All IsShort edit.now.before.now }
     requires short_after { All IsShort (names_with edit.now) }
-    ensures { IfOk result (λ said. Resaid edit.now.sheets.now edit.now.before.now (names_with edit.now) cell held.now said) }
+    ensures { IfOk result (λ said.
+        Resaid edit.now.sheets.now edit.now.before.now (names_with edit.now) cell held.now said) }
 {
     let Some(spelled) = &held.spelled else {
         return Ok(None);
@@ -146,8 +149,10 @@ fn is_meant_alike(alloc: Global, edit: &Edit, home: SheetId) -> Result<bool, Mem
     requires short { All IsShort edit.now.before.now }
     requires short_after { All IsShort (names_with edit.now) }
     ensures { IfOk result (λ alike. MatchBool alike
-        (meant edit.now.sheets.now edit.now.before.now home.0 edit.now.name.now ≡ meant edit.now.sheets.now (names_with edit.now) home.0 edit.now.name.now)
-        (meant edit.now.sheets.now edit.now.before.now home.0 edit.now.name.now ≢ meant edit.now.sheets.now (names_with edit.now) home.0 edit.now.name.now)) }
+        (meant edit.now.sheets.now edit.now.before.now home.0 edit.now.name.now
+        ≡ meant edit.now.sheets.now (names_with edit.now) home.0 edit.now.name.now)
+        (meant edit.now.sheets.now edit.now.before.now home.0 edit.now.name.now
+        ≢ meant edit.now.sheets.now (names_with edit.now) home.0 edit.now.name.now)) }
 {
     let sheets = edit.sheets;
     let scope = Scope {
@@ -169,7 +174,8 @@ fn is_meant_alike(alloc: Global, edit: &Edit, home: SheetId) -> Result<bool, Mem
 
 // Whether the same is meant, or nothing both times.
 fn are_alike(one: Option<Meant>, other: Option<Meant>) -> bool
-    ensures { MatchBool result (option_map meant_of one ≡ option_map meant_of other) (option_map meant_of one ≢ option_map meant_of other) }
+    ensures { MatchBool result (option_map meant_of one
+        ≡ option_map meant_of other) (option_map meant_of one ≢ option_map meant_of other) }
 {
     match (one, other) {
         (None, None) => true,

@@ -32,7 +32,8 @@ pub(crate) fn hold(alloc: Global, scope: &Scope, cell: Cell, text: Text) -> Resu
     requires some { text ≢ [] }
     requires length { length text ≤ TEXT_BYTES }
     ensures text { IfOk result (λ held. held.text ≡ text) }
-    ensures held { IfOk result (λ held. IsHeld scope.now.sheets.now (names_in scope.now) cell held) }
+    ensures held { IfOk result (λ held.
+        IsHeld scope.now.sheets.now (names_in scope.now) cell held) }
     ensures plain { is_formula_text text ≡ false → IfOk result (λ held. spelled_tree held ≡ None) }
 {
     let (spelled, said) = say(alloc, scope, cell, text.as_str())?;
@@ -54,7 +55,8 @@ fn say(
     requires listed { scope.now.home.0 < length scope.now.sheets.now }
     requires short { All IsShort (names_in scope.now) }
     requires length { length text.now ≤ TEXT_BYTES }
-    ensures says { IfOk result (SaysSpelled scope.now.sheets.now (names_in scope.now) cell text.now) }
+    ensures says { IfOk result
+        (SaysSpelled scope.now.sheets.now (names_in scope.now) cell text.now) }
     ensures plain { is_formula_text text.now ≡ false → IfOk result (λ said. said.0 ≡ None) }
 {
     if is_formula(text) {

@@ -31,12 +31,15 @@ pub(crate) fn put_each<'a>(
     texts: &[String],
 ) -> Result<(), Memory>
     requires short { All IsShort names.now }
-    requires kept { IsKept sheets.now names.now cells.old.entries (formula_count (contents_of cells.old.entries)) }
+    requires kept { IsKept sheets.now names.now cells.old.entries
+        (formula_count (contents_of cells.old.entries)) }
     requires covered { AllAreCovered users.old cells.old.entries }
     requires listed { All (IsListed sheets.now) at.now }
     requires fields { All (λ text. IsField (string_bytes text)) texts.now }
-    requires room { first_without_room (contents_of cells.old.entries) (zip at.now (map string_bytes texts.now)) ≡ None }
-    ensures ok { OnOk result (IsFilled sheets.now names.now cells.old.entries (zip at.now (map string_bytes texts.now)) cells.new.entries) }
+    requires room { first_without_room (contents_of cells.old.entries)
+        (zip at.now (map string_bytes texts.now)) ≡ None }
+    ensures ok { OnOk result (IsFilled sheets.now names.now cells.old.entries
+        (zip at.now (map string_bytes texts.now)) cells.new.entries) }
     ensures covered { OnOk result (AllAreCovered users.new cells.new.entries) }
     ensures grows { Grows users.old users.new }
     ensures some { OnErr result (zip at.now (map string_bytes texts.now) ≢ []) }

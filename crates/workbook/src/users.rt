@@ -32,7 +32,8 @@ impl Users {
 
     /// The cells of a name, in their order.
     pub(crate) fn of(&self, alloc: Global, name: &str) -> Result<Option<&BTreeSet<Cell>>, Memory>
-        ensures { IfOk result (λ cells. option_map (λ c. c.now) cells ≡ users_of self.now name.now) }
+        ensures { IfOk result (λ cells. option_map (λ c. c.now) cells
+            ≡ users_of self.now name.now) }
     {
         let letters = name.to_ascii_lowercase(alloc)?;
         Ok(self.cells.get(letters.as_str()))
@@ -70,7 +71,8 @@ impl Users {
 // Adds a cell to others.
 fn add_cell(cells: &mut BTreeSet<Cell>, cell: Cell) -> Result<(), Memory>
     ensures has { OnOk result (contains cell_cmp cells.new cell ≡ true) }
-    ensures others { (q : Cell) → contains cell_cmp cells.old q ≡ true → contains cell_cmp cells.new q ≡ true }
+    ensures others { (q : Cell) → contains cell_cmp cells.old q ≡ true
+        → contains cell_cmp cells.new q ≡ true }
 {
     match cells.insert(cell) {
         Ok(_) => Ok(()),

@@ -24,7 +24,8 @@ pub(crate) fn uses(expr: &Expr, wanted: Option<&str>) -> bool
 // The same of some parts.
 #[cycle(using_names)]
 fn one_uses(exprs: &[Expr], wanted: Option<&str>) -> bool
-    ensures { result ≡ any_use (is_wanted (option_map (λ w. w.now) wanted.entry)) (trees exprs.now) }
+    ensures { result
+        ≡ any_use (is_wanted (option_map (λ w. w.now) wanted.entry)) (trees exprs.now) }
 {
     for expr in exprs {
         if uses(expr, wanted) {

@@ -57,7 +57,8 @@ impl Model for Workbook {
 
     ghost coded = { state_code };
 
-    ghost view = { λ w. record { sheets = w.sheets; contents = contents_of w.cells.entries; names = w.names } };
+    ghost view = { λ w.
+        record { sheets = w.sheets; contents = contents_of w.cells.entries; names = w.names } };
 
     ghost invariant = { λ w. IsIndexed w.sheets w.names w.users w.cells.entries w.formulas };
 }
@@ -133,7 +134,8 @@ impl Workbook {
 
     // Whether too many texts would begin a formula with this one in the cell.
     fn would_have_too_many(&self, cell: Cell, text: &str) -> bool
-        ensures { result ≡ nat_lt FORMULAS (formula_count (with_text self.now.contents cell text.now)) }
+        ensures { result
+            ≡ nat_lt FORMULAS (formula_count (with_text self.now.contents cell text.now)) }
     {
         let count = self.formulas;
         if text.is_empty() {
@@ -159,7 +161,8 @@ impl Workbook {
         requires some { text ≢ [] }
         requires short { length text ≤ TEXT_BYTES }
         requires room { HasRoom self.old.contents cell text }
-        ensures ok { OnOk result (self.new ≡ record self.old { contents = finmap.insert self.old.contents cell text }) }
+        ensures ok { OnOk result (self.new
+            ≡ record self.old { contents = finmap.insert self.old.contents cell text }) }
         ensures err { OnErr result (self.new ≡ self.old) }
     {
         let scope = Scope {
@@ -185,7 +188,8 @@ impl Workbook {
     /// Puts texts in place of those that their cells have, the last of them first. On want of memory nothing has changed.
     pub fn replace_all(&mut self, texts: Vec<(Cell, Text)>) -> Result<(), sheet_model::Memory>
         requires { All (CanReplace self.old.contents) texts.items }
-        ensures ok { OnOk result (self.new ≡ record self.old { contents = put_all texts.items self.old.contents }) }
+        ensures ok { OnOk result (self.new
+            ≡ record self.old { contents = put_all texts.items self.old.contents }) }
         ensures err { OnErr result (self.new ≡ self.old) }
     {
         let Ok(held) = self.all_said(texts) else {
@@ -245,7 +249,8 @@ impl Workbook {
     // Puts what is held into cells that have a text, the last of them first.
     fn exchange_all(&mut self, mut held: Vec<(Cell, Held)>)
         requires { All (IsExchange self.old) held.items }
-        ensures { self.new ≡ record self.old { contents = put_all (map text_entry held.items) self.old.contents } }
+        ensures { self.new
+            ≡ record self.old { contents = put_all (map text_entry held.items) self.old.contents } }
     {
         while let Some((cell, entry)) = held.pop() {
             self.exchange(cell, entry);
@@ -255,7 +260,8 @@ impl Workbook {
     // Puts what is held into a cell that has a text.
     fn exchange(&mut self, cell: Cell, held: Held)
         requires { IsExchange self.old (cell, held) }
-        ensures { self.new ≡ record self.old { contents = finmap.insert self.old.contents cell held.text } }
+        ensures { self.new
+            ≡ record self.old { contents = finmap.insert self.old.contents cell held.text } }
     {
         let was_one = self.has_formula(cell);
         put_over(&mut self.cells, cell, held);
@@ -265,7 +271,8 @@ impl Workbook {
     // Makes an edit of one name, and answers the cells that say something else now.
     pub(crate) fn rename(&mut self, change: Change) -> Result<Vec<Cell>, Memory>
         requires short { All IsShort (after_change self.old.names change) }
-        ensures names { OnOk result (self.new ≡ record self.old { names = after_change self.old.names change }) }
+        ensures names { OnOk result (self.new
+            ≡ record self.old { names = after_change self.old.names change }) }
         ensures told { IfOk result (λ cells. SayOtherwise self.old self.new cells.items) }
         ensures err { OnErr result (self.new ≡ self.old) }
     {

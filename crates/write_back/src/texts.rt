@@ -11,7 +11,8 @@ use std::alloc::Global;
 
 /// The texts of numbers, in their order.
 pub(crate) fn all_texts(alloc: Global, numbers: &[Frac]) -> Result<Vec<String>, Memory>
-    ensures texts { IfOk result (λ texts. map string_bytes texts.items ≡ map number_text numbers.now) }
+    ensures texts { IfOk result (λ texts. map string_bytes texts.items
+        ≡ map number_text numbers.now) }
     ensures each { IfOk result (λ texts. length texts.items ≡ length numbers.now) }
     ensures fields { IfOk result (λ texts. All (λ text. IsField (string_bytes text)) texts.items) }
     ensures narrow { OnOk result (All IsNarrow numbers.now) }

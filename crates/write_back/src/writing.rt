@@ -16,8 +16,10 @@ pub fn put(alloc: Global, book: &mut Workbook, adj: &Adj, numbers: &[Frac]) -> R
     requires listed { All (IsListed book.old.sheets) adj.now }
     requires distinct { AreDistinct adj.now }
     ensures puts { Puts book.old adj.now numbers.now result book.new }
-    ensures recalculated { OnOk result (KeepsValues (book_of book.old) adj.now numbers.now (book_of book.new)) }
-    ensures sides { OnOk result (KeepsSides (book_of book.old) adj.now numbers.now (book_of book.new)) }
+    ensures recalculated { OnOk result
+        (KeepsValues (book_of book.old) adj.now numbers.now (book_of book.new)) }
+    ensures sides { OnOk result
+        (KeepsSides (book_of book.old) adj.now numbers.now (book_of book.new)) }
 {
     let Ok(texts) = all_texts(alloc, numbers) else {
         return Err(AllFault::Memory);

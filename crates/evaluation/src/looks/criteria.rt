@@ -39,7 +39,8 @@ fn push_summed(
     criterion: &Part,
     to: &mut Vec<Cell>,
 ) -> Result<(), Memory>
-    ensures { OnOk result (to.new.items ≡ to.old.items ++ then_cells (outcomes (tested.now ∷ criterion.now ∷ [])) (summed_looks by_value grid.now)) }
+    ensures { OnOk result (to.new.items ≡ to.old.items ++ then_cells
+        (outcomes (tested.now ∷ criterion.now ∷ [])) (summed_looks by_value grid.now)) }
 {
     let Some(tested) = &tested.outcome else {
         return Ok(());
@@ -57,7 +58,8 @@ fn push_met(
     criterion: &Arg,
     to: &mut Vec<Cell>,
 ) -> Result<(), Memory>
-    ensures { OnOk result (to.new.items ≡ to.old.items ++ met_cells grid.now (grid_of tested.now) (no_error (value_of criterion.now))) }
+    ensures { OnOk result (to.new.items ≡ to.old.items
+        ++ met_cells grid.now (grid_of tested.now) (no_error (value_of criterion.now))) }
 {
     let Ok(criterion) = value_or_error(criterion) else {
         return Ok(());

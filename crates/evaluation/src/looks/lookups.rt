@@ -31,7 +31,13 @@ pub(crate) fn lookup_part<C: Cells>(
     across: bool,
 ) -> Result<Part, Memory>
     requires { Takes (if across then func.HLookup else func.VLookup) (length args.now) }
-    ensures { IfOk result (λ part. part ≡ record { looks = lookup_looks by_value (C.known cells.now) (if across then exchanged else (λ g. g)) args.now; outcome = lookup_outcome (C.known cells.now) (if across then func.HLookup else func.VLookup) (if across then exchanged else (λ g. g)) args.now; reference = None }) }
+    ensures { IfOk result (λ part. part ≡ record {
+      looks = lookup_looks by_value (C.known cells.now) (if across
+          then exchanged else (λ g. g)) args.now;
+      outcome = lookup_outcome (C.known cells.now) (if across then func.HLookup
+          else func.VLookup) (if across then exchanged else (λ g. g)) args.now;
+      reference = None;
+    }) }
 {
     let [key, table, rest @ ..] = args else {
         return whole_part(alloc, lookup(across), args);
@@ -76,7 +82,11 @@ fn record_part<C: Cells>(
     key: &Part,
     rest: &[Part],
 ) -> Result<Part, Memory>
-    ensures { IfOk result (λ part. part ≡ record { looks = record_looks by_value (C.known cells.now) grid.now (key.now ∷ rest.now); outcome = record_outcome (C.known cells.now) grid.now (key.now ∷ rest.now); reference = None }) }
+    ensures { IfOk result (λ part. part ≡ record {
+      looks = record_looks by_value (C.known cells.now) grid.now (key.now ∷ rest.now);
+      outcome = record_outcome (C.known cells.now) grid.now (key.now ∷ rest.now);
+      reference = None;
+    }) }
 {
     let mut looks = copy_cells(alloc, &key.looks)?;
     push_looks(rest, &mut looks)?;
@@ -99,7 +109,13 @@ fn found_part<C: Cells>(
     rest: &[Part],
 ) -> Result<Part, Memory>
     requires { length keys.now ≡ grid.now.rows }
-    ensures { IfOk result (λ part. part ≡ record { looks = looks.items ++ then_cells (outcomes (key.now ∷ rest.now)) (λ args. picked_cells grid.now (record_pick grid.now.columns keys.now args)); outcome = option_and_then (λ args. picked_outcome (C.known cells.now) grid.now (record_pick grid.now.columns keys.now args)) (outcomes (key.now ∷ rest.now)); reference = None }) }
+    ensures { IfOk result (λ part. part ≡ record {
+      looks = looks.items ++ then_cells (outcomes (key.now ∷ rest.now))
+          (λ args. picked_cells grid.now (record_pick grid.now.columns keys.now args));
+      outcome = option_and_then (λ args. picked_outcome (C.known cells.now) grid.now
+          (record_pick grid.now.columns keys.now args)) (outcomes (key.now ∷ rest.now));
+      reference = None;
+    }) }
 {
     let Some(key) = &key.outcome else {
         return Ok(Part::without(looks));

@@ -25,7 +25,11 @@ use std::alloc::Global;
 /// A call of INDEX: of a reference it looks at its places, and then at the cells that they pick.
 pub(crate) fn index_part<C: Cells>(alloc: Global, cells: &C, args: &[Part]) -> Result<Part, Memory>
     requires { Takes func.Index (length args.now) }
-    ensures { IfOk result (λ part. part ≡ record { looks = index_looks by_value args.now; outcome = index_outcome (C.known cells.now) args.now; reference = None }) }
+    ensures { IfOk result (λ part. part ≡ record {
+      looks = index_looks by_value args.now;
+      outcome = index_outcome (C.known cells.now) args.now;
+      reference = None;
+    }) }
 {
     let [source, places @ ..] = args else {
         return whole_part(alloc, Func::Index, args);
@@ -60,7 +64,11 @@ pub(crate) fn picked_part<C: Cells>(
     pick: Pick,
 ) -> Result<Part, Memory>
     requires { IsWithin grid.now.rows grid.now.columns pick }
-    ensures { IfOk result (λ part. part ≡ record { looks = looks.items ++ picked_cells grid.now pick; outcome = picked_outcome (C.known cells.now) grid.now pick; reference = None }) }
+    ensures { IfOk result (λ part. part ≡ record {
+      looks = looks.items ++ picked_cells grid.now pick;
+      outcome = picked_outcome (C.known cells.now) grid.now pick;
+      reference = None;
+    }) }
 {
     let mut looks = looks;
     let picked = grid.cells_in(alloc, pick)?;
@@ -108,7 +116,8 @@ fn part_outcome<C: Cells>(
     requires full { IsFullGrid grid.now }
     requires within { IsWithin grid.now.rows grid.now.columns (Picked top left bottom right) }
     requires cells { picked.now ≡ picked_cells grid.now (Picked top left bottom right) }
-    ensures { IfOk result (λ outcome. outcome ≡ picked_outcome (C.known cells.now) grid.now (Picked top left bottom right)) }
+    ensures { IfOk result (λ outcome. outcome
+        ≡ picked_outcome (C.known cells.now) grid.now (Picked top left bottom right)) }
 {
     prove!(bottom < grid.rows() && right < grid.cols());
     let values = values_of(alloc, cells, picked)?;

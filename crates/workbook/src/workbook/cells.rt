@@ -43,7 +43,8 @@ impl Workbook {
 
     /// The text for which a name stands, on the sheet or in the whole workbook.
     pub fn text_of(&self, sheet: Option<SheetId>, name: &str) -> Option<&str>
-        ensures { option_map (λ t. t.now) result ≡ text_of self.now.names (option_map (λ s. s.0) sheet) name.now }
+        ensures { option_map (λ t. t.now) result
+            ≡ text_of self.now.names (option_map (λ s. s.0) sheet) name.now }
     {
         self.names.find(sheet, name)
     }
@@ -64,7 +65,8 @@ impl Workbook {
 
     /// The next cell with a text, by sheet, row and column: the first of all, or the first behind a cell.
     pub fn next_cell(&self, after: Option<Cell>) -> Option<Cell>
-        ensures { MatchOption result (IsLast self.now.contents after) (λ cell. IsNext self.now.contents after cell) }
+        ensures { MatchOption result (IsLast self.now.contents after)
+            (λ cell. IsNext self.now.contents after cell) }
     {
         match after {
             Some(cell) => self.cell_behind(cell),
@@ -74,7 +76,8 @@ impl Workbook {
 
     // The first cell with a text.
     fn first_cell(&self) -> Option<Cell>
-        ensures { MatchOption result (IsLast self.now.contents None) (λ cell. IsNext self.now.contents None cell) }
+        ensures { MatchOption result (IsLast self.now.contents None)
+            (λ cell. IsNext self.now.contents None cell) }
     {
         match self.cells.first_key_value() {
             Some((cell, _)) => Some(*cell),
@@ -84,7 +87,8 @@ impl Workbook {
 
     // The first cell with a text behind another.
     fn cell_behind(&self, after: Cell) -> Option<Cell>
-        ensures { MatchOption result (IsLast self.now.contents (Some after)) (λ cell. IsNext self.now.contents (Some after) cell) }
+        ensures { MatchOption result (IsLast self.now.contents (Some after))
+            (λ cell. IsNext self.now.contents (Some after) cell) }
     {
         let behind = (Bound::Excluded(after), Bound::Unbounded);
         match self.cells.range(behind).next() {

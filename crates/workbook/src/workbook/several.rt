@@ -45,9 +45,12 @@ impl Workbook {
     fn formulas_with(&self, mut cells: &[Cell], mut texts: &[String]) -> Result<usize, Cell>
         requires { IsDistinct is_same_cell cells.now }
         ensures { MatchResult result (λ formulas.
-            (first_without_room self.now.contents (zip cells.now (map string_bytes texts.now)) ≡ None)
-            × (formulas ≡ formula_count (with_texts self.now.contents (zip cells.now (map string_bytes texts.now)))))
-            (λ cell. first_without_room self.now.contents (zip cells.now (map string_bytes texts.now)) ≡ Some cell) }
+            (first_without_room self.now.contents (zip cells.now (map string_bytes texts.now))
+            ≡ None)
+            × (formulas ≡ formula_count
+            (with_texts self.now.contents (zip cells.now (map string_bytes texts.now)))))
+            (λ cell. first_without_room self.now.contents
+            (zip cells.now (map string_bytes texts.now)) ≡ Some cell) }
     {
         let mut count = self.cells.len();
         let mut formulas = self.formulas;
