@@ -4,6 +4,7 @@
 mod circles;
 mod forms;
 mod settle;
+mod stale;
 
 pub use extract::Steps;
 pub use forms::Forms;

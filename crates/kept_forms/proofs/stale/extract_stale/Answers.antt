@@ -1,7 +1,7 @@
 use Rattle.std.proofs.Common.{arith}
 use Rattle.workbook.specs.Kinds.{book_of}
 use Rattle.kept_forms.proofs.Settling.{formed, free_place, some_unmade, tree_of_place, undecided_place}
-use Rattle.kept_forms.proofs.settle.extract_stale.Goals as goal
+use Rattle.kept_forms.proofs.stale.extract_stale.Goals as goal
 
 pub form_of-requires-clause-tree : goal.form_of-requires-clause-tree
 form_of-requires-clause-tree g c = tree_of_place (book_of c.args.book.now) c.args.adj.now c.args.sides.now c.args.place c.args.tree.now c.requires.tree

@@ -1,6 +1,6 @@
 use Rattle.workbook.specs.Kinds.{book_of}
 use Rattle.kept_forms.proofs.Settling.{goes_same, now_goes, now_less, now_there}
-use Rattle.kept_forms.proofs.settle.keep.Goals as goal
+use Rattle.kept_forms.proofs.stale.keep.Goals as goal
 
 pub returns-clause-goes : goal.returns-clause-goes
 returns-clause-goes c =
