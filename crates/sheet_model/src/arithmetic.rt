@@ -24,11 +24,11 @@ pub(crate) fn infix_value(alloc: Global, op: Op, a: &Value, b: &Value) -> Result
     ensures { Answers (infix_value op a.now b.now) result }
 {
     match op {
-        Op::Add => on_numbers(a, b, added),
-        Op::Sub => on_numbers(a, b, subtracted),
-        Op::Mul => on_numbers(a, b, multiplied),
-        Op::Div => on_numbers(a, b, divided),
-        Op::Pow => on_numbers(a, b, raised),
+        Op::Add => on_numbers(a, b, sum),
+        Op::Sub => on_numbers(a, b, difference),
+        Op::Mul => on_numbers(a, b, product),
+        Op::Div => on_numbers(a, b, quotient),
+        Op::Pow => on_numbers(a, b, power_of),
         Op::Cat => concatenation(alloc, a, b),
         Op::Eq | Op::Ne | Op::Lt | Op::Le | Op::Gt | Op::Ge => Ok(comparison(op, a, b)),
     }
