@@ -65,18 +65,18 @@ form_part-returns-in_ok-args-in-Call g t c =
 pub form_part-returns-in-Plus : goal.form_part-returns-in-Plus
 form_part-returns-in-Plus g t c =
     let forms = g.C.FormsOfCells.forms c.args.forms.now in
-    subst (λ part. IfOk c.signed.result (λ p. p ≡ part))
+    subst (λ part. IfOk c.with_plus.result (λ p. p ≡ part))
     (ap (λ of. signed c.expr.inside.span (part_of forms of)) c.deref-in-Plus.ensures
     ∙ sym (of_node forms c.args.expr.now c.expr.inside.span c.expr.inside.node _ c.expr.view_is c.in-Plus.is))
-    c.signed.ensures
+    c.with_plus.ensures
 
 pub form_part-returns-in-Minus : goal.form_part-returns-in-Minus
 form_part-returns-in-Minus g t c =
     let forms = g.C.FormsOfCells.forms c.args.forms.now in
-    subst (λ part. IfOk c.negated.result (λ p. p ≡ part))
+    subst (λ part. IfOk c.with_minus.result (λ p. p ≡ part))
     (ap (λ of. turned c.expr.inside.span minus_form (part_of forms of)) c.deref-in-Minus.ensures
     ∙ sym (of_node forms c.args.expr.now c.expr.inside.span c.expr.inside.node _ c.expr.view_is c.in-Minus.is))
-    c.negated.ensures
+    c.with_minus.ensures
 
 pub form_part-returns-in-Percent : goal.form_part-returns-in-Percent
 form_part-returns-in-Percent g t c =
@@ -89,21 +89,21 @@ form_part-returns-in-Percent g t c =
 pub form_part-returns-in-Infix : goal.form_part-returns-in-Infix
 form_part-returns-in-Infix g t c =
     let forms = g.C.FormsOfCells.forms c.args.forms.now in
-    subst (λ part. IfOk c.joined.result (λ p. p ≡ part))
+    subst (λ part. IfOk c.with_infix.result (λ p. p ≡ part))
     ((λ i. joined c.expr.inside.span c.in-Infix.op (part_of forms (c.deref-in-Infix.ensures i)) (part_of forms (c.deref-in-Infix-2.ensures i)))
     ∙ sym (of_node forms c.args.expr.now c.expr.inside.span c.expr.inside.node _ c.expr.view_is c.in-Infix.is))
-    c.joined.ensures
+    c.with_infix.ensures
 
-pub negated-returns : goal.negated-returns
-negated-returns g t c =
+pub with_minus-returns : goal.with_minus-returns
+with_minus-returns g t c =
     subst (λ part. IfOk c.minus_part.result (λ p. p ≡ part)) (ap (turned c.args.span minus_form) c.in_ok-part.ensures) c.minus_part.ensures
 
 pub in_hundredths-returns : goal.in_hundredths-returns
 in_hundredths-returns g t c =
     subst (λ part. IfOk c.percent_part.result (λ p. p ≡ part)) (ap (turned c.args.span percent_form) c.in_ok-part.ensures) c.percent_part.ensures
 
-pub joined-returns : goal.joined-returns
-joined-returns g t c =
+pub with_infix-returns : goal.with_infix-returns
+with_infix-returns g t c =
     subst (λ part. IfOk c.infix_part.result (λ p. p ≡ part))
     (λ i. joined c.args.span c.args.op (c.in_ok-left.ensures i) (c.in_ok-right.ensures i))
     c.infix_part.ensures

@@ -18,14 +18,14 @@ decreases-argument g l = 3 * node_count l.expr.now + 1
 abbrev pub decreases-arguments : goal.decreases-arguments
 decreases-arguments g l = 3 * all_count (trees l.exprs.now) + 2
 
-abbrev pub decreases-signed : goal.decreases-signed
-decreases-signed g l = 3 * node_count l.of.now + 1
+abbrev pub decreases-with_plus : goal.decreases-with_plus
+decreases-with_plus g l = 3 * node_count l.of.now + 1
 
-abbrev pub decreases-negated : goal.decreases-negated
-decreases-negated g l = 3 * node_count l.of.now + 1
+abbrev pub decreases-with_minus : goal.decreases-with_minus
+decreases-with_minus g l = 3 * node_count l.of.now + 1
 
 abbrev pub decreases-in_hundredths : goal.decreases-in_hundredths
 decreases-in_hundredths g l = 3 * node_count l.of.now + 1
 
-abbrev pub decreases-joined : goal.decreases-joined
-decreases-joined g l = 3 * (node_count l.left.now + node_count l.right.now) + 1
+abbrev pub decreases-with_infix : goal.decreases-with_infix
+decreases-with_infix g l = 3 * (node_count l.left.now + node_count l.right.now) + 1

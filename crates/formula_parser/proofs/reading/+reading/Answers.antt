@@ -68,13 +68,13 @@ args-returns-clause-gives t c =
     args_done (built (seen c.args.setting.now)) (formulas (seen c.args.setting.now) c.args.depth) c.loop-separator.args.items c.loop-separator.rest.now (args_at (built (seen c.args.setting.now)) (formulas (seen c.args.setting.now) c.args.depth) c.args.before c.args.symbols.now)
     (sym c.in_default.ensures) c.loop-separator.invariant.so_far
 
-pub call-called-requires-clause-forward : goal.call-called-requires-clause-forward
-call-called-requires-clause-forward t c =
+pub call-call_of_name-requires-clause-forward : goal.call-call_of_name-requires-clause-forward
+call-call_of_name-requires-clause-forward t c =
     call_forward c.args.setting.now.text.now c.args.name c.requires.name c.args.before c.requires.before c.in_ok-args.args.items c.in_ok-args.rest.now c.in_ok-args.ensures.placed c.in_ok-args.ensures.rest
     c.in_ok-last.last c.in_ok-last.after.now (behind_close c.in_ok-args.rest.now c.in_ok-last.last c.in_ok-last.after.now c.in_ok-last.ensures)
 
-pub call-called-requires-clause-within : goal.call-called-requires-clause-within
-call-called-requires-clause-within t c =
+pub call-call_of_name-requires-clause-within : goal.call-call_of_name-requires-clause-within
+call-call_of_name-requires-clause-within t c =
     call_within c.args.setting.now.text.now c.args.name c.requires.name c.args.before c.requires.before c.in_ok-args.args.items c.in_ok-args.rest.now c.in_ok-args.ensures.placed c.in_ok-args.ensures.rest
     c.in_ok-last.last c.in_ok-last.after.now (behind_close c.in_ok-args.rest.now c.in_ok-last.last c.in_ok-last.after.now c.in_ok-last.ensures)
 
@@ -114,8 +114,8 @@ level-returns-in_err-right-clause-gives t c =
     rw (p.1, p.2) (level_fails (seen c.args.setting.now) (built (seen c.args.setting.now)) (shows (seen c.args.setting.now)) c.args.depth c.args.at c.if-at-eq0.false c.loop-op.left c.loop-op.rest.now c.in-Some.op c.in-Some.after.now (sym c.in-Some.ensures) c.in_err-right.field-0.0
     (level_at (built (seen c.args.setting.now)) (hundredths (seen c.args.setting.now) c.args.depth) c.args.at c.args.symbols.now) c.in_err-right.ensures.gives c.loop-op.invariant.so_far)
 
-pub level-joined-requires-clause-order : goal.level-joined-requires-clause-order
-level-joined-requires-clause-order t c =
+pub level-infix-requires-clause-order : goal.level-infix-requires-clause-order
+level-infix-requires-clause-order t c =
     let first = operator_first c.args.at c.loop-op.rest.now c.in-Some.op c.in-Some.after.now (sym c.in-Some.ensures) in
     joined_order c.args.setting.now.text.now c.args.symbols.now c.loop-op.left c.loop-op.rest.now c.loop-op.invariant.front c.loop-op.invariant.symbols first.0 c.in-Some.after.now first.1 c.in_ok-right.right c.in_ok-right.others.now c.in_ok-right.ensures.placed c.requires.1
 
@@ -141,21 +141,21 @@ level-returns-clause-gives t c =
     level_done (built (seen c.args.setting.now)) (level_at (built (seen c.args.setting.now)) (hundredths (seen c.args.setting.now) c.args.depth) (c.args.at - 1)) c.args.at c.loop-op.left c.loop-op.rest.now (level_at (built (seen c.args.setting.now)) (hundredths (seen c.args.setting.now) c.args.depth) c.args.at c.args.symbols.now)
     (sym c.in_default.ensures) c.loop-op.invariant.so_far
 
-pub parens-enclosed-requires-clause-behind : goal.parens-enclosed-requires-clause-behind
-parens-enclosed-requires-clause-behind t c =
+pub parens-in_parentheses-requires-clause-behind : goal.parens-in_parentheses-requires-clause-behind
+parens-in_parentheses-requires-clause-behind t c =
     closed_order c.args.setting.now.text.now c.args.symbols.now c.in_ok-part.part c.in_ok-part.rest.now c.in_ok-part.ensures.placed c.in_ok-part.ensures.rest
     c.in_ok-last.last c.in_ok-last.after.now (behind_close c.in_ok-part.rest.now c.in_ok-last.last c.in_ok-last.after.now c.in_ok-last.ensures) c.requires.symbols.1
 
 pub parens-returns-clause-gives : goal.parens-returns-clause-gives
 parens-returns-clause-gives t c =
-    parens_gives (built (seen c.args.setting.now)) (formulas (seen c.args.setting.now) c.args.depth) c.args.first c.args.symbols.now c.in_ok-part.part c.enclosed.result c.in_ok-part.rest.now c.in_ok-last.last c.in_ok-last.after.now
-    c.in_ok-part.ensures.gives c.in_ok-last.ensures (c.enclosed.ensures.made (seen c.args.setting.now))
+    parens_gives (built (seen c.args.setting.now)) (formulas (seen c.args.setting.now) c.args.depth) c.args.first c.args.symbols.now c.in_ok-part.part c.in_parentheses.result c.in_ok-part.rest.now c.in_ok-last.last c.in_ok-last.after.now
+    c.in_ok-part.ensures.gives c.in_ok-last.ensures (c.in_parentheses.ensures.made (seen c.args.setting.now))
 
 pub parens-returns-clause-placed : goal.parens-returns-clause-placed
 parens-returns-clause-placed t c =
     enclosed_front c.args.setting.now.text.now c.args.symbols.now c.in_ok-part.part c.in_ok-part.rest.now c.in_ok-part.ensures.placed c.in_ok-part.ensures.rest c.args.first c.requires.first c.requires.order
     c.in_ok-last.last c.in_ok-last.after.now (behind_close c.in_ok-part.rest.now c.in_ok-last.last c.in_ok-last.after.now c.in_ok-last.ensures)
-    c.enclosed.result c.enclosed.ensures.placed (ap (λ (p : Part). p.place) (c.enclosed.ensures.made (seen c.args.setting.now)))
+    c.in_parentheses.result c.in_parentheses.ensures.placed (ap (λ (p : Part). p.place) (c.in_parentheses.ensures.made (seen c.args.setting.now)))
 
 pub parens-returns-clause-rest : goal.parens-returns-clause-rest
 parens-returns-clause-rest t c =
@@ -202,8 +202,8 @@ primary-parens-requires t c = (
   ),
 )
 
-pub worded-call-requires : goal.worded-call-requires
-worded-call-requires t c =
+pub call_or_leaf-call-requires : goal.call_or_leaf-call-requires
+call_or_leaf-call-requires t c =
     let are = others_are c.args.setting.now.text.now c.args.word c.args.rest.now c.args.symbols.now c.requires.parts c.requires.symbols in
     let order = first_behind c.args.word c.args.rest.now c.args.symbols.now 0 c.requires.parts c.requires.symbols.1 in (
       omega arith,
@@ -219,20 +219,20 @@ worded-call-requires t c =
       ),
     )
 
-pub worded-returns-in-Open-clause-placed : goal.worded-returns-in-Open-clause-placed
-worded-returns-in-Open-clause-placed t c =
+pub call_or_leaf-returns-in-Open-clause-placed : goal.call_or_leaf-returns-in-Open-clause-placed
+call_or_leaf-returns-in-Open-clause-placed t c =
     word_front (λ x. x.0) (λ x. x.1.now) c.args.setting.now.text.now c.args.word c.args.rest.now c.args.symbols.now none c.requires.parts c.requires.symbols c.in-len1-up.len_at_least c.call.result c.call.ensures.placed
 
-pub signed-primary-requires : goal.signed-primary-requires
-signed-primary-requires t c = (omega arith, rw whole_rest (drops_are c.args.setting.now.text.now c.prefix_count-left.result c.args.symbols.now c.requires))
+pub signs_and_primary-primary-requires : goal.signs_and_primary-primary-requires
+signs_and_primary-primary-requires t c = (omega arith, rw whole_rest (drops_are c.args.setting.now.text.now c.prefix_count-left.result c.args.symbols.now c.requires))
 
-pub signed-returns-in_err-part-clause-gives : goal.signed-returns-in_err-part-clause-gives
-signed-returns-in_err-part-clause-gives t c =
+pub signs_and_primary-returns-in_err-part-clause-gives : goal.signs_and_primary-returns-in_err-part-clause-gives
+signs_and_primary-returns-in_err-part-clause-gives t c =
     let p = err_from_is_err_and c.from_residual.result c.from_residual.ensures.1 in
     rw (p.1, p.2) (signed_fails (built (seen c.args.setting.now)) (primaries (seen c.args.setting.now) c.args.depth) c.in_err-part.field-0.0 c.args.symbols.now c.prefix_count-left.result c.prefix_count-left.ensures.count (rw whole_rest at c.in_err-part.ensures.gives))
 
-pub signed-loop-left-init : goal.signed-loop-left-init
-signed-loop-left-init t c =
+pub signs_and_primary-loop-left-init : goal.signs_and_primary-loop-left-init
+signs_and_primary-loop-left-init t c =
     let front = signed_front (built (seen c.args.setting.now)) (primaries (seen c.args.setting.now) c.args.depth) (primary_none (seen c.args.setting.now) (built (seen c.args.setting.now)) (formulas (seen c.args.setting.now) c.args.depth)) c.args.symbols.now in record {
       signs = omega arith;
       within = c.prefix_count-left.ensures.within;
@@ -243,12 +243,12 @@ signed-loop-left-init t c =
       front = rw whole_rest at c.in_ok-part.ensures.placed;
     }
 
-pub signed-prefixed-requires-clause-order : goal.signed-prefixed-requires-clause-order
-signed-prefixed-requires-clause-order t c =
+pub signs_and_primary-with_sign-requires-clause-order : goal.signs_and_primary-with_sign-requires-clause-order
+signs_and_primary-with_sign-requires-clause-order t c =
     prefix_order (seen c.args.setting.now) c.args.symbols.now c.loop-left.left _ c.loop-left-test.true c.loop-left.invariant.within c.requires c.loop-left.part c.in_ok-part.rest.now c.loop-left.invariant.front
 
-pub signed-loop-left-preserved : goal.signed-loop-left-preserved
-signed-loop-left-preserved t c =
+pub signs_and_primary-loop-left-preserved : goal.signs_and_primary-loop-left-preserved
+signs_and_primary-loop-left-preserved t c =
     let made = c.in_ok-part-2.ensures.made (seen c.args.setting.now) in record {
       signs = omega arith;
       within = omega arith;

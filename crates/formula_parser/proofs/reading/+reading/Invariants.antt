@@ -26,14 +26,14 @@ decreases-args_if_any l = 600 * l.depth + 3
 abbrev pub decreases-call : goal.decreases-call
 decreases-call l = 600 * l.depth + 4
 
-abbrev pub decreases-worded : goal.decreases-worded
-decreases-worded l = 600 * l.depth + 5
+abbrev pub decreases-call_or_leaf : goal.decreases-call_or_leaf
+decreases-call_or_leaf l = 600 * l.depth + 5
 
 abbrev pub decreases-primary : goal.decreases-primary
 decreases-primary l = 600 * l.depth + 6
 
-abbrev pub decreases-signed : goal.decreases-signed
-decreases-signed l = 600 * l.depth + 7
+abbrev pub decreases-signs_and_primary : goal.decreases-signs_and_primary
+decreases-signs_and_primary l = 600 * l.depth + 7
 
 abbrev pub decreases-percents : goal.decreases-percents
 decreases-percents l = 600 * l.depth + 8
@@ -73,13 +73,13 @@ invariant-level-loop-op l = record {
 abbrev pub decreases-level-loop-op : goal.decreases-level-loop-op
 decreases-level-loop-op l = length l.rest
 
-abbrev pub invariant-signed-loop-left : goal.invariant-signed-loop-left
-invariant-signed-loop-left l = record {
+abbrev pub invariant-signs_and_primary-loop-left : goal.invariant-signs_and_primary-loop-left
+invariant-signs_and_primary-loop-left l = record {
   signs : l.left ≤ prefix_count l.symbols;
   within : l.left ≤ length l.symbols;
   so_far : signed_at (built (seen l.setting)) (primaries (seen l.setting) l.depth) (drop l.left l.symbols) ≡ Some (l.part, l.rest);
   front : IsInFront (drop l.left l.symbols) l.part l.rest;
 }
 
-abbrev pub decreases-signed-loop-left : goal.decreases-signed-loop-left
-decreases-signed-loop-left l = l.left
+abbrev pub decreases-signs_and_primary-loop-left : goal.decreases-signs_and_primary-loop-left
+decreases-signs_and_primary-loop-left l = l.left

@@ -8,8 +8,8 @@ use Rattle.workbook.specs.Known.{names_in}
 use Rattle.workbook.proofs.NamedTrees.{all-more, all-none, count_stays, sound-last, span_stays, within-at}
 use Rattle.workbook.proofs.naming.+naming.Goals as goal
 
-pub all_named-named-requires : goal.all_named-named-requires
-all_named-named-requires t c =
+pub all_named-with_names-requires : goal.all_named-with_names-requires
+all_named-with_names-requires t c =
     (omega (arith, node_count-le c.args.exprs.now c.loop-expr.expr-index c.expr-item.result c.loop-expr-test.true c.expr-item.is), (search rules))
 
 pub all_named-returns-in_default-clause-found : goal.all_named-returns-in_default-clause-found
@@ -35,7 +35,7 @@ all_named-returns-clause-count t c =
     count_stays look (trees c.args.exprs.now) (trees c.loop-expr.found.items)
     (ap (λ l. all_with_names look (trees l)) (sym (take_all c.loop-expr.expr-index c.args.exprs.now (omega (arith, c.loop-expr-test.false)))) ∙ c.loop-expr.invariant.0)
 
-pub boxed-returns-clause-span : goal.boxed-returns-clause-span
-boxed-returns-clause-span t c =
+pub box_with_names-returns-clause-span : goal.box_with_names-returns-clause-span
+box_with_names-returns-clause-span t c =
     let look = meant c.args.scope.now.sheets.now (names_in c.args.scope.now) c.args.scope.now.home.0 in
     ap span_of c.in_ok-new.ensures.ok ∙ span_stays look c.args.expr.now c.in-Some.made (sym (sym c.in-Some.is ∙ c.in_ok-made.ensures))

@@ -12,11 +12,11 @@ invariant-all_named-loop-expr l =
     (all_with_names (meant l.scope.sheets.now (names_in l.scope) l.scope.home.0) (trees (take l.expr-index l.exprs)) ≡ Some (trees l.found.items))
     × AreSoundWithin l.fn.span (trees l.found.items)
 
-abbrev pub decreases-named : goal.decreases-named
-decreases-named l = 3 * node_count l.expr.now
+abbrev pub decreases-with_names : goal.decreases-with_names
+decreases-with_names l = 3 * node_count l.expr.now
 
-abbrev pub decreases-boxed : goal.decreases-boxed
-decreases-boxed l = 3 * node_count l.expr.now + 1
+abbrev pub decreases-box_with_names : goal.decreases-box_with_names
+decreases-box_with_names l = 3 * node_count l.expr.now + 1
 
 abbrev pub decreases-all_named : goal.decreases-all_named
 decreases-all_named l = 3 * all_count (trees l.exprs.now) + 1

@@ -35,7 +35,7 @@ returns-in-Err-clause-ends g c =
     let t = c.if-units-budget.true in
     let m : MayGoOn c.args.self.now.units c.args.units c.loop-spent.self =
     record { leaf = record { not_ended = n; not_given = i.answered ∙ c.requires }; in_budget = omega (arith, u, v, t); asked = omega (arith, a, b, l) } in
-    stop_ends c.args.self.now.units c.args.units c.step.new.self c.stopped.result (subst (λ (s : Held). MayGoOn c.args.self.now.units c.args.units s) (sym c.in-Err.ensures.stop.0) m) c.stopped.ensures
+    stop_ends c.args.self.now.units c.args.units c.step.new.self c.stop_of.result (subst (λ (s : Held). MayGoOn c.args.self.now.units c.args.units s) (sym c.in-Err.ensures.stop.0) m) c.stop_of.ensures
 
 pub answer-requires-clause-ended : goal.answer-requires-clause-ended
 answer-requires-clause-ended g c = c.has_ended-2.ensures.0 c.if-has_ended.true
@@ -61,7 +61,7 @@ returns-clause-ends g c =
 pub returns-in-Err-clause-trail : goal.returns-in-Err-clause-trail
 returns-in-Err-clause-trail g c =
     let i = c.loop-spent.invariant in
-    stop_continued _ _ _ (λ ms. (given.Picker-dyn g (c.step.new.pick.vtable, c.step.new.pick.value)).heard c.step.new.pick.value ms) _ _ _ c.loop-spent.self c.step.new.self _ c.stopped.result i.trail c.in-Err.ensures.heard c.in-Err.ensures.stop.0 c.in-Err.ensures.stop.1 c.stopped.ensures i.spent i.in_budget i.model i.budget
+    stop_continued _ _ _ (λ ms. (given.Picker-dyn g (c.step.new.pick.vtable, c.step.new.pick.value)).heard c.step.new.pick.value ms) _ _ _ c.loop-spent.self c.step.new.self _ c.stop_of.result i.trail c.in-Err.ensures.heard c.in-Err.ensures.stop.0 c.in-Err.ensures.stop.1 c.stop_of.ensures i.spent i.in_budget i.model i.budget
 
 pub returns-then-has_ended-clause-trail : goal.returns-then-has_ended-clause-trail
 returns-then-has_ended-clause-trail g c =

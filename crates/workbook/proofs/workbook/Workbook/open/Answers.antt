@@ -27,8 +27,8 @@ returns-in_err-names c =
     let p = err_from_is_err_and c.from_residual-in_err-names.result c.from_residual-in_err-names.ensures.1 in
     rw (p.1, p.2) (name_fault c.args.files.now c.args.names.now c.in_err-names.field-0.0 c.in_ok-sheets.sheets c.in_ok-sheets.ensures.1 fit c.in_err-names.ensures)
 
-pub filled-requires : goal.filled-requires
-filled-requires c =
+pub with_texts-requires : goal.with_texts-requires
+with_texts-requires c =
     let rows = c.deref.ensures.value ∙ c.in_ok-rows.ensures.1 in
     let texts = c.in_ok-texts.ensures.0 ∙ ap (texts_in_sheets 0) rows ∙ same_texts 0 c.args.files.now in
     room_for c.args.files.now c.in_ok-names.names c.in_ok-texts.texts.items c.empty.result

@@ -1,7 +1,7 @@
 use Rattle.std.proofs.Common.{◌∙◌, List, ap}
 use Rattle.workbook.specs.State.{Name, text_of}
 use Rattle.workbook.proofs.NameLaws.{short_there}
-use Rattle.workbook.proofs.workbook.Workbook.named.Goals as goal
+use Rattle.workbook.proofs.workbook.Workbook.text_of_name.Goals as goal
 
 pub returns-clause-short : goal.returns-clause-short
 returns-clause-short c =
