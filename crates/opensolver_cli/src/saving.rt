@@ -1,5 +1,5 @@
 // Writing the files that are saved.
-ghost use Rattle.std.specs.Prelude.{◌≡◌, OnOk, option_map};
+ghost use Rattle.std.specs.Prelude.{◌≡◌, OnErr, OnOk, option_map};
 ghost use Rattle.solver_io.specs.Bytes.{PutCause, PutWant};
 ghost use Rattle.session.specs.Steps.{once_written};
 ghost use Rattle.opensolver_cli.specs.Answering.{SavesAnswer, SavesFiles};
@@ -21,6 +21,7 @@ pub(crate) fn save<F: Folder>(
     ensures files { SavesAnswer (named_of named.now) answer.now
         (F.content folder.old) (F.content folder.new) result }
     ensures session { OnOk result (session.new.state ≡ once_written answer.now session.old.state) }
+    ensures kept { OnErr result (session.new.state ≡ session.old.state) }
     ensures cause { PutCause (F.write_faults folder.old) (F.write_faults folder.new) result }
     ensures want { PutWant (F.write_wants folder.old) (F.write_wants folder.new) result }
     ensures reads { F.read_faults folder.new ≡ F.read_faults folder.old }

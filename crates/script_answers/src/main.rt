@@ -17,6 +17,8 @@ mod long_texts;
 #[cfg(test)]
 mod option_tests;
 #[cfg(test)]
+mod room_tests;
+#[cfg(test)]
 mod run_cases;
 #[cfg(test)]
 mod run_tests;
@@ -26,5 +28,7 @@ mod runs;
 mod save_tests;
 #[cfg(test)]
 mod sheet_limit_tests;
+#[cfg(test)]
+mod solved_save_tests;
 #[cfg(test)]
 mod workbook_tests;

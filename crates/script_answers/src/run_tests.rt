@@ -44,6 +44,13 @@ fn calls_that_fail(rt: HostRuntime) -> Result<(), Fail> {
             Status::WriteFault,
             "",
         ),
+        // where the file of names is missing, no sheet is read
+        (
+            "--names none.csv plan.csv",
+            (1, 0, 100),
+            Status::BadInput,
+            "bad-input none.csv missing\n",
+        ),
         (
             "--names none.csv plan.csv",
             NEVER,

@@ -135,8 +135,8 @@ const SAVES: &[Saved<'static>] = &[
     ),
 ];
 
-// Whether a file of the folder holds these bytes.
-fn holds(folder: &MemFolder, name: &str, bytes: &[u8]) -> bool {
+/// Whether a file of the folder holds these bytes.
+pub(crate) fn holds(folder: &MemFolder, name: &str, bytes: &[u8]) -> bool {
     match folder.bytes(name) {
         Some(held) => held == bytes,
         None => false,

@@ -2,8 +2,6 @@
 ghost use Rattle.std.specs.Prelude.{◌≡◌, ◌<◌, All, IfOk, length, string_bytes};
 ghost use Rattle.workbook.specs.Listed.{IsListed};
 ghost use Rattle.workbook.specs.Several.{IsField};
-ghost use Rattle.workbook.specs.Replacing.{CanReplace};
-ghost use Rattle.workbook.specs.State.{is_formula_text};
 
 use cell_refs::{COLUMNS, Cell, ROWS, SheetId, SheetNames, Span};
 use commands::{Answer, Command, line};
@@ -11,7 +9,6 @@ use formula_ast::Node;
 use frac128::Frac;
 use indexmap::IndexSet;
 use sheet_csv::Rows;
-use sheet_model::Text;
 use std::alloc::Global;
 use std::test::Fail;
 use workbook::{Adj, AllFault, DECISIONS, EditFault, File, Kind, Workbook};
@@ -127,73 +124,6 @@ fn cells_in_their_order(rt: HostRuntime) -> Result<(), Fail> {
         );
     }
     assert!(rt; workbook.next_cell(None) == Some(at(0, 0, 2)));
-    Ok(())
-}
-
-// Whether the text begins a formula.
-fn is_formula(text: &str) -> bool
-    ensures { result ≡ is_formula_text text.now }
-{
-    match text.as_bytes() {
-        [b'=', ..] => true,
-        [b'o', b'f', b':', b'=', ..] => true,
-        _ => false,
-    }
-}
-
-// A text for a cell, where it can take the place of the cell's.
-fn replacing(
-    alloc: Global,
-    workbook: &Workbook,
-    cell: Cell,
-    text: &str,
-) -> Result<(Cell, Text), Fail>
-    ensures { IfOk result (λ e. CanReplace workbook.now.contents e) }
-{
-    if workbook.content(cell).is_empty() {
-        return Err(Fail::new("the cell has no text"));
-    }
-    if text.is_empty() || text.len() > 1000 || is_formula(text) {
-        return Err(Fail::new("the text can take no place"));
-    }
-    Ok((cell, Text::new(String::from_str(alloc, text)?)))
-}
-
-// Puts texts in place of others.
-fn replace(alloc: Global, workbook: &mut Workbook, texts: &[(Cell, &str)]) -> Result<(), Fail> {
-    let mut list = Vec::new(alloc);
-    for (cell, text) in texts {
-        let entry = replacing(alloc, workbook, *cell, text)?;
-        list.push(entry)?;
-    }
-    Ok(workbook.replace_all(list)?)
-}
-
-#[test]
-fn texts_that_are_replaced(rt: HostRuntime) -> Result<(), Fail> {
-    let Some(five) = Frac::new(5, 1) else {
-        return Err(Fail::new("five"));
-    };
-    let mut workbook = open_workbook(rt.alloc())?;
-    replace(
-        rt.alloc(),
-        &mut workbook,
-        &[
-            (at(0, 0, 0), "5"),
-            (at(0, 2, 1), "true"),
-            (at(0, 0, 0), "6"),
-        ],
-    )?;
-    for (cell, text, want) in [
-        (at(0, 0, 0), "5", Kind::Number(five)),
-        (at(0, 2, 1), "true", Kind::Logical(true)),
-        (at(0, 0, 2), "x", Kind::Plain),
-        (at(0, 0, 1), "", Kind::Empty),
-    ] {
-        assert!(rt; workbook.content(cell) == text);
-        assert!(rt; workbook.kind(cell) == want);
-    }
-    assert!(rt; workbook.texts() == 4);
     Ok(())
 }
 

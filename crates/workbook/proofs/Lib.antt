@@ -12,7 +12,7 @@ pub mod NameRows
 pub mod NextCells
 pub mod Widths
 pub mod OneWay
-pub mod Exchanges
+pub mod ListedCells
 pub mod Severally
 pub mod Room
 pub mod NameEdits

@@ -13,9 +13,7 @@ pub mod Gathered
 pub mod Opened
 pub mod Listed
 pub mod Filled
-pub mod Replacing
 pub mod Determined
-pub mod Exchanging
 pub mod Several
 pub mod Filling
 pub mod Naming

@@ -99,8 +99,8 @@ pub(crate) fn put_in(
     }
 }
 
-/// Puts into a cell what is held of it, in place of what is there.
-pub(crate) fn put_over(cells: &mut BTreeMap<Cell, Held>, cell: Cell, held: Held)
+// Puts into a cell what is held of it, in place of what is there.
+fn put_over(cells: &mut BTreeMap<Cell, Held>, cell: Cell, held: Held)
     requires { IsSome (held_at cells.old.entries cell) }
     ensures put { (q : Cell) → held_at cells.new.entries q
         ≡ (if is_at (cell_cmp cell) q then Some held else held_at cells.old.entries q) }

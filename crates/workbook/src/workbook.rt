@@ -1,14 +1,11 @@
 // A workbook.
-ghost use Rattle.std.specs.Prelude.{◌≡◌, ◌&&◌, ◌<◌, ◌≤◌, ◌≢◌, [], All, IfOk, OnErr, OnOk, false, length, map, nat_le, nat_lt, not};
+ghost use Rattle.std.specs.Prelude.{◌≡◌, ◌&&◌, ◌<◌, ◌≤◌, ◌≢◌, [], All, IfOk, OnErr, OnOk, false, length, nat_le, nat_lt, not};
 ghost use Rattle.std.specs.FinMap as finmap;
 ghost use Rattle.cell_refs.specs.declared.limits.TheConstants.{TEXT_BYTES};
 ghost use Rattle.workbook.specs.Contents.{content_of};
 ghost use Rattle.workbook.specs.Edits.{Sets, after_set, is_outside, set_fault};
-ghost use Rattle.workbook.specs.Held.{put_all, text_entry};
 ghost use Rattle.workbook.specs.Listed.{IsListed};
-ghost use Rattle.workbook.specs.Exchanging.{IsExchange};
 ghost use Rattle.workbook.specs.Known.{names_in};
-ghost use Rattle.workbook.specs.Replacing.{CanReplace};
 ghost use Rattle.workbook.specs.State.{formula_count, is_formula_text, text_count, with_text};
 ghost use Rattle.workbook.specs.Room.{HasRoom};
 ghost use Rattle.workbook.specs.Changed.{after_change};
@@ -17,7 +14,7 @@ ghost use Rattle.workbook.specs.Scoped.{IsShort};
 
 use crate::EditFault;
 use crate::change::Change;
-use crate::held::{Held, put_in, put_over, say_otherwise, take_away};
+use crate::held::{Held, put_in, say_otherwise, take_away};
 use crate::named::Scope;
 use crate::names::Names;
 use crate::renamed::{Edit, cells_of, sayings_after};
@@ -185,44 +182,6 @@ impl Workbook {
         self.alloc
     }
 
-    /// Puts texts in place of those that their cells have, the last of them first. On want of memory nothing has changed.
-    pub fn replace_all(&mut self, texts: Vec<(Cell, Text)>) -> Result<(), sheet_model::Memory>
-        requires { All (CanReplace self.old.contents) texts.items }
-        ensures ok { OnOk result (self.new
-            ≡ record self.old { contents = put_all texts.items self.old.contents }) }
-        ensures err { OnErr result (self.new ≡ self.old) }
-    {
-        let Ok(held) = self.all_said(texts) else {
-            return Err(sheet_model::Memory);
-        };
-        self.exchange_all(held);
-        Ok(())
-    }
-
-    // What texts say in their cells.
-    fn all_said(&self, texts: Vec<(Cell, Text)>) -> Result<Vec<(Cell, Held)>, Memory>
-        requires { All (CanReplace self.now.contents) texts.items }
-        ensures texts { IfOk result (λ held. map text_entry held.items ≡ texts.items) }
-        ensures fit { IfOk result (λ held. All (IsExchange self.now) held.items) }
-    {
-        let mut held = Vec::new(self.alloc);
-        for (cell, text) in texts {
-            let entry = self.held_with(cell, text)?;
-            held.push((cell, entry))?;
-        }
-        Ok(held)
-    }
-
-    // What is held of a cell that has a text, with another text in its place.
-    fn held_with(&self, cell: Cell, text: Text) -> Result<Held, Memory>
-        requires { CanReplace self.now.contents (cell, text) }
-        ensures text { IfOk result (λ held. held.text ≡ text) }
-        ensures fits { IfOk result (λ held. IsExchange self.now (cell, held)) }
-    {
-        let held = hold(self.alloc, &self.scope(cell.sheet), cell, text)?;
-        Ok(held)
-    }
-
     // The names, whose texts are no longer than a field.
     pub(crate) fn names(&self) -> &Names
         ensures names { result.now ≡ self.now.names }
@@ -244,28 +203,6 @@ impl Workbook {
             names: &self.names,
             change: None,
         }
-    }
-
-    // Puts what is held into cells that have a text, the last of them first.
-    fn exchange_all(&mut self, mut held: Vec<(Cell, Held)>)
-        requires { All (IsExchange self.old) held.items }
-        ensures { self.new
-            ≡ record self.old { contents = put_all (map text_entry held.items) self.old.contents } }
-    {
-        while let Some((cell, entry)) = held.pop() {
-            self.exchange(cell, entry);
-        }
-    }
-
-    // Puts what is held into a cell that has a text.
-    fn exchange(&mut self, cell: Cell, held: Held)
-        requires { IsExchange self.old (cell, held) }
-        ensures { self.new
-            ≡ record self.old { contents = finmap.insert self.old.contents cell held.text } }
-    {
-        let was_one = self.has_formula(cell);
-        put_over(&mut self.cells, cell, held);
-        self.formulas -= one(was_one);
     }
 
     // Makes an edit of one name, and answers the cells that say something else now.

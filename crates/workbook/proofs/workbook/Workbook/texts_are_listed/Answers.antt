@@ -1,6 +1,6 @@
 use Rattle.std.proofs.Common.{subst}
 use Rattle.workbook.specs.Listed.{TextsAreListed}
-use Rattle.workbook.proofs.Exchanges.{all_listed}
+use Rattle.workbook.proofs.ListedCells.{all_listed}
 use Rattle.workbook.proofs.workbook.Workbook.texts_are_listed.Goals as goal
 
 pub returns : goal.returns
