@@ -1,5 +1,6 @@
 // Workbooks of two sheets with no texts, and of names.
 ghost use Rattle.std.specs.Prelude.{◌≡◌, ◌≢◌, ◌≤◌, [], All, IfOk, length};
+ghost use Rattle.cell_refs.specs.declared.limits.TheConstants.{FILE_BYTES};
 ghost use Rattle.workbook.specs.Files.{SheetFile};
 
 use std::alloc::Global;
@@ -9,7 +10,7 @@ use workbook::{File, Workbook};
 // The file of a sheet with no texts.
 fn sheet_file(alloc: Global, stem: &str) -> Result<File, Fail>
     ensures stem { IfOk result (λ f. f.stem ≢ []) }
-    ensures size { IfOk result (λ f. length f.bytes ≤ 16777216) }
+    ensures size { IfOk result (λ f. length f.bytes ≤ FILE_BYTES) }
 {
     if stem.is_empty() {
         return Err(Fail::new("a sheet has no name"));
@@ -21,7 +22,7 @@ fn sheet_file(alloc: Global, stem: &str) -> Result<File, Fail>
 fn files(alloc: Global) -> Result<Vec<File>, Fail>
     ensures count { IfOk result (λ v. length v.items ≡ 2) }
     ensures stems { IfOk result (λ v. All (λ (f : SheetFile). f.stem ≢ []) v.items) }
-    ensures sizes { IfOk result (λ v. All (λ (f : SheetFile). length f.bytes ≤ 16777216) v.items) }
+    ensures sizes { IfOk result (λ v. All (λ (f : SheetFile). length f.bytes ≤ FILE_BYTES) v.items) }
 {
     let mut files = Vec::new(alloc);
     files.push(sheet_file(alloc, "plan")?)?;

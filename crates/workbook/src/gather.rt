@@ -1,6 +1,6 @@
 // The texts of the sheets' records.
 ghost use Rattle.std.specs.Prelude.{◌≡◌, ◌≤◌, ◌<◌, ◌++◌, All, MatchResult, OnOk, length};
-ghost use Rattle.cell_refs.specs.declared.limits.TheConstants.{COLUMNS};
+ghost use Rattle.cell_refs.specs.declared.limits.TheConstants.{COLUMNS, SHEETS};
 ghost use Rattle.sheet_csv.specs.Sheet.{Record};
 ghost use Rattle.workbook.specs.Files.{texts_in_record, texts_in_records};
 ghost use Rattle.workbook.specs.Gathered.{FitsSheet, IsStop, texts_in_sheets};
@@ -21,7 +21,7 @@ pub(crate) enum Stop {
 
 /// The texts of all sheets, with their cells.
 pub(crate) fn texts_in(alloc: Global, sheets: &[Rows]) -> Result<Vec<(Cell, Text)>, Stop>
-    requires few { length sheets.now ≤ 32 }
+    requires few { length sheets.now ≤ SHEETS }
     requires fit { All FitsSheet sheets.now }
     ensures { MatchResult result (λ v. (v.items ≡ texts_in_sheets 0 sheets.now)
         × (length v.items ≤ TEXTS))

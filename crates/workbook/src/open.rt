@@ -1,5 +1,6 @@
 // Opening a workbook.
 ghost use Rattle.std.specs.Prelude.{◌≡◌, ◌≢◌, ◌≤◌, ◌<◌, ◌++◌, ◌∷◌, [], All, IfOk, IfSome, MatchBool, OnOk, length, option_map};
+ghost use Rattle.cell_refs.specs.declared.limits.TheConstants.{FILE_BYTES, SHEETS};
 ghost use Rattle.workbook.specs.Files.{SheetFile, is_new, name_in, sheet_in, with_name};
 ghost use Rattle.workbook.specs.Determined.{OneOpening};
 ghost use Rattle.workbook.specs.Opening.{Opens};
@@ -23,10 +24,10 @@ impl Workbook {
     /// record in it, too many names.
     pub fn open(alloc: Global, files: &[File], names: &[u8]) -> Result<Workbook, OpenFault>
         requires some { 0 < length files.now }
-        requires few { length files.now ≤ 32 }
+        requires few { length files.now ≤ SHEETS }
         requires stems { All (λ (f : SheetFile). f.stem ≢ []) files.now }
-        requires sizes { All (λ (f : SheetFile). length f.bytes ≤ 16777216) files.now }
-        requires names { length names.now ≤ 16777216 }
+        requires sizes { All (λ (f : SheetFile). length f.bytes ≤ FILE_BYTES) files.now }
+        requires names { length names.now ≤ FILE_BYTES }
         ensures { Opens files.now names.now result }
     {
         let sheets = sheets_of(alloc, files)?;
@@ -47,7 +48,7 @@ pub fn files_open_in_one_way()
 
 // The sheets' names.
 fn sheets_of(alloc: Global, files: &[File]) -> Result<SheetNames, OpenFault>
-    requires { length files.now ≤ 32 }
+    requires { length files.now ≤ SHEETS }
     ensures { ListsSheets files.now result }
 {
     let mut sheets = SheetNames::new(alloc);
@@ -64,8 +65,8 @@ fn sheets_of(alloc: Global, files: &[File]) -> Result<SheetNames, OpenFault>
 
 // The records of each file.
 fn read_files(alloc: Global, files: &[File]) -> Result<Vec<Rows>, OpenFault>
-    requires few { length files.now ≤ 32 }
-    requires sizes { All (λ (f : SheetFile). length f.bytes ≤ 16777216) files.now }
+    requires few { length files.now ≤ SHEETS }
+    requires sizes { All (λ (f : SheetFile). length f.bytes ≤ FILE_BYTES) files.now }
     ensures { ReadsFiles files.now result }
 {
     let limits = CsvLimits {
@@ -122,7 +123,7 @@ fn name_fault(fault: SheetFault) -> OpenFault
 
 // The texts of the cells.
 fn texts_of(alloc: Global, sheets: &[Rows]) -> Result<Vec<(Cell, Text)>, OpenFault>
-    requires few { length sheets.now ≤ 32 }
+    requires few { length sheets.now ≤ SHEETS }
     requires fit { All FitsSheet sheets.now }
     ensures { GathersTexts sheets.now result }
 {
@@ -139,7 +140,7 @@ fn texts_of(alloc: Global, sheets: &[Rows]) -> Result<Vec<(Cell, Text)>, OpenFau
 
 // The names of the file of names.
 fn names_of(alloc: Global, sheets: &SheetNames, bytes: &[u8]) -> Result<Names, OpenFault>
-    requires { length bytes.now ≤ 16777216 }
+    requires { length bytes.now ≤ FILE_BYTES }
     ensures { ReadsNames sheets.now bytes.now result }
 {
     let limits = CsvLimits {
