@@ -35,6 +35,15 @@ in_quotes (b ∷ text) = if b == 39 then unquoted text else None
 abbrev pub sheet_in : List ℕ → Option (List ℕ)
 sheet_in text = if is_sheet_word text then Some (without_dollar text) else in_quotes (without_dollar text)
 
+-- whether a quote leads a text
+abbrev pub begins_with_quote : List ℕ → Bool
+begins_with_quote [] = false
+begins_with_quote (b ∷ rest) = b == 39
+
+-- whether a text is a word or in quotes as far as it begins: no other spells a sheet
+abbrev pub may_spell_sheet : List ℕ → Bool
+may_spell_sheet text = is_sheet_word text || begins_with_quote (without_dollar text)
+
 -- it is the one that is spelled, so a text spells one at most
 abbrev pub SheetsAreSpelled : Type 0
 SheetsAreSpelled = (text name : List ℕ) → (sheet_in text ≡ Some name) ↔ SpellsSheet text name

@@ -1,8 +1,8 @@
 // Reading the sheet before an address.
-ghost use Rattle.std.specs.Prelude.{◌≡◌, ◌||◌, ◌==◌, IfOk, option_map, string_bytes};
+ghost use Rattle.std.specs.Prelude.{◌≡◌, ◌||◌, ◌==◌, IfOk, IsTrue, OnErr, option_map, string_bytes};
 ghost use Rattle.std.specs.List.{list_all};
 ghost use Rattle.cell_refs.specs.Names.{begins_word, goes_on_word};
-ghost use Rattle.cell_refs.specs.Sheets.{SheetsAreSpelled, is_sheet_word, sheet_in, unquoted};
+ghost use Rattle.cell_refs.specs.Sheets.{SheetsAreSpelled, is_sheet_word, may_spell_sheet, sheet_in, unquoted};
 
 use crate::address::without_dollar;
 use crate::print::{begins, goes_on};
@@ -11,7 +11,8 @@ use std::alloc::{AllocError, Global};
 /// The name of the sheet that stands before an address, as `plan`, `$plan` or `'My Plan'`. `None` where the text
 /// spells none.
 pub fn sheet_name(alloc: Global, text: &str) -> Result<Option<String>, AllocError>
-    ensures { IfOk result (λ name. option_map string_bytes name ≡ sheet_in text.now) }
+    ensures name { IfOk result (λ name. option_map string_bytes name ≡ sheet_in text.now) }
+    ensures memory { OnErr result (IsTrue (may_spell_sheet text.now)) }
 {
     let name = without_dollar(text);
     if is_sheet_word(text.as_bytes()) {
