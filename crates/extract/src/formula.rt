@@ -19,7 +19,11 @@ use std::alloc::Global;
 
 /// The part that a formula is: its form over those of the cells, as far as these are known, and the cells at which it looks.
 #[cycle(extracting)]
-pub fn form_part<C: FormsOfCells>(alloc: Global, forms: &C, expr: &Expr) -> Result<Part, Memory>
+pub(crate) fn form_part<C: FormsOfCells>(
+    alloc: Global,
+    forms: &C,
+    expr: &Expr,
+) -> Result<Part, Memory>
     ensures { IfOk result (λ part. part ≡ part_of (C.forms forms.now) expr.now) }
 {
     let span = expr.span;

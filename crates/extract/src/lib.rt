@@ -11,7 +11,6 @@ mod steps;
 mod table;
 mod texts;
 
-pub use formula::form_part;
 pub use looked::looked_at;
 pub use place::form_of;
 pub use steps::Steps;
