@@ -4,3 +4,7 @@ pub mod Right
 pub mod Answering
 pub mod Members
 pub mod Rounding
+pub mod Grown
+pub mod Tables
+pub mod Gathered
+pub mod Filled

@@ -6,11 +6,13 @@ ghost use Rattle.dep_table.specs.Order.{IsOrder};
 ghost use Rattle.recalculation.specs.Entries.{entry, nothing};
 ghost use Rattle.recalculation.specs.Looking.{are_known};
 ghost use Rattle.recalculation.specs.Walks.{is_circular, is_formula, refers};
-ghost use Rattle.cell_values.specs.Rows.{AreRows, HasRow, IsComputed, row_at, seen_in};
+ghost use Rattle.cell_values.specs.Rows.{AreRows, HasRow, IsComputed};
+ghost use Rattle.cell_values.specs.Values.{HasSeen, IsTable, value_at};
 ghost use Rattle.workbook.specs.Kinds.{book_of};
 
+use crate::gather::{gather, known_in};
 use crate::rows::{Row, kept_looks, put};
-use crate::seen::Seen;
+use crate::values::Values;
 use cell_refs::{Cell, ErrorKind};
 use dep_table::CellSet;
 use evaluation::evaluate;
@@ -36,8 +38,9 @@ pub(crate) fn fill(
     ensures filled { OnOk result ((p : ℕ) (a : Cell) → slice_get order.now p ≡ Some a
         → HasRow rows.new.entries a) }
 {
+    let mut values = gather(alloc, book, rows)?;
     for &cell in order {
-        put_row(alloc, book, cell, keeps_looks, rows)?;
+        put_row(alloc, book, cell, keeps_looks, rows, &mut values)?;
     }
     Ok(())
 }
@@ -49,12 +52,17 @@ fn put_row(
     cell: Cell,
     keeps_looks: bool,
     rows: &mut BTreeMap<Cell, Row>,
+    values: &mut Values,
 ) -> Result<(), Memory>
     requires free { is_circular (book_of book.now) nothing cell ≡ false }
     requires ready { (b : Cell) → refers (entry (book_of book.now) cell) b ≡ true
         → is_formula (entry (book_of book.now) b) ≡ true → HasRow rows.old.entries b }
     requires right { AreRows (book_of book.now) keeps_looks rows.old.entries }
+    requires table { IsTable values.old }
+    requires seen { HasSeen (book_of book.now) rows.old.entries values.old }
     ensures right { OnOk result (AreRows (book_of book.now) keeps_looks rows.new.entries) }
+    ensures table { OnOk result (IsTable values.new) }
+    ensures seen { OnOk result (HasSeen (book_of book.now) rows.new.entries values.new) }
     ensures kept { OnOk result ((a : Cell) → HasRow rows.old.entries a
         → HasRow rows.new.entries a) }
     ensures filled { OnOk result (is_formula (entry (book_of book.now) cell) ≡ true
@@ -63,19 +71,19 @@ fn put_row(
     let Some(tree) = book.tree(cell) else {
         return Ok(());
     };
-    let row = row_of(alloc, &Seen { book, rows }, tree, keeps_looks)?;
+    let row = row_of(alloc, values, tree, keeps_looks)?;
+    values.put(cell, known_in(alloc, &row)?)?;
     put(rows, cell, row)?;
     Ok(())
 }
 
-// The row of a formula over those of others.
-fn row_of(alloc: Global, seen: &Seen, tree: &Expr, keeps_looks: bool) -> Result<Row, Memory>
-    ensures { IfOk result (λ row. IsComputed
-        (seen_in (book_of seen.now.book.now) seen.now.rows.now.entries) tree.now keeps_looks row) }
+// The row of a formula over the values of others.
+fn row_of(alloc: Global, values: &Values, tree: &Expr, keeps_looks: bool) -> Result<Row, Memory>
+    ensures { IfOk result (λ row. IsComputed (value_at values.now) tree.now keeps_looks row) }
 {
-    let part = evaluate(alloc, seen, tree)?;
+    let part = evaluate(alloc, values, tree)?;
     let looks = kept_looks(alloc, part.looks(), keeps_looks)?;
-    let is_wide = part.outcome().is_none() && seen.all_known(part.looks());
+    let is_wide = part.outcome().is_none() && values.all_known(part.looks());
     let value = part.to_value(alloc)?;
     Ok(Row {
         value,

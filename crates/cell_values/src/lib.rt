@@ -3,11 +3,14 @@
 
 mod circular;
 mod fill;
+mod gather;
+mod places;
 mod recalculate;
 mod rounds;
 mod rows;
 mod seen;
 mod shown;
+mod values;
 mod walk;
 
 pub use recalculate::value;

@@ -10,7 +10,7 @@ abbrev here : Cell
 here = record { sheet = record { 0 = 0 }; row = 0; col = 0 }
 
 pub loop-cell-init : goal.loop-cell-init
-loop-cell-init c = record { right = c.requires.right; kept = λ a h. h; filled = λ p a less at. none_before p less }
+loop-cell-init c = record { right = c.requires.right; table = c.in_ok-values.ensures.table; seen = c.in_ok-values.ensures.seen; kept = λ a h. h; filled = λ p a less at. none_before p less }
 
 pub put_row-requires-clause-ready : goal.put_row-requires-clause-ready
 put_row-requires-clause-ready c b refers formula =
@@ -20,12 +20,20 @@ put_row-requires-clause-ready c b refers formula =
 pub put_row-requires-clause-right : goal.put_row-requires-clause-right
 put_row-requires-clause-right c = c.loop-cell.invariant.right
 
+pub put_row-requires-clause-table : goal.put_row-requires-clause-table
+put_row-requires-clause-table c = c.loop-cell.invariant.table
+
+pub put_row-requires-clause-seen : goal.put_row-requires-clause-seen
+put_row-requires-clause-seen c = c.loop-cell.invariant.seen
+
 pub loop-cell-preserved : goal.loop-cell-preserved
 loop-cell-preserved c =
     let at : slice_get c.args.order.now c.loop-cell.cell-index ≡ Some (slice_index_or c.args.order.now c.loop-cell.cell-index here) =
     slice_get-get_or c.args.order.now c.loop-cell.cell-index here c.loop-cell-test.true in
     record {
       right = c.in_ok-put_row.ensures.right;
+      table = c.in_ok-put_row.ensures.table;
+      seen = c.in_ok-put_row.ensures.seen;
       kept = λ a h. c.in_ok-put_row.ensures.kept a (c.loop-cell.invariant.kept a h);
       filled = λ p a less there. before_or_at (λ q. (d : Cell) → slice_get c.args.order.now q ≡ Some d → HasRow c.put_row.new.rows.entries d) c.loop-cell.cell-index p less
           (λ q before d e. c.in_ok-put_row.ensures.kept d (c.loop-cell.invariant.filled q d before e))

@@ -1,0 +1,32 @@
+-- What is known of cells, in one list, with the place of each cell in it.
+use Rattle.std.specs.Prelude.{◌≡◌, ◌<◌, List, Option, Some, None, get_or, length}
+use Rattle.cell_refs.specs.declared.cell.Cell.{Cell}
+use Rattle.sheet_model.specs.declared.value.Value.{Value}
+use Rattle.sheet_model.specs.declared.value.Value.TheVariants.{Empty}
+use Rattle.sheet_model.specs.declared.value.Value.TheVariants as value
+use Rattle.recalculation.specs.Entries.{Book}
+use Rattle.cell_values.specs.declared.rows.Row.{Row}
+use Rattle.cell_values.specs.declared.values.Known.{Known}
+use Rattle.cell_values.specs.declared.values.Known.TheVariants as known
+use Rattle.cell_values.specs.declared.values.Values.{Values}
+use Rattle.cell_values.specs.Places.{place_in}
+use Rattle.cell_values.specs.Rows.{seen_in}
+
+-- the value that is known
+abbrev pub known_value : Known → Option Value
+known_value known.Nothing = None
+known_value (known.Value v) = Some v
+known_value (known.Text t) = Some (value.Text t.now)
+
+-- the value of a cell, if it is known
+abbrev pub value_at : Values → Cell → Option Value
+value_at t q = known_value (get_or t.known.items (place_in t.places q) known.Nothing)
+
+-- each cell has a place in the list, and the first place is that of an empty cell
+pub record IsTable (t : Values) : Type 0 where
+  pub empty : known_value (get_or t.known.items 0 known.Nothing) ≡ Some Empty
+  pub within : (q : Cell) → place_in t.places q < length t.known.items
+
+-- it has what is seen of each cell, from the rows of some formulas
+abbrev pub HasSeen : Book → List (Cell × Row) → Values → Type 0
+HasSeen book rows t = (q : Cell) → value_at t q ≡ seen_in book rows q
