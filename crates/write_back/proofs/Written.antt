@@ -1,5 +1,5 @@
 -- Workbooks with numbers written into cells.
-use Rattle.std.proofs.Common.{◌≡◌, ℕ, ◌<◌, Bool, true, false, cond, if◌then◌else◌, All, List, ◌∷◌, length, map, Option, Some, None, Result, Ok, Err, refl, sym, ap, subst, arith}
+use Rattle.std.proofs.Common.{[], ◌∙◌, ◌≡◌, ℕ, ◌<◌, Bool, true, false, cond, if◌then◌else◌, All, List, ◌∷◌, length, map, Option, Some, None, Result, Ok, Err, refl, sym, ap, subst, arith}
 use Rattle.std.specs.Prelude.{OnOk, option_map, position, zip}
 use Rattle.std.proofs.lemmas.Bool.{ltb-true}
 use Rattle.fractions.specs.Rational.{ℚ, zero_ℚ}
@@ -71,6 +71,10 @@ module _ (s : State) (cells : List Cell) (numbers : List ℚ) (long : length num
       then Error kind.Circular else cell_value (exact (evaluated (λ c. keeps_values c i) t))
 
 -- ---- putting
+no_texts : (cells : List Cell) → zip cells (map number_text []) ≡ []
+no_texts [] = refl
+no_texts (c ∷ cells) = refl
+
 -- what putting the texts of numbers answers
 pub puts : (s t : State) (cells : List Cell) (numbers : List ℚ) (texts : List (List ℕ)) (r : Result (Unit {0}) AllFault) → texts ≡ map number_text numbers
     → SetsAll s (zip cells texts) r t → Puts s cells numbers r t
@@ -79,7 +83,7 @@ puts s t cells numbers texts r e all = by r (subst (λ ts. SetsAll s (zip cells 
     by : (r : Result (Unit {0}) AllFault) → SetsAll s (zip cells (map number_text numbers)) r t → Puts s cells numbers r t
     by (Ok _) all = all
     by (Err (fault.NoRoom cell)) all = all
-    by (Err fault.Memory) all = all.2
+    by (Err fault.Memory) all = (λ none. all.1 (ap (λ ns. zip cells (map number_text ns)) none ∙ no_texts cells), all.2)
 
 pub recalculated : (s t : State) (cells : List Cell) (numbers : List ℚ) → length numbers ≡ length cells → AreDistinct cells → All IsNarrow numbers → (r : Result (Unit {0}) AllFault) → Puts s cells numbers r t
     → OnOk r (KeepsValues (book_of s) cells numbers (book_of t))

@@ -1,5 +1,5 @@
 -- Numbers written into the cells to be decided.
-use Rattle.std.specs.Prelude.{◌≡◌, ℕ, ◌==◌, if◌then◌else◌, List, ◌∷◌, map, zip, slice_get, Option, Some, None, Result, Ok, Err}
+use Rattle.std.specs.Prelude.{◌≡◌, ◌≢◌, ℕ, ◌==◌, if◌then◌else◌, List, [], ◌∷◌, map, zip, slice_get, Option, Some, None, Result, Ok, Err}
 use Rattle.std.specs.List.{list_any}
 use Rattle.fractions.specs.Rational.{ℚ}
 use Rattle.cell_refs.specs.declared.cell.Cell.{Cell}
@@ -31,11 +31,11 @@ with_numbers book cells numbers = record book { contents = with_texts book.conte
 abbrev pub without_room : State → List Cell → List ℚ → Option Cell
 without_room book cells numbers = first_without_room book.contents (texts_of cells numbers)
 
--- all numbers are written where all have room, or nothing has changed
+-- all numbers are written where all have room, or nothing has changed; where there are none, no memory is wanted
 abbrev pub Puts : State → List Cell → List ℚ → Result (Unit {0}) AllFault → State → Type 0
 Puts before cells numbers (Ok _) after = (without_room before cells numbers ≡ None) × (after ≡ with_numbers before cells numbers)
 Puts before cells numbers (Err (fault.NoRoom cell)) after = (without_room before cells numbers ≡ Some cell) × (after ≡ before)
-Puts before cells numbers (Err fault.Memory) after = after ≡ before
+Puts before cells numbers (Err fault.Memory) after = (numbers ≢ []) × (after ≡ before)
 
 -- every cell is then what it was with the numbers in the place of these cells
 abbrev pub KeepsValues : Book → List Cell → List ℚ → Book → Type 0

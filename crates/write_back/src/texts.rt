@@ -1,5 +1,5 @@
 // The texts of numbers.
-ghost use Rattle.std.specs.Prelude.{◌≡◌, ◌==◌, All, IfOk, OnOk, length, map, string_bytes};
+ghost use Rattle.std.specs.Prelude.{[], ◌≡◌, ◌≢◌, ◌==◌, All, IfOk, OnErr, OnOk, length, map, string_bytes};
 ghost use Rattle.std.specs.List.{list_any};
 ghost use Rattle.frac128.specs.Narrow.{IsNarrow};
 ghost use Rattle.workbook.specs.Several.{IsField};
@@ -16,6 +16,7 @@ pub(crate) fn all_texts(alloc: Global, numbers: &[Frac]) -> Result<Vec<String>, 
     ensures each { IfOk result (λ texts. length texts.items ≡ length numbers.now) }
     ensures fields { IfOk result (λ texts. All (λ text. IsField (string_bytes text)) texts.items) }
     ensures narrow { OnOk result (All IsNarrow numbers.now) }
+    ensures memory { OnErr result (numbers.now ≢ []) }
 {
     let mut texts = Vec::new(alloc);
     for number in numbers {
