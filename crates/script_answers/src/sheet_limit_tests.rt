@@ -130,9 +130,9 @@ const EDITS: &[Case<'static>] = &[
     ),
 ];
 
-#[test]
-fn sheets_at_their_limits(rt: HostRuntime) -> Result<(), Fail> {
-    for (plan, other, script, end, want) in SHEETS {
+// Each run ends and prints as it is expected.
+fn answers_are(rt: HostRuntime, cases: &[Case<'static>]) -> Result<(), Fail> {
+    for (plan, other, script, end, want) in cases {
         let plan = bytes(rt.alloc(), plan)?;
         let script = bytes(rt.alloc(), script)?;
         let files = [
@@ -145,38 +145,19 @@ fn sheets_at_their_limits(rt: HostRuntime) -> Result<(), Fail> {
         assert!(rt; status == *end);
     }
     Ok(())
+}
+
+#[test]
+fn sheets_at_their_limits(rt: HostRuntime) -> Result<(), Fail> {
+    answers_are(rt, SHEETS)
 }
 
 #[test]
 fn two_sheets_at_their_limits(rt: HostRuntime) -> Result<(), Fail> {
-    for (plan, other, script, end, want) in TWO_SHEETS {
-        let plan = bytes(rt.alloc(), plan)?;
-        let script = bytes(rt.alloc(), script)?;
-        let files = [
-            ("names.csv", b"".as_slice()),
-            ("plan.csv", plan.as_slice()),
-            ("other.csv", *other),
-        ];
-        let (status, printed) = ran(rt.alloc(), WORDS, &files, &script, NEVER)?;
-        assert_eq!(rt; printed.as_slice(), want.as_bytes());
-        assert!(rt; status == *end);
-    }
-    Ok(())
+    answers_are(rt, TWO_SHEETS)
 }
 
 #[test]
 fn edits_at_the_limits_of_sheets(rt: HostRuntime) -> Result<(), Fail> {
-    for (plan, other, script, end, want) in EDITS {
-        let plan = bytes(rt.alloc(), plan)?;
-        let script = bytes(rt.alloc(), script)?;
-        let files = [
-            ("names.csv", b"".as_slice()),
-            ("plan.csv", plan.as_slice()),
-            ("other.csv", *other),
-        ];
-        let (status, printed) = ran(rt.alloc(), WORDS, &files, &script, NEVER)?;
-        assert_eq!(rt; printed.as_slice(), want.as_bytes());
-        assert!(rt; status == *end);
-    }
-    Ok(())
+    answers_are(rt, EDITS)
 }

@@ -12,7 +12,7 @@ fn sheet_file(alloc: Global, stem: &str, text: &[u8]) -> Result<File, Fail>
     ensures stem { IfOk result (λ f. f.stem ≢ []) }
     ensures size { IfOk result (λ f. length f.bytes ≤ FILE_BYTES) }
 {
-    if stem.is_empty() || text.len() > 1000 {
+    if stem.is_empty() || text.len() > 10000 {
         return Err(Fail::new("a sheet has no name, or a long text"));
     }
     Ok(File::new(String::from_str(alloc, stem)?, text.to_vec(alloc)?))
@@ -37,7 +37,7 @@ pub(crate) fn open_workbook(
     other: &[u8],
     names: &[u8],
 ) -> Result<Workbook, Fail> {
-    if names.len() > 1000 {
+    if names.len() > 10000 {
         return Err(Fail::new("the names are a long text"));
     }
     let files = files(alloc, plan, other)?;

@@ -1,13 +1,20 @@
-//! Tests of values, formulas and recalculation that a program can't show. They stand here so that no crate below is proved twice.
+//! Tests of values, formulas and recalculation that a program can't show, and of what is saved. They stand here so that no crate below
+//! is proved twice.
 #![tactic(auto)]
 
 #[cfg(test)]
 mod books;
+#[cfg(test)]
+mod cells;
 #[cfg(test)]
 mod definition;
 #[cfg(test)]
 mod grids;
 #[cfg(test)]
 mod looks;
+#[cfg(test)]
+mod odd_sheets;
+#[cfg(test)]
+mod saved_files;
 #[cfg(test)]
 mod tours;

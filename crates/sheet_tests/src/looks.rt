@@ -5,6 +5,7 @@ ghost use Rattle.cell_refs.specs.declared.cell.Cell.{Cell};
 ghost use Rattle.fractions.specs.Whole.{whole_ℚ};
 ghost use Rattle.sheet_model.specs.declared.value.Value.TheVariants.{Number};
 
+use crate::cells::{A1, A2, A3, A4, B1, B2, B3, C1, C2, C3};
 use cell_refs::{Cell, SheetId, SheetNames};
 use evaluation::{Cells, Part, evaluate};
 use formula_parser::parse;
@@ -29,66 +30,6 @@ impl Cells for ButB2 {
         Ok(Some(Value::Number(Frac::from_whole(number))))
     }
 }
-
-const A1: Cell = Cell {
-    sheet: SheetId(0),
-    row: 0,
-    col: 0,
-};
-
-const B1: Cell = Cell {
-    sheet: SheetId(0),
-    row: 0,
-    col: 1,
-};
-
-const C1: Cell = Cell {
-    sheet: SheetId(0),
-    row: 0,
-    col: 2,
-};
-
-const A2: Cell = Cell {
-    sheet: SheetId(0),
-    row: 1,
-    col: 0,
-};
-
-const B2: Cell = Cell {
-    sheet: SheetId(0),
-    row: 1,
-    col: 1,
-};
-
-const C2: Cell = Cell {
-    sheet: SheetId(0),
-    row: 1,
-    col: 2,
-};
-
-const A3: Cell = Cell {
-    sheet: SheetId(0),
-    row: 2,
-    col: 0,
-};
-
-const B3: Cell = Cell {
-    sheet: SheetId(0),
-    row: 2,
-    col: 1,
-};
-
-const C3: Cell = Cell {
-    sheet: SheetId(0),
-    row: 2,
-    col: 2,
-};
-
-const A4: Cell = Cell {
-    sheet: SheetId(0),
-    row: 3,
-    col: 0,
-};
 
 // The part that a formula is.
 fn part(alloc: Global, text: &str) -> Result<Part, Fail> {

@@ -1,64 +1,11 @@
 // Circular cells and orders of small workbooks. What is expected follows from the rules by hand.
 
 use crate::books::open_workbook;
+use crate::cells::{A1, A2, B1, B2, B3, C1, C2, D1, E1};
 use cell_refs::{Cell, SheetId};
 use dep_table::{CellSet, Deps, Tour};
 use std::alloc::Global;
 use std::test::Fail;
-
-const A1: Cell = Cell {
-    sheet: SheetId(0),
-    row: 0,
-    col: 0,
-};
-
-const B1: Cell = Cell {
-    sheet: SheetId(0),
-    row: 0,
-    col: 1,
-};
-
-const C1: Cell = Cell {
-    sheet: SheetId(0),
-    row: 0,
-    col: 2,
-};
-
-const D1: Cell = Cell {
-    sheet: SheetId(0),
-    row: 0,
-    col: 3,
-};
-
-const E1: Cell = Cell {
-    sheet: SheetId(0),
-    row: 0,
-    col: 4,
-};
-
-const A2: Cell = Cell {
-    sheet: SheetId(0),
-    row: 1,
-    col: 0,
-};
-
-const B2: Cell = Cell {
-    sheet: SheetId(0),
-    row: 1,
-    col: 1,
-};
-
-const C2: Cell = Cell {
-    sheet: SheetId(0),
-    row: 1,
-    col: 2,
-};
-
-const B3: Cell = Cell {
-    sheet: SheetId(0),
-    row: 2,
-    col: 1,
-};
 
 const OTHER_A1: Cell = Cell {
     sheet: SheetId(1),

@@ -1,54 +1,11 @@
 // What is saved of sheets and of names.
-ghost use Rattle.std.specs.Prelude.{◌≡◌, ◌≢◌, ◌≤◌, ◌<◌, [], All, IfOk, length};
-ghost use Rattle.cell_refs.specs.declared.limits.TheConstants.{FILE_BYTES};
-ghost use Rattle.workbook.specs.Files.{SheetFile};
 
+use crate::books::open_workbook;
 use cell_refs::SheetId;
 use saved_sheets::{names_file, sheet_rows};
 use sheet_csv::Rows;
 use std::alloc::Global;
 use std::test::Fail;
-use workbook::{File, Workbook};
-
-// The file of a sheet.
-fn file(alloc: Global, stem: &str, bytes: &[u8]) -> Result<File, Fail>
-    ensures stem { IfOk result (λ f. f.stem ≢ []) }
-    ensures size { IfOk result (λ f. length f.bytes ≤ FILE_BYTES) }
-{
-    if stem.is_empty() || bytes.len() > 10000 {
-        return Err(Fail::new("it is no file of a sheet"));
-    }
-    Ok(File::new(String::from_str(alloc, stem)?, bytes.to_vec(alloc)?))
-}
-
-// The files of the sheets `plan` and `other`.
-fn files(alloc: Global, plan: &[u8], other: &[u8]) -> Result<Vec<File>, Fail>
-    ensures count { IfOk result (λ v. length v.items ≡ 2) }
-    ensures stems { IfOk result (λ v. All (λ (f : SheetFile). f.stem ≢ []) v.items) }
-    ensures sizes { IfOk result (λ v. All (λ (f : SheetFile). length f.bytes ≤ FILE_BYTES) v.items) }
-{
-    let mut files = Vec::new(alloc);
-    files.push(file(alloc, "plan", plan)?)?;
-    files.push(file(alloc, "other", other)?)?;
-    Ok(files)
-}
-
-// A workbook of two sheets with these names.
-pub(crate) fn open_workbook(
-    alloc: Global,
-    plan: &[u8],
-    other: &[u8],
-    names: &[u8],
-) -> Result<Workbook, Fail> {
-    if names.len() > 10000 {
-        return Err(Fail::new("the names are a long text"));
-    }
-    let files = files(alloc, plan, other)?;
-    match Workbook::open(alloc, &files, names) {
-        Ok(workbook) => Ok(workbook),
-        Err(_) => Err(Fail::new("it is not opened")),
-    }
-}
 
 // The fields of each record, with a bar behind each, and a slash behind each record.
 fn rows_text(alloc: Global, rows: &Rows) -> Result<String, Fail> {

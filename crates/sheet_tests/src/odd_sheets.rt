@@ -1,7 +1,7 @@
 // Sheets of odd texts, saved and read back. They come of 40 texts (quotes, commas, line ends, byte order marks, blanks) put by chance
 // into 1 to 5 rows of 1 to 4 fields, spelled with needless quotes, three kinds of line ends and blank lines; what is saved follows from
 // the rules of saved files.
-use crate::saved_files::open_workbook;
+use crate::books::open_workbook;
 use cell_refs::SheetId;
 use saved_sheets::sheet_file;
 use std::alloc::Global;
