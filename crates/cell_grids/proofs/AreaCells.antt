@@ -1,17 +1,9 @@
 -- The cells of areas.
-use Rattle.std.proofs.Common.{◌≡◌, ◌<◌, ◌+◌, ◌*◌, ◌++◌, ℕ, List, [], ◌∷◌, length, map, flat_map, sym, ap, ◌∙◌, append_assoc, length-append, arith}
-use Rattle.std.specs.List.{range_with_len}
-use Rattle.std.proofs.lemmas.List.FromFn.{length-map-range_with_len, map-range_with_len_more}
+use Rattle.std.proofs.Common.{◌≡◌, ◌<◌, ◌+◌, ◌*◌, ◌++◌, ℕ, List, [], ◌∷◌, length, flat_map, sym, ap, ◌∙◌, length-append, arith}
+use Rattle.std.proofs.lemmas.List.FromFn.{length-map-range_with_len}
 use Rattle.cell_refs.specs.declared.cell.Cell.{Cell}
 use Rattle.cell_refs.specs.Areas.{Area, area_height, area_len, area_width, cell_at, cells_of}
 use Rattle.cell_grids.specs.Full.{IsFullGrid}
-
--- one cell more of an area
-pub one_more : (a : Area) (old now more : List Cell) (place : ℕ) → now ≡ old ++ map (cell_at a) (range_with_len 0 place) → more ≡ now ++ cell_at a place ∷ []
-    → more ≡ old ++ map (cell_at a) (range_with_len 0 (place + 1))
-one_more a old now more place e f =
-    f ∙ ap (λ cells. cells ++ cell_at a place ∷ []) e ∙ append_assoc old (map (cell_at a) (range_with_len 0 place)) (cell_at a place ∷ [])
-    ∙ ap (λ cells. old ++ cells) (sym (map-range_with_len_more (cell_at a) 0 place place (omega arith)))
 
 -- how many cells an area has
 count : (a : Area) → length (cells_of a) ≡ area_len a

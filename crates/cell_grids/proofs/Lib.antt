@@ -1,2 +1,3 @@
 pub mod AreaCells
 pub mod LookRows
+pub mod AreaRows
