@@ -39,11 +39,15 @@ first_rows a i (suc n) less =
     further m n = omega arith
 
 -- one row more
+pub one_row_more : (a : Area) (i : ℕ) → map (cell_at a) (range_with_len 0 (i * area_width a)) ++ row_cells a (a.top + i) ≡ map (cell_at a) (range_with_len 0 ((i + 1) * area_width a))
+one_row_more a i = first_rows a i (area_width a) (omega arith) ∙ ap (λ m. map (cell_at a) (range_with_len 0 m)) (next i (area_width a))
+  where
+    next : (i w : ℕ) → i * w + w ≡ (i + 1) * w
+    next i w = omega arith
+
+-- behind what was there
 pub one_row : (a : Area) (i row : ℕ) (old now more : List Cell) → a.top + i ≡ row → now ≡ old ++ map (cell_at a) (range_with_len 0 (i * area_width a))
     → more ≡ now ++ row_cells a row → more ≡ old ++ map (cell_at a) (range_with_len 0 ((i + 1) * area_width a))
 one_row a i row old now more at e f =
     f ∙ (λ j. e j ++ row_cells a (sym at j)) ∙ append_assoc old (map (cell_at a) (range_with_len 0 (i * area_width a))) (row_cells a (a.top + i))
-    ∙ ap (λ cells. old ++ cells) (first_rows a i (area_width a) (omega arith) ∙ ap (λ m. map (cell_at a) (range_with_len 0 m)) (next i (area_width a)))
-  where
-    next : (i w : ℕ) → i * w + w ≡ (i + 1) * w
-    next i w = omega arith
+    ∙ ap (λ cells. old ++ cells) (one_row_more a i)

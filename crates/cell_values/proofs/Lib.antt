@@ -8,3 +8,4 @@ pub mod Grown
 pub mod Tables
 pub mod Gathered
 pub mod Filled
+pub mod AreaValues

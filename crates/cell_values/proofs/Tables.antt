@@ -1,15 +1,24 @@
 -- What is put into a table of values.
-use Rattle.std.proofs.Common.{◌≡◌, ◌<◌, ◌+◌, ℕ, Bool, true, false, cond, [], ◌∷◌, ◌++◌, get_or, length, ap, ◌∙◌, arith}
+use Rattle.std.proofs.Common.{sym, List, ◌≡◌, ◌<◌, ◌+◌, ℕ, Bool, true, false, cond, [], ◌∷◌, ◌++◌, get_or, length, ap, ◌∙◌, arith}
 use Rattle.std.specs.BTreeMap.{is_at}
 use Rattle.std.proofs.lemmas.List.{get_or_append_left, length-append}
 use Rattle.std.proofs.Math.Seq.{get_or-append_seam}
 use Rattle.cell_refs.specs.declared.cell.Cell.{Cell}
+use Rattle.cell_refs.specs.declared.cell.SheetId.{SheetId}
+use Rattle.cell_refs.specs.Areas.{Area}
+use Rattle.cell_grids.specs.AreaRows.{cell_of_row}
 use Rattle.cell_refs.specs.Cells.{cell_cmp}
 use Rattle.cell_values.specs.declared.values.Known.{Known}
 use Rattle.cell_values.specs.declared.values.Known.TheVariants as known
 use Rattle.cell_values.specs.declared.values.Values.{Values}
-use Rattle.cell_values.specs.Places.{place_in}
-use Rattle.cell_values.specs.Values.{IsTable, known_value, value_at}
+use Rattle.cell_values.specs.Places.{place_in, row_in}
+use Rattle.cell_values.specs.Values.{IsTable, known_value, value_at, value_in_list}
+
+-- the value at the place that stands in a row and a column
+pub read_at : (t : Values) (numbers : List ℕ) (place col n row : ℕ) (sheet : SheetId) (a : Area) → place ≡ get_or numbers col 0 → numbers ≡ row_in t.places sheet.0 row → sheet ≡ a.sheet
+    → a.left + n ≡ col → value_in_list t place ≡ value_at t (cell_of_row a row n)
+read_at t numbers place col n row sheet a is there on at =
+    ap (value_in_list t) (is ∙ (λ i. get_or (there i) (sym at i) 0) ∙ ap (λ (s : SheetId). get_or (row_in t.places s.0 row) (a.left + n) 0) on)
 
 module _ (old new : Values) (cell : Cell) (k : Known) (place : ℕ) (table : IsTable old) (at_end : place ≡ length old.known.items)
     (more : new.known.items ≡ old.known.items ++ k ∷ []) (placed : (q : Cell) → place_in new.places q ≡ cond (is_at (cell_cmp cell) q) place (place_in old.places q)) where

@@ -1,5 +1,5 @@
 -- What is known of cells, in one list, with the place of each cell in it.
-use Rattle.std.specs.Prelude.{◌≡◌, ◌<◌, List, Option, Some, None, get_or, length}
+use Rattle.std.specs.Prelude.{◌≡◌, ◌<◌, ℕ, List, Option, Some, None, get_or, length}
 use Rattle.cell_refs.specs.declared.cell.Cell.{Cell}
 use Rattle.sheet_model.specs.declared.value.Value.{Value}
 use Rattle.sheet_model.specs.declared.value.Value.TheVariants.{Empty}
@@ -18,9 +18,13 @@ known_value known.Nothing = None
 known_value (known.Value v) = Some v
 known_value (known.Text t) = Some (value.Text t.now)
 
+-- the value at a place of the list, if it is known
+abbrev pub value_in_list : Values → ℕ → Option Value
+value_in_list t place = known_value (get_or t.known.items place known.Nothing)
+
 -- the value of a cell, if it is known
 abbrev pub value_at : Values → Cell → Option Value
-value_at t q = known_value (get_or t.known.items (place_in t.places q) known.Nothing)
+value_at t q = value_in_list t (place_in t.places q)
 
 -- each cell has a place in the list, and the first place is that of an empty cell
 pub record IsTable (t : Values) : Type 0 where

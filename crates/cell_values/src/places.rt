@@ -1,11 +1,11 @@
 // A number for each cell.
-ghost use Rattle.std.specs.Prelude.{◌≡◌, ◌<◌, ◌==◌, [], OnOk, if◌then◌else◌, get_or, length, ℕ};
+ghost use Rattle.std.specs.Prelude.{◌≡◌, ◌<◌, ◌==◌, [], OnOk, if◌then◌else◌, get_or, length, option_map, unwrap_or, ℕ};
 ghost use Rattle.std.specs.BTreeMap.{is_at};
 ghost use Rattle.cell_refs.specs.declared.cell.Cell.{Cell};
 ghost use Rattle.cell_refs.specs.Cells.{cell_cmp};
-ghost use Rattle.cell_values.specs.Places.{in_rows, place_in};
+ghost use Rattle.cell_values.specs.Places.{in_rows, place_in, row_in};
 
-use cell_refs::Cell;
+use cell_refs::{Cell, SheetId};
 use memory::Memory;
 use std::alloc::Global;
 use std::marker::Model;
@@ -13,7 +13,7 @@ use std::marker::Model;
 /// A number for each cell, found by its sheet, its row and its column: 0 where none was put.
 #[derive(Drop)]
 pub(crate) struct Places {
-    sheets: Vec<Sheet>,
+    sheets: Vec<SheetPlaces>,
 }
 
 impl Model for Places {
@@ -44,6 +44,14 @@ impl Places {
         }
     }
 
+    /// The numbers of a row, where it has some.
+    pub(crate) fn row(&self, sheet: SheetId, row: u16) -> Option<&RowPlaces>
+        ensures { unwrap_or (option_map (λ r. r.now) result) [] ≡ row_in self.now sheet.0 row }
+    {
+        let sheet = self.sheets.get(sheet.0 as usize)?;
+        sheet.rows.get(row as usize)
+    }
+
     /// Puts a cell's number in place of what it had.
     pub(crate) fn put(&mut self, cell: Cell, place: u32) -> Result<(), Memory>
         ensures { OnOk result ((q : Cell) → place_in self.new q
@@ -52,7 +60,7 @@ impl Places {
         let alloc = *self.sheets.allocator();
         let number = cell.sheet.0 as usize;
         for _ in self.sheets.len()..number + 1 {
-            self.sheets.push(Sheet::new(alloc))?;
+            self.sheets.push(SheetPlaces::new(alloc))?;
         }
         self.sheets[number].put(cell.row, cell.col, place)
     }
@@ -60,11 +68,11 @@ impl Places {
 
 // The same of the cells of one sheet.
 #[derive(Drop)]
-struct Sheet {
-    rows: Vec<Row>,
+struct SheetPlaces {
+    rows: Vec<RowPlaces>,
 }
 
-impl Model for Sheet {
+impl Model for SheetPlaces {
     ghost use Rattle.std.specs.Prelude.{List, ℕ};
 
     ghost Value = { List (List ℕ) };
@@ -72,11 +80,11 @@ impl Model for Sheet {
     ghost view = { λ s. s.rows.items };
 }
 
-impl Sheet {
-    fn new(alloc: Global) -> Sheet
+impl SheetPlaces {
+    fn new(alloc: Global) -> SheetPlaces
         ensures { result ≡ [] }
     {
-        Sheet {
+        SheetPlaces {
             rows: Vec::new(alloc),
         }
     }
@@ -97,19 +105,19 @@ impl Sheet {
         let alloc = *self.rows.allocator();
         let number = row as usize;
         for _ in self.rows.len()..number + 1 {
-            self.rows.push(Row::new(alloc))?;
+            self.rows.push(RowPlaces::new(alloc))?;
         }
         self.rows[number].put(col, place)
     }
 }
 
-// The same of the cells of one row.
+/// The same of the cells of one row.
 #[derive(Drop)]
-struct Row {
+pub(crate) struct RowPlaces {
     places: Vec<u32>,
 }
 
-impl Model for Row {
+impl Model for RowPlaces {
     ghost use Rattle.std.specs.Prelude.{List, ℕ};
 
     ghost Value = { List ℕ };
@@ -117,16 +125,17 @@ impl Model for Row {
     ghost view = { λ r. r.places.items };
 }
 
-impl Row {
-    fn new(alloc: Global) -> Row
+impl RowPlaces {
+    fn new(alloc: Global) -> RowPlaces
         ensures { result ≡ [] }
     {
-        Row {
+        RowPlaces {
             places: Vec::new(alloc),
         }
     }
 
-    fn at(&self, col: u16) -> u32
+    /// The number of the cell in a column.
+    pub(crate) fn at(&self, col: u16) -> u32
         ensures { result ≡ get_or self.now col 0 }
     {
         match self.places.get(col as usize) {

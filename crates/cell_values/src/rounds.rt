@@ -1,10 +1,12 @@
 // The values of cells by rounds over all formulas, as their definition says them: a plain program beside the definition.
-ghost use Rattle.std.specs.Prelude.{◌≡◌, IfOk, OnOk, Some, slice_get, true, ℕ};
+ghost use Rattle.std.specs.Prelude.{◌≡◌, IfOk, IfSome, OnOk, Some, length, option_map, slice_get, true, ℕ};
 ghost use Rattle.std.specs.FinSet as set;
+ghost use Rattle.cell_refs.specs.Areas.{cells_of};
 ghost use Rattle.cell_refs.specs.declared.cell.Cell.{Cell};
 ghost use Rattle.cell_refs.specs.declared.error_kind.ErrorKind.TheVariants as kind;
 ghost use Rattle.dep_table.specs.References.{AreReferencesOf};
 ghost use Rattle.recalculation.specs.Entries.{entry, no_overriding, nothing};
+ghost use Rattle.recalculation.specs.Looks.{elements};
 ghost use Rattle.recalculation.specs.Narrow.{known, known_over};
 ghost use Rattle.recalculation.specs.Walks.{is_circular, is_formula};
 ghost use Rattle.cell_values.specs.Rounds.{HasValue, IsRound};
@@ -13,7 +15,7 @@ ghost use Rattle.workbook.specs.Kinds.{book_of};
 
 use crate::rows::{Row, put};
 use crate::seen::Seen;
-use cell_refs::{Cell, ErrorKind};
+use cell_refs::{Area, Cell, ErrorKind};
 use dep_table::{CellSet, Deps};
 use evaluation::{Cells, evaluate};
 use sheet_model::{Memory, Value};
@@ -129,5 +131,18 @@ impl Cells for AllCircular {
         ensures { IfOk result (λ value. value ≡ Some (Error kind.Circular)) }
     {
         Ok(Some(Value::Error(ErrorKind::Circular)))
+    }
+
+    fn values(&self, alloc: Global, area: &Area) -> Result<Option<Vec<Value>>, Memory>
+        ensures values { IfOk result (λ found. option_map (λ values. values.items) found
+            ≡ elements (λ _. Some (Error kind.Circular)) (cells_of area.now)) }
+        ensures count { IfOk result (λ found.
+            IfSome found (λ values. length values.items ≡ length (cells_of area.now))) }
+    {
+        let mut values = Vec::new(alloc);
+        for _ in 0..area.len() {
+            values.push(Value::Error(ErrorKind::Circular))?;
+        }
+        Ok(Some(values))
     }
 }

@@ -1,11 +1,13 @@
 // The values that are known from rows.
-ghost use Rattle.std.specs.Prelude.{◌≡◌, IfOk};
+ghost use Rattle.std.specs.Prelude.{◌≡◌, IfOk, IfSome, length, option_map};
+ghost use Rattle.cell_refs.specs.Areas.{cells_of};
+ghost use Rattle.recalculation.specs.Looks.{elements};
 ghost use Rattle.cell_values.specs.Rows.{seen_in};
 ghost use Rattle.workbook.specs.Kinds.{book_of};
 
 use crate::gather::known_of;
 use crate::rows::Row;
-use cell_refs::Cell;
+use cell_refs::{Area, Cell};
 use evaluation::Cells;
 use sheet_model::{Memory, Value};
 use std::alloc::Global;
@@ -27,5 +29,23 @@ impl Cells for Seen<'_> {
             ≡ seen_in (book_of self.now.book.now) self.now.rows.now.entries cell) }
     {
         known_of(alloc, self.book, self.rows, cell)?.into_value(alloc)
+    }
+
+    fn values(&self, alloc: Global, area: &Area) -> Result<Option<Vec<Value>>, Memory>
+        ensures values { IfOk result (λ found. option_map (λ values. values.items) found
+            ≡ elements
+            (seen_in (book_of self.now.book.now) self.now.rows.now.entries) (cells_of area.now)) }
+        ensures count { IfOk result (λ found.
+            IfSome found (λ values. length values.items ≡ length (cells_of area.now))) }
+    {
+        let mut values = Vec::new(alloc);
+        for place in 0..area.len() {
+            let known = known_of(alloc, self.book, self.rows, area.at(place))?;
+            let Some(value) = known.into_value(alloc)? else {
+                return Ok(None);
+            };
+            values.push(value)?;
+        }
+        Ok(Some(values))
     }
 }

@@ -1,14 +1,17 @@
 // The values of cells, each found at once.
-ghost use Rattle.std.specs.Prelude.{◌≡◌, IfOk, OnOk, Some, if◌then◌else◌, is_some};
+ghost use Rattle.std.specs.Prelude.{◌≡◌, ◌++◌, ◌∷◌, [], IfOk, IfSome, OnOk, Some, get_or, if◌then◌else◌, is_some, length, map, option_map, true, unwrap_or};
 ghost use Rattle.std.specs.BTreeMap.{is_at};
 ghost use Rattle.cell_refs.specs.declared.cell.Cell.{Cell};
 ghost use Rattle.cell_refs.specs.Cells.{cell_cmp};
-ghost use Rattle.recalculation.specs.Looking.{are_known};
+ghost use Rattle.cell_refs.specs.Areas.{cells_of};
+ghost use Rattle.cell_grids.specs.AreaRows.{row_cells};
+ghost use Rattle.recalculation.specs.Looking.{are_known, known_or_empty, or_empty};
+ghost use Rattle.recalculation.specs.Looks.{elements};
 ghost use Rattle.sheet_model.specs.declared.value.Value.TheVariants.{Empty};
-ghost use Rattle.cell_values.specs.Values.{IsTable, known_value, value_at};
+ghost use Rattle.cell_values.specs.Values.{IsTable, known_value, value_at, value_in_list};
 
-use crate::places::Places;
-use cell_refs::Cell;
+use crate::places::{Places, RowPlaces};
+use cell_refs::{Area, Cell};
 use evaluation::Cells;
 use sheet_model::{Memory, Text, Value};
 use std::alloc::Global;
@@ -79,6 +82,44 @@ impl<'a> Values<'a> {
         cells.iter().all(|cell| self.is_known(*cell))
     }
 
+    // Puts the values of a row of an area behind others, if all are known.
+    fn push_row(
+        &self,
+        alloc: Global,
+        area: &Area,
+        row: u16,
+        to: &mut Vec<Value>,
+    ) -> Result<bool, Memory>
+        ensures known { IfOk result
+            (λ known. known ≡ are_known (value_at self.now) (row_cells area.now row)) }
+        ensures values { IfOk result (λ known. known ≡ true → to.new.items
+            ≡ to.old.items ++ map (known_or_empty (value_at self.now)) (row_cells area.now row)) }
+    {
+        let places = self.places.row(area.sheet(), row);
+        for col in area.left()..area.right() + 1 {
+            if !self.push_known(alloc, place_in_row(places, col), to)? {
+                return Ok(false);
+            }
+        }
+        Ok(true)
+    }
+
+    // Puts the value at a place of the list behind others, if there is one.
+    fn push_known(&self, alloc: Global, place: u32, to: &mut Vec<Value>) -> Result<bool, Memory>
+        ensures known { IfOk result (λ known. known ≡ is_some (value_in_list self.now place)) }
+        ensures value { IfOk result (λ known. known ≡ true
+            → to.new.items ≡ to.old.items ++ or_empty (value_in_list self.now place) ∷ []) }
+    {
+        match self.known.get(place as usize) {
+            Some(Known::Value(value)) => to.push(value.copy(alloc)?)?,
+            Some(Known::Text(text)) => {
+                to.push(Value::Text(Text::new(String::from_str(alloc, text)?)))?;
+            }
+            Some(Known::Nothing) | None => return Ok(false),
+        }
+        Ok(true)
+    }
+
     // Whether a cell has a value.
     fn is_known(&self, cell: Cell) -> bool
         ensures { result ≡ is_some (value_at self.now cell) }
@@ -87,6 +128,16 @@ impl<'a> Values<'a> {
             Some(Known::Nothing) | None => false,
             Some(Known::Value(_)) | Some(Known::Text(_)) => true,
         }
+    }
+}
+
+// The place of the cell in a column, in a row that may have none.
+fn place_in_row(row: Option<&RowPlaces>, col: u16) -> u32
+    ensures { result ≡ get_or (unwrap_or (option_map (λ r. r.now) row.entry) []) col 0 }
+{
+    match row {
+        Some(row) => row.at(col),
+        None => 0,
     }
 }
 
@@ -104,5 +155,21 @@ impl Cells for Values<'_> {
             }
             Some(Known::Nothing) | None => Ok(None),
         }
+    }
+
+    fn values(&self, alloc: Global, area: &Area) -> Result<Option<Vec<Value>>, Memory>
+        ensures values { IfOk result (λ found. option_map (λ values. values.items) found
+            ≡ elements (value_at self.now) (cells_of area.now)) }
+        ensures count { IfOk result (λ found.
+            IfSome found (λ values. length values.items ≡ length (cells_of area.now))) }
+    {
+        let mut values = Vec::new(alloc);
+        values.reserve(area.len() as usize)?;
+        for row in area.top()..area.bottom() + 1 {
+            if !self.push_row(alloc, area, row, &mut values)? {
+                return Ok(None);
+            }
+        }
+        Ok(Some(values))
     }
 }

@@ -43,7 +43,7 @@ pub(crate) fn reference_part<C: Cells>(
     ensures { IfOk result (λ part. part ≡ referred (C.known cells.now) (grid_of_areas areas.now)) }
 {
     let reference = Reference::of_areas(alloc, areas)?;
-    let outcome = known_grid(alloc, cells, &reference)?;
+    let outcome = known_grid(alloc, cells, areas, &reference)?;
     Ok(Part {
         looks: Vec::from_slice(alloc, reference.cells())?,
         outcome,

@@ -3,14 +3,14 @@ ghost use Rattle.std.specs.Prelude.{◌≡◌, ◌<◌, ◌*◌, IfOk, IfSome, l
 ghost use Rattle.cell_grids.specs.Full.{IsFullGrid};
 ghost use Rattle.recalculation.specs.Looking.{are_known, known_or_empty};
 ghost use Rattle.recalculation.specs.Looks.{elements};
-ghost use Rattle.recalculation.specs.Evaluation.{values_in};
+ghost use Rattle.recalculation.specs.Evaluation.{grid_of_areas, values_in};
 ghost use Rattle.evaluation.specs.Composed.{referred};
 ghost use Rattle.sheet_model.specs.Operators.{single};
 ghost use Rattle.sheet_model.specs.declared.grid.Arg.TheVariants.{Area as Elements};
 
 use crate::cells::Cells;
 use cell_grids::Reference;
-use cell_refs::Cell;
+use cell_refs::{Area, Cell};
 use sheet_model::{Arg, Grid, Memory, Value};
 use std::alloc::Global;
 
@@ -63,16 +63,39 @@ pub(crate) fn filled_values<C: Cells>(
     Ok(values)
 }
 
-/// The values of a reference, where all are known.
+// The values of a reference to some areas, where all are known. Those of one area alone are asked for together.
+fn reference_values<C: Cells>(
+    alloc: Global,
+    cells: &C,
+    areas: &[Area],
+    reference: &Reference,
+) -> Result<Option<Vec<Value>>, Memory>
+    requires { reference.now ≡ grid_of_areas areas.now }
+    ensures values { IfOk result (λ found. option_map (λ values. values.items) found
+        ≡ elements (C.known cells.now) reference.now.cells) }
+    ensures count { IfOk result (λ found.
+        IfSome found (λ values. length values.items ≡ length reference.now.cells)) }
+    ensures full { IsFullGrid reference.now }
+{
+    let all = reference.cells();
+    match areas {
+        [area] => cells.values(alloc, area),
+        _ => values_of(alloc, cells, all),
+    }
+}
+
+/// The values of a reference to some areas, where all are known.
 #[tactic(auto, using(crate::proofs::Elements::elements_are))]
 pub(crate) fn known_grid<C: Cells>(
     alloc: Global,
     cells: &C,
+    areas: &[Area],
     reference: &Reference,
 ) -> Result<Option<Arg>, Memory>
+    requires { reference.now ≡ grid_of_areas areas.now }
     ensures { IfOk result (λ found. found ≡ (referred (C.known cells.now) reference.now).outcome) }
 {
-    let Some(values) = values_of(alloc, cells, reference.cells())? else {
+    let Some(values) = reference_values(alloc, cells, areas, reference)? else {
         return Ok(None);
     };
     Ok(Some(in_grid(reference, values)))

@@ -1,7 +1,7 @@
 use Rattle.std.proofs.Common.{◌∙◌, cond, ap, arith, get_or, refl}
 use Rattle.std.specs.Prelude.{◌==◌}
 use Rattle.cell_values.proofs.Grown.{grown, put_at}
-use Rattle.cell_values.proofs.places.Row.put.Goals as goal
+use Rattle.cell_values.proofs.places.RowPlaces.put.Goals as goal
 
 pub loop-init : goal.loop-init
 loop-init c = (omega (arith, c.len-counter.ensures), λ n. refl)

@@ -1,7 +1,7 @@
 use Rattle.std.proofs.Common.{◌∷◌, ◌++◌, ◌≡◌, ◌<◌, ◌∙◌, [], cond, ap, arith, get_or, length, refl, ℕ}
 use Rattle.std.specs.Prelude.{◌==◌}
 use Rattle.cell_values.proofs.Grown.{default_unseen, grown, on_ok, row_put}
-use Rattle.cell_values.proofs.places.Sheet.put.Goals as goal
+use Rattle.cell_values.proofs.places.SheetPlaces.put.Goals as goal
 
 pub loop-init : goal.loop-init
 loop-init c = (omega (arith, c.len-counter.ensures), λ n. refl)
