@@ -1,12 +1,10 @@
 // What formulas look at, and whether they have a value, over cells of which one is unknown. The cell in a row and a column, each
 // from 1, has ten times the row and the column as its value: A1 is 11 and C2 is 23. What is expected follows from the rules by hand.
-ghost use Rattle.std.specs.Prelude.{◌≡◌, ◌+◌, ◌*◌, ◌==◌, ◌&&◌, ◌<◌, IfOk, None, Some, if◌then◌else◌, length, pos};
-ghost use Rattle.cell_refs.specs.declared.cell.Cell.{Cell};
-ghost use Rattle.fractions.specs.Whole.{whole_ℚ};
-ghost use Rattle.sheet_model.specs.declared.value.Value.TheVariants.{Number};
+ghost use Rattle.std.specs.Prelude.{◌≡◌};
+ghost use Rattle.sheet_tests.specs.ButB2.{but_b2};
 
 use crate::cells::{A1, A2, A3, A4, B1, B2, B3, C1, C2, C3};
-use cell_refs::{Cell, SheetId, SheetNames};
+use cell_refs::{Area, Cell, SheetId, SheetNames};
 use evaluation::{Cells, Part, evaluate};
 use formula_parser::parse;
 use frac128::Frac;
@@ -19,16 +17,33 @@ use std::test::Fail;
 struct ButB2;
 
 impl Cells for ButB2 {
-    ghost known = { λ _ (a : Cell). if (a.row == 1) && (a.col == 1) then None
-        else Some (Number (whole_ℚ (pos (10 * (a.row + 1) + (a.col + 1))))) };
+    ghost known = { λ _. but_b2 };
 
     fn value(&self, _alloc: Global, cell: Cell) -> Result<Option<Value>, Memory> {
-        if cell.row == 1 && cell.col == 1 {
-            return Ok(None);
-        }
-        let number = 10 * (cell.row as i64 + 1) + (cell.col as i64 + 1);
-        Ok(Some(Value::Number(Frac::from_whole(number))))
+        Ok(but_b2(cell))
     }
+
+    fn values(&self, alloc: Global, area: &Area) -> Result<Option<Vec<Value>>, Memory> {
+        let mut values = Vec::new(alloc);
+        for place in 0..area.len() {
+            let Some(value) = but_b2(area.at(place)) else {
+                return Ok(None);
+            };
+            values.push(value)?;
+        }
+        Ok(Some(values))
+    }
+}
+
+// The value of a cell.
+fn but_b2(cell: Cell) -> Option<Value>
+    ensures { result ≡ but_b2 cell }
+{
+    if cell.row == 1 && cell.col == 1 {
+        return None;
+    }
+    let number = 10 * (cell.row as i64 + 1) + (cell.col as i64 + 1);
+    Some(Value::Number(Frac::from_whole(number)))
 }
 
 // The part that a formula is.
