@@ -16,7 +16,7 @@ choices_hold = (refl, (refl, (refl, (refl, (refl, (refl, (refl, (refl, (refl, (r
 
 pub functions_hold : Hold functions
 unfolding computed eq_ℚ is_narrow is_narrow_sum floor_ℚ power_ℚ
-functions_hold = (refl, (refl, (refl, (refl, (refl, (refl, (refl, (refl, (refl, (refl, (refl, (refl, (refl, (refl, (refl, (refl, (refl, (refl, (refl, (refl, (refl, (refl, (refl, (refl, (refl, (refl, (refl, (refl, (refl, (refl, (refl, (refl, (refl, (refl, (refl, (refl, (refl, (refl, (refl, (refl, (refl, (refl, (refl, (refl, (refl, (refl, (refl, (refl, (refl, (refl, (refl, (refl, (refl, (refl, (refl, (refl, (refl, (refl, (refl, (refl, (refl, (refl, (refl, (refl, (refl, (refl, (refl, (refl, (refl, tt)))))))))))))))))))))))))))))))))))))))))))))))))))))))))))))))))))))
+functions_hold = (refl, (refl, (refl, (refl, (refl, (refl, (refl, (refl, (refl, (refl, (refl, (refl, (refl, (refl, (refl, (refl, (refl, (refl, (refl, (refl, (refl, (refl, (refl, (refl, (refl, (refl, (refl, (refl, (refl, (refl, (refl, (refl, (refl, (refl, (refl, (refl, (refl, (refl, (refl, (refl, (refl, (refl, (refl, (refl, (refl, (refl, (refl, (refl, (refl, (refl, (refl, (refl, (refl, (refl, (refl, (refl, (refl, (refl, (refl, (refl, (refl, (refl, (refl, (refl, (refl, (refl, (refl, (refl, (refl, (refl, (refl, (refl, (refl, (refl, (refl, (refl, tt))))))))))))))))))))))))))))))))))))))))))))))))))))))))))))))))))))))))))))
 
 pub picks_hold : Hold picks
 unfolding computed eq_ℚ is_narrow is_narrow_sum floor_ℚ power_ℚ
@@ -24,7 +24,7 @@ picks_hold = (refl, (refl, (refl, (refl, (refl, (refl, (refl, (refl, tt))))))))
 
 pub records_hold : Hold records
 unfolding computed eq_ℚ is_narrow is_narrow_sum floor_ℚ power_ℚ
-records_hold = (refl, (refl, (refl, (refl, (refl, (refl, (refl, (refl, (refl, (refl, (refl, (refl, (refl, tt)))))))))))))
+records_hold = (refl, (refl, (refl, (refl, (refl, (refl, (refl, (refl, (refl, (refl, (refl, (refl, (refl, (refl, (refl, (refl, (refl, tt)))))))))))))))))
 
 pub choose_hold : Hold choose
 unfolding computed eq_ℚ is_narrow is_narrow_sum floor_ℚ power_ℚ

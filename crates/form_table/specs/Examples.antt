@@ -384,6 +384,20 @@ functions =
     (form_called func.Match (x ∷ column (one_is ∷ one_is ∷ []) ∷ t ∷ []), open_at 2) ∷
     -- MATCH(x;{1;1};#N/A)
     (form_called func.Match (x ∷ column (one_is ∷ one_is ∷ []) ∷ fails kind.NotAvailable ∷ []), is (fails kind.NotAvailable)) ∷
+    -- MATCH(0;{1;x};1)
+    (form_called func.Match (number zero_ℚ ∷ column (one_is ∷ x_is ∷ []) ∷ (number (whole_ℚ (pos 1))) ∷ []), is (fails kind.NotAvailable)) ∷
+    -- MATCH(0;{x;1};1)
+    (form_called func.Match (number zero_ℚ ∷ column (x_is ∷ one_is ∷ []) ∷ (number (whole_ℚ (pos 1))) ∷ []), open_at 1) ∷
+    -- MATCH(1;{1;2;x};1)
+    (form_called func.Match (number one_ℚ ∷ column (one_is ∷ two_is ∷ x_is ∷ []) ∷ (number (whole_ℚ (pos 1))) ∷ []), open_at 1) ∷
+    -- MATCH(2;{;1;x};-1)
+    (form_called func.Match (number (whole_ℚ (pos 2)) ∷ column (Known Empty ∷ one_is ∷ x_is ∷ []) ∷ (number (whole_ℚ (negsuc 0))) ∷ []), is (fails kind.NotAvailable)) ∷
+    -- MATCH(0;{1;x};-1)
+    (form_called func.Match (number zero_ℚ ∷ column (one_is ∷ x_is ∷ []) ∷ (number (whole_ℚ (negsuc 0))) ∷ []), open_at 1) ∷
+    -- MATCH(0;{1;x};0)
+    (form_called func.Match (number zero_ℚ ∷ column (one_is ∷ x_is ∷ []) ∷ (number (whole_ℚ (pos 0))) ∷ []), open_at 1) ∷
+    -- MATCH(0;{1;x};y)
+    (form_called func.Match (number zero_ℚ ∷ column (one_is ∷ x_is ∷ []) ∷ y ∷ []), open_at 1) ∷
     -- ROWS({x;1})
     (form_called func.Rows (column (x_is ∷ one_is ∷ []) ∷ []), is (number (whole_ℚ (pos 2)))) ∷
     -- COLUMNS({x;1})
@@ -438,6 +452,14 @@ records =
     (record_form 1 (one_is ∷ two_is ∷ []) (x_is) (number_of (t)) (kinds_in ([])), Some (Err (Undecided 2))) ∷
     -- VLOOKUP(x;{1;2};y)
     (record_form 1 (one_is ∷ two_is ∷ []) (x_is) (number_of (y)) (kinds_in ([])), Some (Err (Undecided 0))) ∷
+    -- VLOOKUP(0;{1;x};1)
+    (record_form 1 (one_is ∷ x_is ∷ []) (Known (Number zero_ℚ)) (number_of ((number (whole_ℚ (pos 1))))) (kinds_in ([])), Some (Ok (Err kind.NotAvailable))) ∷
+    -- VLOOKUP(1;{1;2;x};1)
+    (record_form 1 (one_is ∷ two_is ∷ x_is ∷ []) (one_is) (number_of ((number (whole_ℚ (pos 1))))) (kinds_in ([])), Some (Err (Undecided 1))) ∷
+    -- VLOOKUP(0;{1;x};1;FALSE)
+    (record_form 1 (one_is ∷ x_is ∷ []) (Known (Number zero_ℚ)) (number_of ((number (whole_ℚ (pos 1))))) (kinds_in (logical false ∷ [])), Some (Err (Undecided 1))) ∷
+    -- VLOOKUP(0;{1;x};1;y)
+    (record_form 1 (one_is ∷ x_is ∷ []) (Known (Number zero_ℚ)) (number_of ((number (whole_ℚ (pos 1))))) (kinds_in (y ∷ [])), Some (Err (Undecided 1))) ∷
     -- VLOOKUP(#N/A;{1;2};0)
     (record_form 1 (one_is ∷ two_is ∷ []) (Known (Error kind.NotAvailable)) (number_of ((number (whole_ℚ (pos 0))))) (kinds_in ([])), Some (Ok (Err kind.NotAvailable))) ∷
     []

@@ -1,5 +1,6 @@
 -- MATCH, VLOOKUP and HLOOKUP (OpenDocument 1.2 part 2, sections 6.14.9, 6.14.12 and 6.14.5) with open arguments: which place they
--- find. The keys, the key and what else decides has to be known; what is certain without an open one is the result all the same.
+-- find. The keys, the key and what else decides has to be known; what is certain without an open one is the result all the same: a key
+-- that is certainly found nowhere, as among sorted keys where one beyond it ends the search before the first open one, is an error.
 use Rattle.std.specs.Prelude.{ℕ, ◌-◌, Bool, true, false, not, ◌&&◌, ◌||◌, ◌==◌, if◌then◌else◌, List, [], ◌∷◌, map, ℤ, pos, negsuc, int_le, Option, Some, None, is_none, Result, Ok, Err}
 use Rattle.std.specs.List.{list_all, list_any}
 use Rattle.fractions.specs.Rational.{ℚ}
@@ -10,11 +11,11 @@ use Rattle.cell_refs.specs.declared.error_kind.ErrorKind.TheVariants as kind
 use Rattle.sheet_model.specs.Conversions.{logical_in}
 use Rattle.sheet_model.specs.declared.value.Value.{Value}
 use Rattle.sheet_model.specs.declared.value.Value.TheVariants.{Error}
-use Rattle.sheet_funcs.specs.Lookups.{is_key, found, kind_of, place_value}
+use Rattle.sheet_funcs.specs.Lookups.{is_key, is_greater_than, is_less_than, found, kind_of, place_value}
 use Rattle.sheet_funcs.specs.declared.pick.Pick.{Pick}
 use Rattle.sheet_funcs.specs.declared.pick.Pick.TheVariants.{Part, Fault}
 use Rattle.sheet_funcs.specs.declared.lookups.MatchKind.{MatchKind}
-use Rattle.sheet_funcs.specs.declared.lookups.MatchKind.TheVariants.{Equal, Rising}
+use Rattle.sheet_funcs.specs.declared.lookups.MatchKind.TheVariants.{Equal, Rising, Falling}
 use Rattle.affine_forms.specs.Forms.{constant_form}
 use Rattle.form_values.specs.Grids.{Raster}
 use Rattle.form_values.specs.Trials.{Trial, given, undecided, and_then}
@@ -43,6 +44,22 @@ error_of a = None
 abbrev pub known_keys : List Abs → Option (List Value)
 known_keys items = if list_all is_known items then Some (map value_in items) else None
 
+-- the values of the keys before the first that isn't known
+abbrev pub front : List Abs → List Value
+front [] = []
+front (Known v ∷ items) = v ∷ front items
+front (a ∷ items) = []
+
+-- whether a value beyond the key ends a search among sorted keys; a search for an equal one is ended by none
+abbrev pub ends_within : MatchKind → Value → List Value → Bool
+ends_within Equal key vs = false
+ends_within Rising key vs = list_any (is_greater_than key) vs
+ends_within Falling key vs = list_any (is_less_than key) vs
+
+-- whether no place is found whatever the open keys hold: the search ends before the first of them, if there is any, and finds none
+abbrev pub is_never_found : MatchKind → Value → List Abs → Bool
+is_never_found kind key items = (list_all is_known items || ends_within kind key (front items)) && is_none (found kind key (front items))
+
 -- ---- MATCH
 -- the place in a row or in a column
 abbrev pub pick_in : Raster → Option ℕ → Pick
@@ -60,13 +77,21 @@ by_keys g None keys x = undecided 0
 by_keys g key None x = undecided 1
 by_keys g (Some key) (Some keys) x = by_kind g key keys (known_number x)
 
+-- whether a known key is never found, by a known kind
+abbrev pub has_no_place : Option ℚ → Option Value → List Abs → Bool
+has_no_place (Some x) (Some key) items = is_never_found (kind_of x) key items
+has_no_place _ _ items = false
+
+abbrev pub by_places : Raster → Option Value → Wanted → Trial Pick
+by_places g key x = if has_no_place (known_number x) key g.items then given (Fault kind.NotAvailable) else by_keys g key (known_keys g.items) x
+
 -- errors of the key and of the kind; a grid of several rows and columns, and one without a key, have no place for any key
 abbrev pub lookup_form : Raster → Abs → Wanted → Trial Pick
 lookup_form g (Known (Error k)) x = given (Fault k)
 lookup_form g key (none k) = given (Fault k)
 lookup_form g key x =
     if ((g.rows == 1) || (g.columns == 1)) && list_any may_be_key g.items
-    then by_keys g (known_value key) (known_keys g.items) x
+    then by_places g (known_value key) x
     else given (Fault kind.NotAvailable)
 
 -- of a key and keys as arguments
@@ -105,10 +130,10 @@ from_one (negsuc n) = 0
 abbrev pub field_at : ℕ → ℤ → Result ℕ ErrorKind
 field_at fields n = if int_le n (pos 0) then Err kind.Value else if int_le n (pos fields) then Ok (from_one n) else Err kind.Ref
 
--- whether no kind of search finds the key
-abbrev pub is_missing : Option Value → Option (List Value) → List MatchKind → Bool
-is_missing (Some key) (Some keys) kinds = list_all (λ kind. is_none (found kind key keys)) kinds
-is_missing _ _ kinds = false
+-- whether no kind of search ever finds a known key
+abbrev pub is_missing : Option Value → List Abs → List MatchKind → Bool
+is_missing (Some key) keys kinds = list_all (λ kind. is_never_found kind key keys) kinds
+is_missing None keys kinds = false
 
 -- the record and the field that are found, or an error
 abbrev pub at_record : ℕ → Option ℕ → Result (ℕ × ℕ) ErrorKind
@@ -122,11 +147,11 @@ by_record field key None kinds = undecided 1
 by_record field (Some key) (Some keys) (kind ∷ []) = given (at_record field (found kind key keys))
 by_record field key keys kinds = undecided 3
 
--- a known field that is out of range, and then keys among which there is none for any key or not this one, are certain errors
+-- a known field that is out of range, and then keys among which there is none for any key or never this one, are certain errors
 abbrev pub in_field : Result ℕ ErrorKind → Abs → List Abs → List MatchKind → Trial (Result (ℕ × ℕ) ErrorKind)
 in_field (Err k) key keys kinds = given (Err k)
 in_field (Ok field) key keys kinds =
-    if not (list_any may_be_key keys) || is_missing (known_value key) (known_keys keys) kinds
+    if not (list_any may_be_key keys) || is_missing (known_value key) keys kinds
     then given (Err kind.NotAvailable)
     else by_record field (known_value key) (known_keys keys) kinds
 

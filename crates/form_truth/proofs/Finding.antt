@@ -136,7 +136,7 @@ module _ (key table column : AbsArg) (rest : List AbsArg) (h : IsSound key) (i :
 
   field_refused : (field : Result ℕ ErrorKind) (ks : List MatchKind) → AreKinds ks → IsRefusal (exact (in_field field b keys ks))
   field_refused (Err k) ks a = tt
-  field_refused (Ok field) ks a = by_test (not (list_any may_be_key keys) || is_missing (known_value b) (known_keys keys) ks)
+  field_refused (Ok field) ks a = by_test (not (list_any may_be_key keys) || is_missing (known_value b) keys ks)
     where
       by_test : (c : Bool) → IsRefusal (exact (if c then given (Err kind.NotAvailable) else by_record field (known_value b) (known_keys keys) ks))
       by_test true = tt

@@ -31,6 +31,7 @@ pub mod Matrices
 pub mod SoundRows
 pub mod Varying
 pub mod Counting
+pub mod Ended
 pub mod Matching
 pub mod Elements
 pub mod Knowns

@@ -33,13 +33,14 @@ use Rattle.form_values.specs.declared.abs.AbsArg.{AbsArg}
 use Rattle.form_values.specs.declared.abs.AbsArg.TheVariants.{One, Area}
 use Rattle.form_table.specs.Wanted as wanted
 use Rattle.form_table.specs.Wanted.{Wanted, form, open_test, none, grid_of, number_of, constant_of, known_number}
-use Rattle.form_table.specs.Lookups.{may_be_key, known_value, known_keys, pick_in, by_kind, by_keys, lookup_form, lookup_pick_form, match_pick, match_form}
+use Rattle.form_table.specs.Lookups.{may_be_key, known_value, known_keys, pick_in, by_kind, by_keys, has_no_place, by_places, lookup_form, lookup_pick_form, match_pick, match_form}
 use Rattle.form_values.specs.Meaning.{IsSound}
 use Rattle.form_truth.specs.Picks.{IsPick, FoundIsRight}
 use Rattle.form_truth.proofs.Right.{IsRightArg, ArgumentVaries}
 use Rattle.form_truth.proofs.Exact.{exact-and_then}
 use Rattle.form_truth.proofs.Fitting.{Fits, is_none, is_form, is_open, fits, constant_is, open_is, constant_worth, at_value, at_value_worth, zero_is_not_one}
 use Rattle.form_truth.proofs.Counting.{known_sound}
+use Rattle.form_truth.proofs.Ended.{never_found_right}
 use Rattle.form_truth.proofs.Arguments.{value_at, value_sound, argument_varies}
 use Rattle.form_truth.proofs.Varying.{value_known, argument_open, grid_open, items_known}
 
@@ -170,16 +171,35 @@ module _ (args : List AbsArg) (g : Raster) (number : Assignment → Result ℚ E
         by_constant None e = v e
         by_constant (Some y) e = λ x. with_keys x (worth x f) y (n x) (constant_is f y e x) d key k keys l
 
+    -- the key is found under no assignment
+    never_there : (f : AffineForm) → ((x : Assignment) → number x ≡ Ok (worth x f)) → ((g.rows == 1) || (g.columns == 1)) ≡ true
+        → (o : Option ℚ) → constant_of f ≡ o → (key : Option Value) → known_value b ≡ key → has_no_place o key g.items ≡ true → (x : Assignment) → value x ≡ Fault kind.NotAvailable
+    never_there f n d None c key k h x = absurd (true≢false (sym h))
+    never_there f n d (Some y) c None k h x = absurd (true≢false (sym h))
+    never_there f n d (Some y) c (Some key) k h x =
+        value_is x (worth x f) (n x) ∙ ap (λ l. if l then functions_lookups.pick_in (grid_at x g) (found (kind_of (worth x f)) (abs_at x b) (map (abs_at x) g.items)) else Fault kind.NotAvailable) d
+        ∙ ap₂ (λ q v. functions_lookups.pick_in (grid_at x g) (found (kind_of q) v (map (abs_at x) g.items))) (constant_is f y c x) (value_known b key k x)
+        ∙ ap (functions_lookups.pick_in (grid_at x g)) (never_found_right x (kind_of y) key g.items h)
+
+    places_right : (f : AffineForm) → ((x : Assignment) → number x ≡ Ok (worth x f)) → (constant_of f ≡ None → ArgumentVaries arg_at args 2) → ((g.rows == 1) || (g.columns == 1)) ≡ true
+        → IsPick value args (exact (by_places g (known_value b) (form f)))
+    places_right f n v d = by_place (has_no_place (constant_of f) (known_value b) g.items) refl
+      where
+        by_place : (c : Bool) → has_no_place (constant_of f) (known_value b) g.items ≡ c
+            → IsPick value args (exact (if c then given (Fault kind.NotAvailable) else by_keys g (known_value b) (known_keys g.items) (form f)))
+        by_place true e = never_there f n d (constant_of f) refl (known_value b) refl e
+        by_place false e = form_right f n v d (known_value b) refl (known_keys g.items) refl
+
     by_test : (w : Wanted) → Asked (ArgumentVaries arg_at args 2) number w → ((k : ErrorKind) → w ≡ none k → ⊥) → (c : Bool) → (((g.rows == 1) || (g.columns == 1)) && list_any may_be_key g.items) ≡ c
-        → IsPick value args (exact (if c then by_keys g (known_value b) (known_keys g.items) w else given (Fault kind.NotAvailable)))
+        → IsPick value args (exact (if c then by_places g (known_value b) w else given (Fault kind.NotAvailable)))
     by_test (none k) a n c h = absurd (n k refl)
     by_test (form f) (asks_form g' d v) n false h = λ x. without_keys x (worth x g') (d x) ((g.rows == 1) || (g.columns == 1)) refl h
-    by_test (form f) (asks_form g' d v) n true h = form_right g' d v (in_line _ _ h) (known_value b) refl (known_keys g.items) refl
+    by_test (form f) (asks_form g' d v) n true h = places_right g' d v (in_line _ _ h)
     by_test open_test (asks_test d v) n false h = λ x. without_keys x (d x).0 (d x).1 ((g.rows == 1) || (g.columns == 1)) refl h
     by_test open_test (asks_test d v) n true h = v
 
     abbrev beyond : Wanted → Trial Pick
-    beyond w = if ((g.rows == 1) || (g.columns == 1)) && list_any may_be_key g.items then by_keys g (known_value b) (known_keys g.items) w else given (Fault kind.NotAvailable)
+    beyond w = if ((g.rows == 1) || (g.columns == 1)) && list_any may_be_key g.items then by_places g (known_value b) w else given (Fault kind.NotAvailable)
 
     form_beyond : (f : AffineForm) → Asked (ArgumentVaries arg_at args 2) number (form f) → IsPick value args (exact (beyond (form f)))
     form_beyond f a = by_test (form f) a (λ k e. no_form f k e) (((g.rows == 1) || (g.columns == 1)) && list_any may_be_key g.items) refl

@@ -1,8 +1,9 @@
 -- The record that VLOOKUP finds under an assignment.
-use Rattle.std.specs.Prelude.{◌-◌, ◌||◌, ◌&&◌, not, ℤ, negsuc, int_le, is_none}
+use Rattle.std.specs.Prelude.{◌-◌, ◌||◌, ◌&&◌, not, ℤ, negsuc, int_le}
 use Rattle.std.specs.List.{list_all, list_any}
 use Rattle.std.specs.Result.{result_map_both}
 use Rattle.std.proofs.Common.{◌≡◌, refl, sym, ap, ap₂, ◌∙◌, subst, Bool, true, false, true≢false, if◌then◌else◌, List, [], ◌∷◌, map, Option, Some, None, Result, Ok, Err, ℕ, pos}
+use Rattle.std.proofs.lemmas.Bool.{and_parts}
 use Rattle.fractions.specs.Rational.{ℚ}
 use Rattle.fractions.specs.Floor.{floor_ℚ}
 use Rattle.calculations.specs.Calculation.{exact}
@@ -26,9 +27,10 @@ use Rattle.form_values.specs.declared.abs.Abs.TheVariants.{Known, Affine, Test}
 use Rattle.form_values.specs.declared.abs.AbsArg.{AbsArg}
 use Rattle.form_table.specs.Wanted.{Wanted, form, open_test, none as no_number, known_number, is_known}
 use Rattle.form_table.specs.Wanted as wanted
-use Rattle.form_table.specs.Lookups.{may_be_key, known_value, known_keys, kinds_by, kinds_of, kinds_in, from_one, field_at, is_missing, at_record, by_record, in_field, open_field, by_field, record_form}
+use Rattle.form_table.specs.Lookups.{may_be_key, known_value, known_keys, kinds_by, kinds_of, kinds_in, from_one, field_at, is_never_found, is_missing, at_record, by_record, in_field, open_field, by_field, record_form}
 use Rattle.form_truth.specs.Picks.{read}
 use Rattle.form_truth.proofs.Arguments.{value_at}
+use Rattle.form_truth.proofs.Ended.{never_found_right}
 use Rattle.form_truth.proofs.Fitting.{Fits, is_none as is_error, is_form, is_open, constant_is}
 use Rattle.form_truth.proofs.LookupSteps.{element_or, looked_up}
 use Rattle.form_truth.proofs.Matching.{nothing_found, keys_at}
@@ -100,30 +102,24 @@ module _ (x : Assignment) where
 
   module _ (g : Rectangle) (fields : ℕ) (same : fields ≡ g.columns) (keys : List Abs) (column : column_of g 0 ≡ map (abs_at x) keys) (b : Abs) where
     -- none of some kinds of search finds the key
-    none_of : (key : Value) (vs : List Value) (s : Bool) (kinds : List MatchKind) → Among s kinds → list_all (λ kind. is_none (found kind key vs)) kinds ≡ true → found (kind_by s) key vs ≡ None
-    none_of key vs s kinds alone h = by_found (found (kind_by s) key vs) h
+    none_of : (key : Value) (s : Bool) (kinds : List MatchKind) → Among s kinds → list_all (λ kind. is_never_found kind key keys) kinds ≡ true → found (kind_by s) key (map (abs_at x) keys) ≡ None
+    none_of key s kinds alone h = never_found_right x (kind_by s) key keys (and_parts (is_never_found (kind_by s) key keys) true h).0
+    none_of key s kinds both_kinds h =
+        let p = and_parts (is_never_found Equal key keys) (is_never_found Rising key keys && true) h in
+        by_kind s p.0 (and_parts (is_never_found Rising key keys) true p.1).0
       where
-        by_found : (o : Option ℕ) → (is_none o && true) ≡ true → o ≡ None
-        by_found None h = refl
-        by_found (Some i) h = absurd (true≢false (sym h))
-    none_of key vs s kinds both_kinds h = by_both s (found Equal key vs) refl (found Rising key vs) refl h
-      where
-        by_both : (s : Bool) (o : Option ℕ) → found Equal key vs ≡ o → (p : Option ℕ) → found Rising key vs ≡ p → (is_none o && (is_none p && true)) ≡ true → found (kind_by s) key vs ≡ None
-        by_both true None d None e h = e
-        by_both false None d None e h = d
-        by_both s None d (Some i) e h = absurd (true≢false (sym h))
-        by_both s (Some i) d p e h = absurd (true≢false (sym h))
+        by_kind : (s : Bool) → is_never_found Equal key keys ≡ true → is_never_found Rising key keys ≡ true → found (kind_by s) key (map (abs_at x) keys) ≡ None
+        by_kind true p q = never_found_right x Rising key keys q
+        by_kind false p q = never_found_right x Equal key keys p
 
-    missing : (s : Bool) (kinds : List MatchKind) → Among s kinds → (key : Option Value) → known_value b ≡ key → (vs : Option (List Value)) → known_keys keys ≡ vs → is_missing key vs kinds ≡ true
-        → found (kind_by s) (abs_at x b) (column_of g 0) ≡ None
-    missing s kinds a None e vs d h = absurd (true≢false (sym h))
-    missing s kinds a (Some key) e None d h = absurd (true≢false (sym h))
-    missing s kinds a (Some key) e (Some vs) d h = ap₂ (found (kind_by s)) (value_known b key e x) (column ∙ items_known keys vs d x) ∙ none_of key vs s kinds a h
+    missing : (s : Bool) (kinds : List MatchKind) → Among s kinds → (key : Option Value) → known_value b ≡ key → is_missing key keys kinds ≡ true → found (kind_by s) (abs_at x b) (column_of g 0) ≡ None
+    missing s kinds a None e h = absurd (true≢false (sym h))
+    missing s kinds a (Some key) e h = ap₂ (found (kind_by s)) (value_known b key e x) column ∙ none_of key s kinds a h
 
-    certainly_none : (s : Bool) (kinds : List MatchKind) → Among s kinds → (some : Bool) → list_any may_be_key keys ≡ some → (not some || is_missing (known_value b) (known_keys keys) kinds) ≡ true
+    certainly_none : (s : Bool) (kinds : List MatchKind) → Among s kinds → (some : Bool) → list_any may_be_key keys ≡ some → (not some || is_missing (known_value b) keys kinds) ≡ true
         → found (kind_by s) (abs_at x b) (column_of g 0) ≡ None
     certainly_none s kinds a false e h = ap (found (kind_by s) (abs_at x b)) column ∙ nothing_found (kind_by s) (abs_at x b) (map (abs_at x) keys) (keys_at x keys e)
-    certainly_none s kinds a true e h = missing s kinds a (known_value b) refl (known_keys keys) refl h
+    certainly_none s kinds a true e h = missing s kinds a (known_value b) refl h
 
     -- one kind of search, in a field that there is
     at_found : (n : ℕ) (o : Option ℕ) → element_or g (pos n) o ≡ read g (at_record (n - 1) o)
@@ -138,7 +134,7 @@ module _ (x : Assignment) where
         ap (element_or g (pos n)) (ap₂ (found (kind_by s)) (value_known b key e x) (column ∙ items_known keys vs d x)) ∙ at_found n (found (kind_by s) key vs) ∙ ap (read g) (ok_same _ r h)
     by_record_right n s kinds both_kinds (Some key) e (Some vs) d r h = cc
 
-    by_missing : (n : ℕ) (s : Bool) (kinds : List MatchKind) → Among s kinds → (c : Bool) → (not (list_any may_be_key keys) || is_missing (known_value b) (known_keys keys) kinds) ≡ c
+    by_missing : (n : ℕ) (s : Bool) (kinds : List MatchKind) → Among s kinds → (c : Bool) → (not (list_any may_be_key keys) || is_missing (known_value b) keys kinds) ≡ c
         → (r : Result (ℕ × ℕ) ErrorKind)
         → exact (if c then Rattle.form_values.specs.Trials.given (Err kind.NotAvailable) else by_record (n - 1) (known_value b) (known_keys keys) kinds) ≡ Ok r
         → element_or g (pos n) (found (kind_by s) (abs_at x b) (column_of g 0)) ≡ read g r
@@ -154,7 +150,7 @@ module _ (x : Assignment) where
             → (if p then Error kind.Value else if q then element_or g n (found (kind_by s) (abs_at x b) (column_of g 0)) else Error kind.Ref) ≡ read g r
         by_place n true e q h = ap (read g) (ok_same (Err kind.Value) r h)
         by_place n false e false h = ap (read g) (ok_same (Err kind.Ref) r h)
-        by_place (pos n) false e true h = by_missing n s kinds a (not (list_any may_be_key keys) || is_missing (known_value b) (known_keys keys) kinds) refl r h
+        by_place (pos n) false e true h = by_missing n s kinds a (not (list_any may_be_key keys) || is_missing (known_value b) keys kinds) refl r h
         by_place (negsuc n) false e true h = absurd (true≢false e)
 
     never_open : (w : Wanted) (r : Result (ℕ × ℕ) ErrorKind) → ((k : ErrorKind) → w ≡ no_number k → ⊥) → exact (open_field w b keys) ≡ Ok r → ⊥
