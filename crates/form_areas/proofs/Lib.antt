@@ -11,3 +11,4 @@ pub mod KnownKeys
 pub mod Meeting
 pub mod Sizes
 pub mod SumIfTruth
+pub mod NeverFound

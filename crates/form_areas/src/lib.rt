@@ -11,6 +11,7 @@ mod matrices;
 mod met_places;
 mod products;
 mod records;
+mod searches;
 mod sums;
 mod values;
 

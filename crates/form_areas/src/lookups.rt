@@ -4,7 +4,7 @@ ghost use Rattle.std.specs.List.{list_any};
 ghost use Rattle.form_areas.specs.Truths.{IsTrueLookup};
 ghost use Rattle.form_areas.specs.Undecided.{IsUndecidedOrMemory};
 ghost use Rattle.form_ops.specs.Operands.{wanted_in};
-ghost use Rattle.form_table.specs.Lookups.{by_keys, error_of, known_keys, known_value, lookup_form, lookup_pick_form, may_be_key, pick_in};
+ghost use Rattle.form_table.specs.Lookups.{by_keys, by_places, error_of, has_no_place, known_keys, known_value, lookup_form, lookup_pick_form, may_be_key, pick_in};
 ghost use Rattle.form_table.specs.Wanted.{grid_of, number_of, value_of};
 ghost use Rattle.form_values.specs.Known.{all_known, value_in};
 ghost use Rattle.form_values.specs.Trials.{Answers};
@@ -13,18 +13,20 @@ ghost use Rattle.sheet_funcs.specs.Lookups.{found, kind_of};
 ghost use Rattle.sheet_funcs.specs.Within.{IsWithin};
 
 use crate::grids::{columns_of, rows_of};
+use crate::searches::is_never_found;
 use crate::values::value_or_error;
 use cell_refs::ErrorKind;
 use form_ops::{Operand, known_number, operand_in};
 use form_values::{Abs, AbsArg, OpRefusal};
 use frac128::Frac;
 use memory::Memory;
-use sheet_funcs::Pick;
+use sheet_funcs::{MatchKind, Pick};
 use sheet_model::{Arg, Value};
 use std::alloc::Global;
 
 /// The place of a key in a row or a column, as a part of that grid. The key, the keys and the kind have to be known; but a grid of
-/// several rows and columns, and one of empty elements and errors alone, has no place for any key.
+/// several rows and columns, and one of empty elements and errors alone, has no place for any key, and a known key has none among
+/// sorted keys whose first one is known and beyond it.
 pub fn lookup_at(
     alloc: Global,
     key: &AbsArg,
@@ -56,7 +58,7 @@ fn looked_up(alloc: Global, key: &AbsArg, keys: &AbsArg, kind: &AbsArg) -> Resul
     if !may_find(keys) {
         return Ok(Pick::Fault(ErrorKind::NotAvailable));
     }
-    by_keys(alloc, key, keys, &kind)
+    by_places(alloc, key, keys, &kind)
 }
 
 // Whether some key may be found: there is one row or one column, and an element that may be a key.
@@ -82,6 +84,45 @@ fn may_be_key(item: &Abs) -> bool
 }
 
 // The place of a key where there may be one.
+fn by_places(alloc: Global, key: &Abs, keys: &AbsArg, kind: &Operand) -> Result<Pick, OpRefusal>
+    requires line { (((grid_of keys.now).rows == 1) || ((grid_of keys.now).columns == 1)) ≡ true }
+    requires key { error_of key.now ≡ None }
+    ensures answer { Answers
+        (by_places (grid_of keys.now) (known_value key.now) (wanted_in kind.now)) result }
+    ensures within { IfOk result (IsWithin (grid_of keys.now).rows (grid_of keys.now).columns) }
+    ensures refused { IfErr result IsUndecidedOrMemory }
+{
+    if has_no_place(known_number(kind), key, keys.elements()) {
+        return Ok(Pick::Fault(ErrorKind::NotAvailable));
+    }
+    by_keys(alloc, key, keys, kind)
+}
+
+// Whether a known key is never found, by a known kind.
+fn has_no_place(kind: Option<Frac>, key: &Abs, keys: &[Abs]) -> bool
+    requires { error_of key.now ≡ None }
+    ensures { result ≡ has_no_place kind (known_value key.now) keys.now }
+{
+    match (kind, key) {
+        (Some(number), Abs::Known(key)) => is_never_found(kind_of(number), key, keys),
+        _ => false,
+    }
+}
+
+// The kind of search that a number asks for.
+fn kind_of(number: Frac) -> MatchKind
+    ensures { result ≡ kind_of number }
+{
+    if number.is_zero() {
+        MatchKind::Equal
+    } else if number.is_negative() {
+        MatchKind::Falling
+    } else {
+        MatchKind::Rising
+    }
+}
+
+// The place of a key where it may be found.
 fn by_keys(alloc: Global, key: &Abs, keys: &AbsArg, kind: &Operand) -> Result<Pick, OpRefusal>
     requires line { (((grid_of keys.now).rows == 1) || ((grid_of keys.now).columns == 1)) ≡ true }
     requires key { error_of key.now ≡ None }

@@ -1,22 +1,22 @@
 // What VLOOKUP and HLOOKUP find.
-ghost use Rattle.std.specs.Prelude.{◌≡◌, ◌<◌, ◌^◌, ◌&&◌, IfErr, IfOk, IfSome, None, Ok, is_none, length, map, true};
+ghost use Rattle.std.specs.Prelude.{◌≡◌, ◌<◌, ◌^◌, IfErr, IfOk, IfSome, None, Ok, Some, length, map, true};
 ghost use Rattle.std.specs.List.{list_all, list_any};
 ghost use Rattle.std.specs.Result.{result_map_both};
-ghost use Rattle.form_areas.specs.Kinds.{by_kinds, found_in, kinds_asked};
+ghost use Rattle.form_areas.specs.Kinds.{found_in, kinds_asked};
 ghost use Rattle.form_areas.specs.Truths.{IsTrueAcross, IsTrueDown};
 ghost use Rattle.form_areas.specs.Undecided.{IsUndecidedOrMemory};
 ghost use Rattle.form_ops.specs.Operands.{wanted_in};
-ghost use Rattle.form_table.specs.Lookups.{at_record, error_of, field_at, in_field, kinds_in, kinds_of, may_be_key, open_field, record_form};
+ghost use Rattle.form_table.specs.Lookups.{at_record, by_record, error_of, field_at, in_field, is_missing, kinds_in, kinds_of, may_be_key, open_field, record_form};
 ghost use Rattle.form_table.specs.Wanted.{number_of, value_of};
 ghost use Rattle.form_values.specs.Known.{is_known, value_in};
 ghost use Rattle.form_values.specs.Trials.{Answers, undecided};
 ghost use Rattle.form_values.specs.declared.abs.Abs.TheVariants.{Known};
 ghost use Rattle.sheet_funcs.specs.Arguments.{grid_of, no_error, value_of as value_in_arg};
 ghost use Rattle.sheet_funcs.specs.Lookups.{kind_of};
-ghost use Rattle.sheet_funcs.specs.declared.lookups.MatchKind.TheVariants.{Equal, Rising};
 ghost use Rattle.sheet_model.specs.declared.grid.Arg.TheVariants.{Area};
 
 use crate::lookups::has_key;
+use crate::searches::is_never_found;
 use crate::values::value_or_error;
 use cell_refs::ErrorKind;
 use form_ops::{Operand, known_number, operand_in, value_of};
@@ -32,8 +32,8 @@ pub type Found = Result<(u32, u32), ErrorKind>;
 
 /// The record and the field that a lookup finds: by the key that stands first in its record, by the place of the field, counted from
 /// 1, and by whether the keys are sorted, which they are where nothing is said. A known field out of range comes first; keys among
-/// which none may be the key, or this one isn't, are an error however they are sorted. Of VLOOKUP the records are the rows of its
-/// table, of HLOOKUP the columns. The argument that decides is counted as theirs are: the key is 0, the table with the keys 1.
+/// which none may be the key, or this one is never found, are an error. Of VLOOKUP the records are the rows of its table, of HLOOKUP
+/// the columns. The argument that decides is counted as theirs are: the key is 0, the table with the keys 1.
 pub fn record_at(
     alloc: Global,
     fields: u32,
@@ -171,6 +171,9 @@ fn in_field(
     let Abs::Known(key) = key else {
         return Err(OpRefusal::Undecided(0));
     };
+    if is_missing(kind, key, keys) {
+        return Ok(Err(ErrorKind::NotAvailable));
+    }
     if !are_known(keys) {
         return Err(OpRefusal::Undecided(1));
     }
@@ -191,6 +194,20 @@ fn field_at(fields: u32, place: i128) -> Result<u32, ErrorKind>
     Ok((place - 1) as u32)
 }
 
+// Whether the key is never found by the kind of search, or by either where it is open.
+fn is_missing(kind: Option<MatchKind>, key: &Value, keys: &[Abs]) -> bool
+    requires { error_of (Known key.now) ≡ None }
+    ensures { result ≡ is_missing (Some key.now) keys.now (kinds_asked kind) }
+{
+    match kind {
+        Some(kind) => is_never_found(kind, key, keys),
+        None => {
+            is_never_found(MatchKind::Equal, key, keys)
+                && is_never_found(MatchKind::Rising, key, keys)
+        }
+    }
+}
+
 // What is found of a known key among known ones.
 fn by_kind(
     alloc: Global,
@@ -203,18 +220,17 @@ fn by_kind(
     requires some { list_any may_be_key keys.now ≡ true }
     requires key { error_of (Known key.now) ≡ None }
     ensures answer { Answers
-        (by_kinds field key.now (map value_in keys.now) (kinds_asked kind)) result }
+        (by_record field (Some key.now) (Some (map value_in keys.now)) (kinds_asked kind)) result }
     ensures within { IfOk result (λ found.
         IfOk found (λ place. (place.0 < length keys.now) × (place.1 ≡ field))) }
     ensures refused { IfErr result IsUndecidedOrMemory }
 {
+    let Some(kind) = kind else {
+        return Err(OpRefusal::Undecided(3));
+    };
     let key = Arg::One(key.copy(alloc)?);
     let keys = line(alloc, keys)?;
-    match kind {
-        Some(kind) => Ok(record_of(field, place_of_key(kind, &key, &keys))),
-        None if is_missing(&key, &keys) => Ok(Err(ErrorKind::NotAvailable)),
-        None => Err(OpRefusal::Undecided(3)),
-    }
+    Ok(record_of(field, place_of_key(kind, &key, &keys)))
 }
 
 // Known elements in one row.
@@ -266,17 +282,6 @@ fn number_of(kind: MatchKind) -> Frac
         MatchKind::Rising => Frac::one(),
         MatchKind::Falling => Frac::one().neg(),
     }
-}
-
-// Whether the key is found by neither kind of search.
-fn is_missing(key: &Arg, keys: &Arg) -> bool
-    requires row { (grid_of keys.now).rows ≡ 1 }
-    requires key { no_error (value_in_arg key.now) ≡ Ok (value_in_arg key.now) }
-    ensures { result ≡ is_none (found_in Equal key.now keys.now)
-        && is_none (found_in Rising key.now keys.now) }
-{
-    place_of_key(MatchKind::Equal, key, keys).is_none()
-        && place_of_key(MatchKind::Rising, key, keys).is_none()
 }
 
 // The record that is found, with the field.
