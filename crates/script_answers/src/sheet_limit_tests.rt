@@ -2,8 +2,6 @@
 use crate::long_texts::{EMPTY, Long, bytes};
 use crate::runs::{NEVER, ran};
 use opensolver_cli::Status;
-use std::alloc::Global;
-use std::process::Abort;
 use std::test::Fail;
 
 const WORDS: &str = "--names names.csv plan.csv other.csv";
@@ -132,17 +130,17 @@ const EDITS: &[Case<'static>] = &[
     ),
 ];
 
-// Each run ends and prints as it is expected.
-fn answers_are(alloc: Global, rt: &impl Abort, cases: &[Case<'static>]) -> Result<(), Fail> {
-    for (plan, other, script, end, want) in cases {
-        let plan = bytes(alloc, plan)?;
-        let script = bytes(alloc, script)?;
+#[test]
+fn sheets_at_their_limits(rt: HostRuntime) -> Result<(), Fail> {
+    for (plan, other, script, end, want) in SHEETS {
+        let plan = bytes(rt.alloc(), plan)?;
+        let script = bytes(rt.alloc(), script)?;
         let files = [
             ("names.csv", b"".as_slice()),
             ("plan.csv", plan.as_slice()),
             ("other.csv", *other),
         ];
-        let (status, printed) = ran(alloc, WORDS, &files, &script, NEVER)?;
+        let (status, printed) = ran(rt.alloc(), WORDS, &files, &script, NEVER)?;
         assert_eq!(rt; printed.as_slice(), want.as_bytes());
         assert!(rt; status == *end);
     }
@@ -150,16 +148,35 @@ fn answers_are(alloc: Global, rt: &impl Abort, cases: &[Case<'static>]) -> Resul
 }
 
 #[test]
-fn sheets_at_their_limits(rt: HostRuntime) -> Result<(), Fail> {
-    answers_are(rt.alloc(), &rt, SHEETS)
-}
-
-#[test]
 fn two_sheets_at_their_limits(rt: HostRuntime) -> Result<(), Fail> {
-    answers_are(rt.alloc(), &rt, TWO_SHEETS)
+    for (plan, other, script, end, want) in TWO_SHEETS {
+        let plan = bytes(rt.alloc(), plan)?;
+        let script = bytes(rt.alloc(), script)?;
+        let files = [
+            ("names.csv", b"".as_slice()),
+            ("plan.csv", plan.as_slice()),
+            ("other.csv", *other),
+        ];
+        let (status, printed) = ran(rt.alloc(), WORDS, &files, &script, NEVER)?;
+        assert_eq!(rt; printed.as_slice(), want.as_bytes());
+        assert!(rt; status == *end);
+    }
+    Ok(())
 }
 
 #[test]
 fn edits_at_the_limits_of_sheets(rt: HostRuntime) -> Result<(), Fail> {
-    answers_are(rt.alloc(), &rt, EDITS)
+    for (plan, other, script, end, want) in EDITS {
+        let plan = bytes(rt.alloc(), plan)?;
+        let script = bytes(rt.alloc(), script)?;
+        let files = [
+            ("names.csv", b"".as_slice()),
+            ("plan.csv", plan.as_slice()),
+            ("other.csv", *other),
+        ];
+        let (status, printed) = ran(rt.alloc(), WORDS, &files, &script, NEVER)?;
+        assert_eq!(rt; printed.as_slice(), want.as_bytes());
+        assert!(rt; status == *end);
+    }
+    Ok(())
 }
