@@ -9,19 +9,20 @@ use Rattle.form_values.specs.declared.abs.Abs.{Abs}
 use Rattle.form_values.specs.declared.abs.Abs.TheVariants.{Known}
 use Rattle.form_values.specs.declared.abs.AbsArg.{AbsArg}
 use Rattle.form_table.specs.Wanted.{value_of, grid_of}
-use Rattle.form_table.specs.Lookups.{error_of}
+use Rattle.form_table.specs.Lookups.{known_value, error_of}
 use Rattle.form_table.specs.Products.{or_fault, is_of_size}
-use Rattle.form_table.specs.Criteria.{met_places, sum_of_elements}
+use Rattle.form_table.specs.Criteria.{met_places, sum_of_elements, certain_by}
 
 -- the elements in some places
 abbrev pub picked : List Abs → List ℕ → List Abs
 picked items places = map (λ place. slice_index_or items place (Known Empty)) places
 
--- the sum of the elements of one grid in the places where another of its size meets a criterion
+-- the sum of the elements of one grid in the places where another of its size meets a criterion, or the error that certainly is
 abbrev pub sum_where : Raster → Abs → Raster → Trial AbsArg
 sum_where tested criterion summed =
     if is_of_size tested summed
-    then and_then (met_places tested.items criterion) (λ places. sum_of_elements (picked summed.items places))
+    then or_fault (certain_by (known_value criterion) summed.items tested.items)
+    (and_then (met_places tested.items criterion) (λ places. sum_of_elements (picked summed.items places)))
     else one (fault kind.Value)
 
 -- an error as the criterion is the result

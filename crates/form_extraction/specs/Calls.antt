@@ -23,8 +23,8 @@ use Rattle.form_values.specs.declared.abs.AbsArg.TheVariants.{One, Area}
 use Rattle.form_table.specs.Wanted.{value_of, number_of, known_number, single, grid_of}
 use Rattle.form_table.specs.Choosing.{if_test}
 use Rattle.form_table.specs.Picks.{pick_form}
-use Rattle.form_table.specs.Lookups.{record_form, kinds_in, error_of}
-use Rattle.form_table.specs.Criteria.{met_places, sum_of_elements}
+use Rattle.form_table.specs.Lookups.{record_form, kinds_in, known_value, error_of}
+use Rattle.form_table.specs.Criteria.{met_places, sum_of_elements, certain_by}
 use Rattle.form_table.specs.Table.{form_called}
 use Rattle.form_extraction.specs.Parts.{Outcome, Gives, Refused, Part, tried_on, outcome_by, on_part, on_parts}
 use Rattle.form_extraction.specs.declared.forms.Why.TheVariants as why
@@ -105,21 +105,29 @@ lookup_outcome forms cells turned whole (key ∷ table ∷ rest) =
     on_part key (λ k. on_turned forms cells turned table (λ s. taken s (key_places s) (λ keys. on_parts rest (λ args. lookup_by whole (key ∷ table ∷ rest) s keys (k ∷ args)))))
 lookup_outcome forms cells turned whole _ = fails kind.Value
 
--- the elements of the summed grid where the tested one, of its size, meets the criterion
-abbrev pub sum_at : Span → List Part → Source → AbsArg → AbsArg → Outcome
-sum_at whole parts s tested criterion =
-    if ((grid_of tested).rows == s.rows) && ((grid_of tested).columns == s.columns)
-    then tried_on whole parts (met_places (grid_of tested).items (value_of criterion))
-    (λ places. taken s places (λ items. outcome_by whole parts (sum_of_elements items)))
-    else fails kind.Value
-
 abbrev pub unless_error : Option ErrorKind → Outcome → Outcome
 unless_error (Some k) o = fails k
 unless_error None o = o
 
+-- the elements of a summed grid that are looked at before it is known which are summed: of a reference none are
+abbrev pub seen_before : Option CellGrid → Outcome → List Abs
+seen_before (Some g) o = []
+seen_before None (Gives a) = (grid_of a).items
+seen_before None o = []
+
+-- the elements of the summed grid where the tested one, of its size, meets the criterion; among those seen before an error may be certain
+abbrev pub sum_at : Span → List Part → Source → List Abs → AbsArg → AbsArg → Outcome
+sum_at whole parts s seen tested criterion =
+    if ((grid_of tested).rows == s.rows) && ((grid_of tested).columns == s.columns)
+    then unless_error (certain_by (known_value (value_of criterion)) seen (grid_of tested).items)
+    (tried_on whole parts (met_places (grid_of tested).items (value_of criterion))
+    (λ places. taken s places (λ items. outcome_by whole parts (sum_of_elements items))))
+    else fails kind.Value
+
 abbrev pub sum_over : (Cell → Option Abs) → Span → List Part → Part → Part → Part → Outcome
 sum_over forms whole parts tested criterion summed =
-    on_part tested (λ a. on_part criterion (λ c. on_source forms summed (λ s. unless_error (error_of (value_of c)) (sum_at whole parts s a c))))
+    on_part tested (λ a. on_part criterion (λ c. on_source forms summed
+    (λ s. unless_error (error_of (value_of c)) (sum_at whole parts s (seen_before summed.reference summed.outcome) a c))))
 
 -- the tested grid is summed where no other is given
 abbrev pub sumif_outcome : (Cell → Option Abs) → Span → List Part → Outcome

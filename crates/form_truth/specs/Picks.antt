@@ -1,6 +1,6 @@
 -- The part of a grid that INDEX picks, the place that MATCH finds, and the record and field of VLOOKUP and HLOOKUP, by open places and
 -- keys: what is given is that under every assignment, none is refused as not affine, and an argument that leaves it undecided varies.
-use Rattle.std.specs.Prelude.{◌≡◌, ℕ, List, [], ◌∷◌, map, Result, Ok, Err}
+use Rattle.std.specs.Prelude.{◌≡◌, ℕ, List, [], ◌∷◌, map, Some, Result, Ok, Err}
 use Rattle.std.specs.List.{AllByRecursion}
 use Rattle.calculations.specs.Calculation.{exact}
 use Rattle.fractions.specs.Rational.{ℚ}
@@ -13,12 +13,14 @@ use Rattle.sheet_model.specs.declared.grid.Arg.{Arg}
 use Rattle.sheet_model.specs.declared.grid.Arg.TheVariants.{One}
 use Rattle.sheet_funcs.specs.Arguments as functions
 use Rattle.sheet_funcs.specs.Arguments.{below}
+use Rattle.sheet_funcs.specs.Criteria.{met}
+use Rattle.sheet_funcs.specs.Items.{numbers_among}
 use Rattle.sheet_funcs.specs.Lookups.{lookup_pick, vlookup_of, hlookup_of}
 use Rattle.sheet_funcs.specs.Products as products
 use Rattle.sheet_funcs.specs.Picks.{pick_of}
 use Rattle.sheet_funcs.specs.Rounding.{number_of}
 use Rattle.affine_forms.specs.Forms.{Assignment}
-use Rattle.form_values.specs.Meaning.{arg_at, IsSound}
+use Rattle.form_values.specs.Meaning.{abs_at, arg_at, IsSound}
 use Rattle.form_values.specs.Trials.{Refusal, Breaks, Undecided}
 use Rattle.form_values.specs.Grids.{Raster}
 use Rattle.form_values.specs.declared.abs.Abs.{Abs}
@@ -26,7 +28,7 @@ use Rattle.form_values.specs.declared.abs.AbsArg.{AbsArg}
 use Rattle.form_table.specs.Wanted as open_values
 use Rattle.form_table.specs.Wanted.{value_of, grid_of}
 use Rattle.form_table.specs.Choosing.{choice_at, choose_form}
-use Rattle.form_table.specs.Criteria.{places_from, met_places}
+use Rattle.form_table.specs.Criteria.{places_from, met_places, certain_error}
 use Rattle.form_table.specs.Lookups.{lookup_pick_form, record_form, kinds_in}
 use Rattle.form_table.specs.Products.{at, transposed}
 use Rattle.form_table.specs.Picks.{pick_form}
@@ -83,6 +85,12 @@ PlacesAreRight =
     (tested criterion : AbsArg) → IsSound tested → IsSound criterion
     → IsPick (λ x. places_from 0 (functions.value_of (arg_at x criterion)) (functions.elements_of (arg_at x tested))) (tested ∷ criterion ∷ [])
     (exact (met_places (grid_of tested).items (value_of criterion)))
+
+-- an error that is certain is the first among the summed elements under every assignment
+abbrev pub CertainIsSummed : Type 0
+CertainIsSummed =
+    (x : Assignment) (criterion : Value) (summed tested : List Abs) (k : ErrorKind) → certain_error criterion summed tested ≡ Some k
+    → numbers_among (met criterion (map (abs_at x) tested) (map (abs_at x) summed)) ≡ Err k
 
 -- ---- CHOOSE, by the number that the place is
 abbrev pub chosen_by : List AbsArg → Result ℚ ErrorKind → Result AbsArg ErrorKind

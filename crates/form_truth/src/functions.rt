@@ -2,7 +2,7 @@
 ghost use Rattle.formula_ast.specs.declared.func.Func.TheVariants as func;
 ghost use Rattle.form_truth.specs.Laws.{CallIsRight, SummedIsRight};
 ghost use Rattle.form_truth.specs.Table.{TableIsRight};
-ghost use Rattle.form_truth.specs.Picks.{AcrossIsRight, FoundIsRight, IndexIsRight, LookupIsRight, PlacesAreRight};
+ghost use Rattle.form_truth.specs.Picks.{AcrossIsRight, CertainIsSummed, FoundIsRight, IndexIsRight, LookupIsRight, PlacesAreRight};
 ghost use Rattle.form_truth.specs.Products.{MatrixProductIsRight, SumProductIsRight};
 
 /// All operators, and all functions but the seven that look at one argument after the other or pick from a reference: what is given is
@@ -45,12 +45,13 @@ pub fn tests_of_values_are_right()
     ensures is_blank { CallIsRight func.IsBlank }
 {}
 
-/// TRANSPOSE, ROWS and COLUMNS; which elements SUMIF adds, and their sum.
+/// TRANSPOSE, ROWS and COLUMNS; which elements SUMIF adds, their sum, and the error that certainly is among them.
 pub fn functions_of_areas_are_right()
     ensures transposed { CallIsRight func.Transpose }
     ensures rows { CallIsRight func.Rows }
     ensures columns { CallIsRight func.Columns }
     ensures met { PlacesAreRight }
+    ensures certain { CertainIsSummed }
     ensures summed { SummedIsRight }
 {}
 
