@@ -4,7 +4,7 @@ use Rattle.fractions.specs.Rational.{eq_ℚ, computed}
 use Rattle.fractions.specs.Floor.{floor_ℚ}
 use Rattle.fractions.specs.Power.{power_ℚ}
 use Rattle.frac128.specs.Narrow.{is_narrow, is_narrow_sum}
-use Rattle.form_table.specs.Examples.{Hold, operators, choices, functions, picks, records, choose}
+use Rattle.form_table.specs.Examples.{Hold, operators, choices, functions, picks, records, choose, certain}
 
 pub operators_hold : Hold operators
 unfolding computed eq_ℚ is_narrow is_narrow_sum floor_ℚ power_ℚ
@@ -29,3 +29,7 @@ records_hold = (refl, (refl, (refl, (refl, (refl, (refl, (refl, (refl, (refl, (r
 pub choose_hold : Hold choose
 unfolding computed eq_ℚ is_narrow is_narrow_sum floor_ℚ power_ℚ
 choose_hold = (refl, (refl, (refl, (refl, (refl, (refl, tt))))))
+
+pub certain_hold : Hold certain
+unfolding computed eq_ℚ is_narrow is_narrow_sum floor_ℚ power_ℚ
+certain_hold = (refl, (refl, (refl, (refl, (refl, (refl, (refl, (refl, tt))))))))

@@ -2,7 +2,7 @@
 //! and rows by example.
 #![tactic(auto)]
 
-ghost use Rattle.form_table.specs.Examples.{Hold, choices, choose, functions, operators, picks, records};
+ghost use Rattle.form_table.specs.Examples.{Hold, certain, choices, choose, functions, operators, picks, records};
 
 /// What the rows make of some values.
 pub fn examples_hold()
@@ -12,4 +12,5 @@ pub fn examples_hold()
     ensures picks { Hold picks }
     ensures records { Hold records }
     ensures choose { Hold choose }
+    ensures certain { Hold certain }
 {}

@@ -1,4 +1,4 @@
-use Rattle.form_table.proofs.ByExample.{choices_hold, choose_hold, functions_hold, operators_hold, picks_hold, records_hold}
+use Rattle.form_table.proofs.ByExample.{certain_hold, choices_hold, choose_hold, functions_hold, operators_hold, picks_hold, records_hold}
 use Rattle.form_table.proofs.examples_hold.Goals as goal
 
 pub returns : goal.returns
@@ -9,4 +9,5 @@ returns c = record {
   picks = picks_hold;
   records = records_hold;
   choose = choose_hold;
+  certain = certain_hold;
 }
