@@ -46,3 +46,4 @@ pub mod Records
 pub mod Finding
 pub mod Chosen
 pub mod LookupSteps
+pub mod CertainSums

@@ -53,7 +53,7 @@ error_back kind.NotAvailable = refl
 error_back kind.Circular = refl
 error_back kind.Malformed = refl
 
-same_error_is : (k l : ErrorKind) → (place_of k == place_of l) ≡ true → k ≡ l
+pub same_error_is : (k l : ErrorKind) → (place_of k == place_of l) ≡ true → k ≡ l
 same_error_is k l h = sym (error_back k) ∙ ap error_at (eqb-true (place_of k) (place_of l) h) ∙ error_back l
 
 relation_at : ℕ → Rel
