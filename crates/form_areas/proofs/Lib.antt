@@ -12,3 +12,4 @@ pub mod Meeting
 pub mod Sizes
 pub mod SumIfTruth
 pub mod NeverFound
+pub mod Certain

@@ -1,10 +1,11 @@
 -- The elements in the places where another list meets a criterion.
-use Rattle.std.proofs.Common.{◌≡◌, ◌<◌, ◌+◌, arith, refl, sym, ap, ◌∙◌, Bool, true, false, if◌then◌else◌, ℕ, suc, List, [], ◌∷◌, ◌++◌, length, map, drop, get_or, append_assoc, Option, Some, None, Result, Ok}
+use Rattle.std.proofs.Common.{◌≡◌, ◌<◌, ◌+◌, arith, refl, sym, ap, ap₂, ◌∙◌, Bool, true, false, if◌then◌else◌, ℕ, suc, List, [], ◌∷◌, ◌++◌, length, map, drop, get_or, append_assoc, Option, Some, None, Result, Ok}
 use Rattle.std.specs.Prelude.{slice_index_or}
 use Rattle.std.specs.List.{filter_map, list_all}
 use Rattle.std.specs.Result.{result_map_both}
 use Rattle.calculations.specs.Calculation.{narrow}
 use Rattle.cell_refs.specs.declared.error_kind.ErrorKind.{ErrorKind}
+use Rattle.cell_refs.specs.declared.error_kind.ErrorKind.TheVariants as kind
 use Rattle.sheet_funcs.specs.Criteria.{meets}
 use Rattle.sheet_model.specs.declared.value.Value.{Value}
 use Rattle.sheet_model.specs.declared.value.Value.TheVariants.{Empty, Error}
@@ -16,13 +17,15 @@ use Rattle.affine_forms.specs.declared.stop.FormStop.{FormStop}
 use Rattle.form_values.specs.Entries.{entry}
 use Rattle.form_values.specs.Grids.{Raster}
 use Rattle.form_values.specs.Known.{is_known, value_in}
-use Rattle.form_values.specs.Trials.{Trial, Answers, and_then, given, made, one}
+use Rattle.form_values.specs.Trials.{Trial, Answers, and_then, fault, given, made, one}
 use Rattle.form_values.specs.declared.abs.Abs.{Abs}
 use Rattle.form_values.specs.declared.abs.Abs.TheVariants.{Known}
+use Rattle.form_values.specs.declared.abs.AbsArg.{AbsArg}
 use Rattle.form_values.specs.declared.abs.AbsArg.TheVariants as arg
 use Rattle.form_values.specs.declared.refusal.OpRefusal.{OpRefusal}
-use Rattle.form_table.specs.Criteria.{by_known, met_places, places_from, sum_of_elements}
+use Rattle.form_table.specs.Criteria.{by_known, certain_by, met_places, places_from, sum_of_elements}
 use Rattle.form_table.specs.Items.{first_error, item_at}
+use Rattle.form_table.specs.Lookups.{known_value}
 use Rattle.form_table.specs.Products.{error_among, is_of_size, or_fault}
 use Rattle.form_table.specs.Wanted.{unless}
 use Rattle.form_ops.proofs.Answering.{form_answers, same_answers, then_answers}
@@ -87,13 +90,18 @@ met_at_places v us ss same = met_picked v us ss 0 (λ place. slice_index_or ss p
 known_places : (items : List Abs) (v : Value) → list_all is_known items ≡ true → met_places items (Known v) ≡ given (places_from 0 v (map value_in items))
 known_places items v e = ap (λ b. by_known (if b then Some (map value_in items) else None) (Some v)) e
 
-pub where_given : (g h : Raster) (criterion : Abs) (v : Value) (r : Result Abs OpRefusal) → is_of_size g h ≡ true → list_all is_known g.items ≡ true → criterion ≡ Known v → length g.items ≡ length h.items
-    → Answers (sum_of (met v g.items h.items)) r → Answers (sum_where g criterion h) (result_map_both arg.One (λ s. s) r)
-where_given g h criterion v r size known is same answer =
+-- what is summed, by whether the grids are of one size and by the error that is certain
+abbrev sum_by : Bool → Option ErrorKind → List Abs → Abs → List Abs → Trial AbsArg
+sum_by b o tested criterion summed =
+    if b then or_fault o (and_then (met_places tested criterion) (λ places. sum_of_elements (picked summed places))) else one (fault kind.Value)
+
+pub where_given : (g h : Raster) (criterion : Abs) (v : Value) (r : Result Abs OpRefusal) → is_of_size g h ≡ true → None ≡ certain_by (known_value criterion) h.items g.items → list_all is_known g.items ≡ true → criterion ≡ Known v
+    → length g.items ≡ length h.items → Answers (sum_of (met v g.items h.items)) r → Answers (sum_where g criterion h) (result_map_both arg.One (λ s. s) r)
+where_given g h criterion v r size uncertain known is same answer =
     same_answers (one (sum_of (met v g.items h.items))) (sum_where g criterion h) (result_map_both arg.One (λ s. s) r)
     (ap narrow
-    (ap (λ c. sum_where g c h) is
-    ∙ ap (λ b. if b then and_then (met_places g.items (Known v)) (λ places. sum_of_elements (picked h.items places)) else one (Rattle.form_values.specs.Trials.fault Rattle.cell_refs.specs.declared.error_kind.ErrorKind.TheVariants.Value)) size
+    (ap₂ (λ b o. sum_by b o g.items criterion h.items) size (sym uncertain)
+    ∙ ap (λ c. and_then (met_places g.items c) (λ places. sum_of_elements (picked h.items places))) is
     ∙ ap (λ c. and_then c (λ places. sum_of_elements (picked h.items places))) (known_places g.items v known)
     ∙ ap sum_of_elements (met_at_places v g.items h.items same)
     ∙ sum_elements (met v g.items h.items)))

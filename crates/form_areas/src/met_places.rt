@@ -1,19 +1,21 @@
-// The parts of SUMIF where not all of the summed grid is read: the places that meet the criterion, and the sum of the elements there.
+// The parts of SUMIF where not all of the summed grid is read: the places that meet the criterion, the sum of the elements there, and
+// the error that certainly is summed.
 ghost use Rattle.std.specs.Prelude.{◌≡◌, IfOk, None, map};
 ghost use Rattle.std.specs.List.{filter_map, list_all};
 ghost use Rattle.std.specs.Result.{result_map_both};
 ghost use Rattle.affine_forms.specs.Answers as forms;
 ghost use Rattle.affine_forms.specs.Steps.{total};
-ghost use Rattle.form_table.specs.Criteria.{met_places, places_from, sum_of_elements};
+ghost use Rattle.form_table.specs.Criteria.{certain_beside, certain_by, certain_error, if_same, met_places, places_from, sum_of_elements};
 ghost use Rattle.form_table.specs.Items.{form_in, item_at};
-ghost use Rattle.form_table.specs.Lookups.{error_of};
+ghost use Rattle.form_table.specs.Lookups.{error_of, known_value};
 ghost use Rattle.form_values.specs.Known.{is_known, value_in};
 ghost use Rattle.form_values.specs.Trials.{Answers};
 ghost use Rattle.form_values.specs.declared.abs.Abs.TheVariants.{Known};
 
-use crate::conditional::is_met;
+use crate::conditional::{error_where, is_met};
 use crate::items::{add_elements, error_among};
 use affine_forms::{Form, FormStop};
+use cell_refs::ErrorKind;
 use form_ops::{as_entry, as_one, fault};
 use form_values::{Abs, AbsArg, OpRefusal};
 use frac128::Frac;
@@ -75,4 +77,62 @@ fn total_of(alloc: Global, items: &[Abs]) -> Result<Form, FormStop>
     let mut total = Form::constant(alloc, Frac::zero());
     add_elements(&mut total, alloc, items)?;
     Ok(total)
+}
+
+/// The error that is the first among the summed elements whatever the open elements of the tested grid hold, if there is such a one.
+pub fn certain_error(criterion: &Abs, summed: &[Abs], tested: &[Abs]) -> Option<ErrorKind>
+    requires { error_of criterion.now ≡ None }
+    ensures { result ≡ certain_by (known_value criterion.now) summed.now tested.now }
+{
+    match criterion {
+        Abs::Known(criterion) => certain_among(criterion, summed, tested),
+        Abs::Affine(_) | Abs::Test(_, _) => None,
+    }
+}
+
+// The same by a known criterion, from the last place to the first.
+fn certain_among(criterion: &Value, summed: &[Abs], tested: &[Abs]) -> Option<ErrorKind>
+    requires { error_of (Known criterion.now) ≡ None }
+    ensures { result ≡ certain_error criterion.now summed.now tested.now }
+{
+    let mut certain = None;
+    let mut place = summed.len().min(tested.len());
+    while place > 0 {
+        place -= 1;
+        let error = error_where(true, &summed[place]);
+        certain = certain_beside(criterion, &tested[place], error, certain);
+    }
+    certain
+}
+
+// What is certain from a place on, by what is certain of those that follow.
+fn certain_beside(
+    criterion: &Value,
+    tested: &Abs,
+    error: Option<ErrorKind>,
+    later: Option<ErrorKind>,
+) -> Option<ErrorKind>
+    requires { error_of (Known criterion.now) ≡ None }
+    ensures { result ≡ certain_beside criterion.now tested.now error later }
+{
+    let Some(kind) = error else {
+        return later;
+    };
+    if !tested.is_known() {
+        return if_same(kind, later);
+    }
+    if is_met(criterion, tested) {
+        return error;
+    }
+    later
+}
+
+// The error that follows, if it is this one.
+fn if_same(kind: ErrorKind, later: Option<ErrorKind>) -> Option<ErrorKind>
+    ensures { result ≡ if_same kind later }
+{
+    match later {
+        Some(other) if kind == other => later,
+        _ => None,
+    }
 }
