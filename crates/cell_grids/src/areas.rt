@@ -19,7 +19,7 @@ pub(crate) fn all_cells(alloc: Global, areas: &[Area]) -> Result<Vec<Cell>, Memo
 }
 
 /// Puts the cells of an area behind others, row by row.
-pub(crate) fn push_cells(area: &Area, to: &mut Vec<Cell>) -> Result<(), Memory>
+pub fn push_cells(area: &Area, to: &mut Vec<Cell>) -> Result<(), Memory>
     ensures { IfOk result (λ _. to.new.items ≡ to.old.items ++ cells_of area.now) }
 {
     to.reserve(area.len() as usize)?;

@@ -6,4 +6,5 @@ mod columns;
 mod picked;
 mod reference;
 
+pub use areas::push_cells;
 pub use reference::Reference;

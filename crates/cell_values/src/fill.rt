@@ -1,21 +1,21 @@
 // Filling rows.
-ghost use Rattle.std.specs.Prelude.{◌≡◌, IfOk, OnOk, Some, false, true, option_map, slice_get, ℕ};
+ghost use Rattle.std.specs.Prelude.{◌≡◌, ◌&&◌, IfOk, OnOk, Some, false, true, is_none, option_map, slice_get, ℕ};
 ghost use Rattle.std.specs.FinSet as set;
 ghost use Rattle.cell_refs.specs.declared.cell.Cell.{Cell};
 ghost use Rattle.dep_table.specs.Order.{IsOrder};
 ghost use Rattle.recalculation.specs.Entries.{entry, nothing};
 ghost use Rattle.recalculation.specs.Looking.{are_known};
 ghost use Rattle.recalculation.specs.Walks.{is_circular, is_formula, refers};
-ghost use Rattle.cell_values.specs.Rows.{AreRows, HasRow, IsComputed};
+ghost use Rattle.cell_values.specs.Rows.{AreRows, HasRow, IsComputed, kept_looks};
 ghost use Rattle.cell_values.specs.Values.{HasSeen, IsTable, value_at};
 ghost use Rattle.workbook.specs.Kinds.{book_of};
 
 use crate::gather::{gather, known_in};
-use crate::rows::{Row, kept_looks, put};
+use crate::rows::{Row, put};
 use crate::values::Values;
 use cell_refs::{Cell, ErrorKind};
 use dep_table::CellSet;
-use evaluation::evaluate;
+use evaluation::{Part, evaluate};
 use formula_ast::Expr;
 use sheet_model::{Memory, Value};
 use std::alloc::Global;
@@ -82,12 +82,34 @@ fn row_of(alloc: Global, values: &Values, tree: &Expr, keeps_looks: bool) -> Res
     ensures { IfOk result (λ row. IsComputed (value_at values.now) tree.now keeps_looks row) }
 {
     let part = evaluate(alloc, values, tree)?;
-    let looks = kept_looks(alloc, part.looks(), keeps_looks)?;
-    let is_wide = part.outcome().is_none() && values.all_known(part.looks());
+    let looks = kept_looks(alloc, &part, keeps_looks)?;
+    let is_wide = is_wide(alloc, values, &part)?;
     let value = part.to_value(alloc)?;
     Ok(Row {
         value,
         is_wide,
         looks,
     })
+}
+
+// The cells at which a part looks, if these are kept.
+fn kept_looks(alloc: Global, part: &Part, keeps_looks: bool) -> Result<Vec<Cell>, Memory>
+    ensures { IfOk result (λ looks. looks.items ≡ kept_looks keeps_looks part.now.looks) }
+{
+    if keeps_looks {
+        return part.looks(alloc);
+    }
+    Ok(Vec::new(alloc))
+}
+
+// Whether a part has no value though all cells have one at which it looks.
+fn is_wide(alloc: Global, values: &Values, part: &Part) -> Result<bool, Memory>
+    ensures { IfOk result (λ wide. wide
+        ≡ (are_known (value_at values.now) part.now.looks && is_none part.now.outcome)) }
+{
+    if part.outcome().is_some() {
+        return Ok(false);
+    }
+    let looks = part.looks(alloc)?;
+    Ok(values.all_known(&looks))
 }

@@ -1,13 +1,12 @@
 // What is computed of formula cells.
-ghost use Rattle.std.specs.Prelude.{◌≡◌, IfOk, OnErr, OnOk, if◌then◌else◌, Some};
+ghost use Rattle.std.specs.Prelude.{◌≡◌, OnErr, OnOk, if◌then◌else◌, Some};
 ghost use Rattle.std.specs.BTreeMap.{is_at};
 ghost use Rattle.cell_refs.specs.declared.cell.Cell.{Cell};
 ghost use Rattle.cell_refs.specs.Cells.{cell_cmp};
-ghost use Rattle.cell_values.specs.Rows.{kept_looks, row_at, some_wide};
+ghost use Rattle.cell_values.specs.Rows.{row_at, some_wide};
 
 use cell_refs::Cell;
 use sheet_model::{Memory, Value};
-use std::alloc::Global;
 use std::collections::BTreeMap;
 
 /// What is computed of a formula cell: its value, where it has one, whether a number of its own calculation is too wide, and, if
@@ -35,18 +34,4 @@ pub(crate) fn some_wide(rows: &BTreeMap<Cell, Row>) -> bool
     ensures { result ≡ some_wide rows.now.entries }
 {
     rows.values().any(|row| row.is_wide)
-}
-
-/// Cells at which is looked, if these are kept.
-pub(crate) fn kept_looks(
-    alloc: Global,
-    looks: &[Cell],
-    keeps_looks: bool,
-) -> Result<Vec<Cell>, Memory>
-    ensures { IfOk result (λ kept. kept.items ≡ kept_looks keeps_looks looks.now) }
-{
-    if keeps_looks {
-        return Ok(Vec::from_slice(alloc, looks)?);
-    }
-    Ok(Vec::new(alloc))
 }

@@ -1,3 +1,4 @@
 pub mod Parts
+pub mod Looked
 pub mod Tables
 pub mod Composed

@@ -13,6 +13,7 @@ ghost use Rattle.sheet_model.specs.declared.grid.Arg.TheVariants.{One};
 use crate::cells::Cells;
 use crate::choices::choosing_part;
 use crate::copy::copy_of;
+use crate::looked::Looks;
 use crate::looks::arguments::{all_looks, outcomes};
 use crate::looks::criteria::sumif_looks;
 use crate::looks::lookups::lookup_part;
@@ -20,7 +21,6 @@ use crate::looks::picks::index_part;
 use crate::operators::narrow_answer;
 use crate::part::Part;
 use crate::values::{all_known, filled_grid};
-use cell_refs::Cell;
 use formula_ast::Func;
 use frac128::Frac;
 use sheet_funcs::call;
@@ -78,7 +78,7 @@ fn rows_part(alloc: Global, args: &[Part]) -> Result<Part, Memory>
         return whole_part(alloc, Func::Rows, args);
     };
     match &part.reference {
-        Some(grid) => Ok(Part::plain(alloc, number(grid.rows()))),
+        Some(areas) => Ok(Part::plain(alloc, number(areas.grid(alloc)?.rows()))),
         None => whole_part(alloc, Func::Rows, args),
     }
 }
@@ -96,7 +96,7 @@ fn columns_part(alloc: Global, args: &[Part]) -> Result<Part, Memory>
         return whole_part(alloc, Func::Columns, args);
     };
     match &part.reference {
-        Some(grid) => Ok(Part::plain(alloc, number(grid.cols()))),
+        Some(areas) => Ok(Part::plain(alloc, number(areas.grid(alloc)?.cols()))),
         None => whole_part(alloc, Func::Columns, args),
     }
 }
@@ -188,7 +188,7 @@ fn filled_outcome<C: Cells>(
     cells: &C,
     function: Func,
     args: &[Part],
-    looks: &[Cell],
+    looks: &Looks,
 ) -> Result<Option<Arg>, Memory>
     requires takes { Takes function (length args.now) }
     requires whole { is_choosing function ≡ false }
@@ -196,7 +196,7 @@ fn filled_outcome<C: Cells>(
     ensures { IfOk result (λ outcome. outcome
         ≡ filled_outcome (C.known cells.now) function args.now) }
 {
-    if !all_known(alloc, cells, looks)? {
+    if !all_known(alloc, cells, &looks.cells(alloc)?)? {
         return Ok(None);
     }
     narrow_called(alloc, function, all_filled(alloc, cells, args)?)
@@ -245,7 +245,7 @@ fn filled_or<C: Cells>(alloc: Global, cells: &C, part: &Part) -> Result<Option<A
         ≡ filled_or (C.known cells.now) part.now.reference part.now.outcome) }
 {
     if let Some(reference) = &part.reference {
-        return Ok(Some(filled_grid(alloc, cells, reference)?));
+        return Ok(Some(filled_grid(alloc, cells, &reference.grid(alloc)?)?));
     }
     match &part.outcome {
         Some(value) => Ok(Some(copy_of(alloc, value)?)),

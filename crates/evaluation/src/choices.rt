@@ -10,9 +10,9 @@ ghost use Rattle.sheet_funcs.specs.Rounding.{place_of};
 ghost use Rattle.sheet_model.specs.Conversions.{logical_in};
 ghost use Rattle.sheet_model.specs.Operators.{single};
 
-use crate::looks::arguments::{copy_cells, push_all};
+use crate::looked::Looks;
 use crate::part::Part;
-use cell_refs::{Cell, ErrorKind};
+use cell_refs::ErrorKind;
 use formula_ast::Func;
 use sheet_funcs::{logical_of, place_of};
 use sheet_model::{Arg, Memory, Value};
@@ -30,7 +30,7 @@ pub(crate) fn choosing_part(alloc: Global, function: Func, args: &[Part]) -> Res
     let [first, others @ ..] = args else {
         return Ok(Part::plain(alloc, Arg::One(Value::Error(ErrorKind::Value))));
     };
-    let looks = copy_cells(alloc, &first.looks)?;
+    let looks = first.looks.copy(alloc)?;
     let Some(value) = &first.outcome else {
         return Ok(Part {
             looks,
@@ -45,12 +45,12 @@ pub(crate) fn choosing_part(alloc: Global, function: Func, args: &[Part]) -> Res
 fn chosen_part(
     alloc: Global,
     function: Func,
-    mut looks: Vec<Cell>,
+    mut looks: Looks,
     first: &Arg,
     others: &[Part],
 ) -> Result<Part, Memory>
     ensures { IfOk result (λ part. part ≡ record {
-      looks = looks.items ++ looks_of (at_chosen others.now (chosen_place function first.now));
+      looks = looks ++ looks_of (at_chosen others.now (chosen_place function first.now));
       outcome = chosen_outcome (without_choice function first.now)
           (at_chosen others.now (chosen_place function first.now));
       reference = None;
@@ -64,7 +64,7 @@ fn chosen_part(
             reference: None,
         });
     };
-    push_all(&part.looks, &mut looks)?;
+    looks.extend(&part.looks)?;
     let outcome = single_outcome(alloc, part)?;
     Ok(Part {
         looks,

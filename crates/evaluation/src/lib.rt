@@ -7,9 +7,11 @@ mod choices;
 mod copy;
 mod formula;
 mod literals;
+mod looked;
 mod looks;
 mod operators;
 mod part;
+mod referred;
 mod values;
 
 pub use cells::Cells;

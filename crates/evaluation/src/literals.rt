@@ -7,9 +7,10 @@ ghost use Rattle.recalculation.specs.Evaluation.{grid_of_areas, literal, literal
 ghost use Rattle.sheet_model.specs.declared.grid.Arg.TheVariants.{Area as Elements};
 
 use crate::cells::Cells;
+use crate::looked::Looks;
 use crate::part::Part;
+use crate::referred::Referred;
 use crate::values::known_grid;
-use cell_grids::Reference;
 use cell_refs::Area;
 use formula_ast::{Expr, Node};
 use sheet_model::{Arg, Grid, Memory, Text, Value};
@@ -42,10 +43,11 @@ pub(crate) fn reference_part<C: Cells>(
     requires { 0 < length areas.now }
     ensures { IfOk result (λ part. part ≡ referred (C.known cells.now) (grid_of_areas areas.now)) }
 {
-    let reference = Reference::of_areas(alloc, areas)?;
-    let outcome = known_grid(alloc, cells, areas, &reference)?;
+    let outcome = known_grid(alloc, cells, areas)?;
+    let looks = Looks::of_areas(alloc, areas)?;
+    let reference = Referred::new(alloc, areas)?;
     Ok(Part {
-        looks: Vec::from_slice(alloc, reference.cells())?,
+        looks,
         outcome,
         reference: Some(reference),
     })
@@ -60,9 +62,10 @@ pub(crate) fn table_part(alloc: Global, areas: &[Area]) -> Result<Part, Memory>
       reference = Some (grid_of_areas areas.now);
     }) }
 {
-    let reference = Reference::of_areas(alloc, areas)?;
+    let looks = Looks::of_areas(alloc, areas)?;
+    let reference = Referred::new(alloc, areas)?;
     Ok(Part {
-        looks: Vec::from_slice(alloc, reference.cells())?,
+        looks,
         outcome: None,
         reference: Some(reference),
     })

@@ -8,7 +8,7 @@ ghost use Rattle.sheet_model.specs.Operators.{infix_of, minus_of, percent_of};
 ghost use Rattle.sheet_model.specs.declared.grid.Arg.{Arg};
 
 use crate::part::Part;
-use cell_refs::{Cell, Op};
+use cell_refs::Op;
 use sheet_model::{Arg, FuncStop, Memory, infix, minus, percent};
 use std::alloc::Global;
 
@@ -72,7 +72,7 @@ pub(crate) fn infix_part(alloc: Global, op: Op, left: Part, right: Part) -> Resu
         outcome: second,
         reference: _,
     } = right;
-    looks.extend_from_slice(&others)?;
+    looks.extend(&others)?;
     let outcome = infix_outcome(alloc, op, first, second)?;
     Ok(Part {
         looks,

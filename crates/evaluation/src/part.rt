@@ -3,7 +3,8 @@ ghost use Rattle.std.specs.Prelude.{◌≡◌, IfOk, None, Some, option_map};
 ghost use Rattle.recalculation.specs.Evaluation.{cell_value, filled};
 ghost use Rattle.evaluation.specs.Composed.{plain};
 
-use cell_grids::Reference;
+use crate::looked::Looks;
+use crate::referred::Referred;
 use cell_refs::Cell;
 use frac128::Frac;
 use sheet_model::{Arg, Memory, Value};
@@ -14,9 +15,9 @@ use std::marker::Model;
 /// one, and its cells where it is a reference.
 #[derive(Drop)]
 pub struct Part {
-    pub(crate) looks: Vec<Cell>,
+    pub(crate) looks: Looks,
     pub(crate) outcome: Option<Arg>,
-    pub(crate) reference: Option<Reference>,
+    pub(crate) reference: Option<Referred>,
 }
 
 impl Model for Part {
@@ -26,15 +27,15 @@ impl Model for Part {
     ghost Value = { Argument Arg };
 
     ghost view = { λ p.
-        record { looks = p.looks.items; outcome = p.outcome; reference = p.reference } };
+        record { looks = p.looks; outcome = p.outcome; reference = p.reference } };
 }
 
 impl Part {
     /// The cells at which it looks, in their order.
-    pub fn looks(&self) -> &[Cell]
-        ensures { result.now ≡ self.now.looks }
+    pub fn looks(&self, alloc: Global) -> Result<Vec<Cell>, Memory>
+        ensures { IfOk result (λ looks. looks.items ≡ self.now.looks) }
     {
-        &self.looks
+        self.looks.cells(alloc)
     }
 
     /// Its value on narrow numbers.
@@ -55,8 +56,8 @@ impl Part {
     }
 
     /// A part that looks at some cells and has no value.
-    pub(crate) fn without(looks: Vec<Cell>) -> Part
-        ensures { result ≡ record { looks = looks.items; outcome = None; reference = None } }
+    pub(crate) fn without(looks: Looks) -> Part
+        ensures { result ≡ record { looks = looks; outcome = None; reference = None } }
     {
         Part {
             looks,
@@ -70,7 +71,7 @@ impl Part {
         ensures { result ≡ plain value }
     {
         Part {
-            looks: Vec::new(alloc),
+            looks: Looks::new(alloc),
             outcome: Some(value),
             reference: None,
         }

@@ -1,10 +1,11 @@
 // What is known of the values of cells.
-ghost use Rattle.std.specs.Prelude.{◌≡◌, ◌<◌, ◌*◌, IfOk, IfSome, length, map, option_map};
-ghost use Rattle.cell_grids.specs.Full.{IsFullGrid};
+ghost use Rattle.std.specs.Prelude.{[], ◌∷◌, ◌≡◌, ◌<◌, ◌*◌, IfOk, IfSome, flat_map, length, map, option_map};
+ghost use Rattle.cell_refs.specs.Areas.{cells_of};
 ghost use Rattle.recalculation.specs.Looking.{are_known, known_or_empty};
 ghost use Rattle.recalculation.specs.Looks.{elements};
 ghost use Rattle.recalculation.specs.Evaluation.{grid_of_areas, values_in};
 ghost use Rattle.evaluation.specs.Composed.{referred};
+ghost use Rattle.evaluation.specs.Looked.{column_of_areas};
 ghost use Rattle.sheet_model.specs.Operators.{single};
 ghost use Rattle.sheet_model.specs.declared.grid.Arg.TheVariants.{Area as Elements};
 
@@ -63,42 +64,73 @@ pub(crate) fn filled_values<C: Cells>(
     Ok(values)
 }
 
-// The values of a reference to some areas, where all are known. Those of one area alone are asked for together.
-fn reference_values<C: Cells>(
-    alloc: Global,
-    cells: &C,
-    areas: &[Area],
-    reference: &Reference,
-) -> Result<Option<Vec<Value>>, Memory>
-    requires { reference.now ≡ grid_of_areas areas.now }
-    ensures values { IfOk result (λ found. option_map (λ values. values.items) found
-        ≡ elements (C.known cells.now) reference.now.cells) }
-    ensures count { IfOk result (λ found.
-        IfSome found (λ values. length values.items ≡ length reference.now.cells)) }
-    ensures full { IsFullGrid reference.now }
-{
-    let all = reference.cells();
-    match areas {
-        [area] => cells.values(alloc, area),
-        _ => values_of(alloc, cells, all),
-    }
-}
-
-/// The values of a reference to some areas, where all are known.
-#[tactic(auto, using(crate::proofs::Elements::elements_are))]
+/// The values of a reference to some areas, where all are known; out of memory where there are too many.
 pub(crate) fn known_grid<C: Cells>(
     alloc: Global,
     cells: &C,
     areas: &[Area],
-    reference: &Reference,
 ) -> Result<Option<Arg>, Memory>
-    requires { reference.now ≡ grid_of_areas areas.now }
-    ensures { IfOk result (λ found. found ≡ (referred (C.known cells.now) reference.now).outcome) }
+    requires { 0 < length areas.now }
+    ensures { IfOk result (λ found. found
+        ≡ (referred (C.known cells.now) (grid_of_areas areas.now)).outcome) }
 {
-    let Some(values) = reference_values(alloc, cells, areas, reference)? else {
+    if let [area] = areas {
+        return area_grid(alloc, cells, area);
+    }
+    column_grid(alloc, cells, areas)
+}
+
+// The values of an area in its rows and columns.
+#[tactic(auto, using(crate::proofs::Elements::elements_are))]
+fn area_grid<C: Cells>(alloc: Global, cells: &C, area: &Area) -> Result<Option<Arg>, Memory>
+    ensures { IfOk result (λ found. found
+        ≡ (referred (C.known cells.now) (grid_of_areas (area.now ∷ []))).outcome) }
+{
+    let Some(values) = cells.values(alloc, area)? else {
         return Ok(None);
     };
-    Ok(Some(in_grid(reference, values)))
+    let rows = area.bottom() as u32 - area.top() as u32 + 1;
+    let cols = area.right() as u32 - area.left() as u32 + 1;
+    Ok(Some(in_grid(rows, cols, values)))
+}
+
+// The values of some areas in one column.
+#[tactic(auto, using(crate::proofs::Elements::elements_are))]
+fn column_grid<C: Cells>(
+    alloc: Global,
+    cells: &C,
+    areas: &[Area],
+) -> Result<Option<Arg>, Memory>
+    requires { 0 < length areas.now }
+    ensures { IfOk result (λ found. found
+        ≡ (referred (C.known cells.now) (column_of_areas areas.now)).outcome) }
+{
+    let Some(values) = values_of_areas(alloc, cells, areas)? else {
+        return Ok(None);
+    };
+    let Ok(rows) = u32::try_from(values.len()) else {
+        return Err(Memory);
+    };
+    Ok(Some(in_grid(rows, 1, values)))
+}
+
+// The values of the cells of some areas, where all are known. Those of each area are asked for together.
+fn values_of_areas<C: Cells>(
+    alloc: Global,
+    cells: &C,
+    areas: &[Area],
+) -> Result<Option<Vec<Value>>, Memory>
+    ensures { IfOk result (λ found. option_map (λ values. values.items) found
+        ≡ elements (C.known cells.now) (flat_map cells_of areas.now)) }
+{
+    let mut values = Vec::new(alloc);
+    for area in areas {
+        let Some(mut more) = cells.values(alloc, area)? else {
+            return Ok(None);
+        };
+        values.append(&mut more)?;
+    }
+    Ok(Some(values))
 }
 
 /// The values of a reference, and Empty where one isn't known.
@@ -111,20 +143,18 @@ pub(crate) fn filled_grid<C: Cells>(
         ≡ Elements (values_in (known_or_empty (C.known cells.now)) reference.now)) }
 {
     let values = filled_values(alloc, cells, reference.cells())?;
-    Ok(in_grid(reference, values))
+    Ok(in_grid(reference.rows(), reference.cols(), values))
 }
 
-// Values in the rows and columns of a reference.
-fn in_grid(reference: &Reference, values: Vec<Value>) -> Arg
-    requires full { IsFullGrid reference.now }
-    requires count { length values.items ≡ length reference.now.cells }
-    ensures { result ≡ Elements (record {
-      rows = reference.now.rows;
-      columns = reference.now.columns;
-      items = values.items;
-    }) }
+// Values in so many rows and columns.
+fn in_grid(rows: u32, cols: u32, values: Vec<Value>) -> Arg
+    requires some_rows { 0 < rows }
+    requires some_columns { 0 < cols }
+    requires count { length values.items ≡ rows * cols }
+    ensures { result
+        ≡ Elements (record { rows = rows; columns = cols; items = values.items }) }
 {
-    match Grid::new(reference.rows(), reference.cols(), values) {
+    match Grid::new(rows, cols, values) {
         Some(grid) => Arg::Area(grid),
         None => unreachable!(),
     }
@@ -159,8 +189,5 @@ fn one_or_grid(rows: u32, cols: u32, values: Vec<Value>) -> Arg
             return Arg::One(value);
         }
     }
-    match Grid::new(rows, cols, values) {
-        Some(grid) => Arg::Area(grid),
-        None => unreachable!(),
-    }
+    in_grid(rows, cols, values)
 }

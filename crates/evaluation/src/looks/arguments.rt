@@ -3,42 +3,38 @@ ghost use Rattle.std.specs.Prelude.{◌≡◌, ◌++◌, IfOk, IfSome, OnOk, len
 ghost use Rattle.recalculation.specs.Looks.{all_looks, outcomes};
 
 use crate::copy::copy_of;
+use crate::looked::Looks;
 use crate::part::Part;
 use cell_refs::Cell;
 use sheet_model::{Arg, Memory};
 use std::alloc::Global;
 
 /// All that some arguments look at.
-pub(crate) fn all_looks(alloc: Global, args: &[Part]) -> Result<Vec<Cell>, Memory>
-    ensures { IfOk result (λ looks. looks.items ≡ all_looks args.now) }
+pub(crate) fn all_looks(alloc: Global, args: &[Part]) -> Result<Looks, Memory>
+    ensures { IfOk result (λ looks. looks ≡ all_looks args.now) }
 {
-    let mut looks = Vec::new(alloc);
+    let mut looks = Looks::new(alloc);
     push_looks(args, &mut looks)?;
     Ok(looks)
 }
 
-/// A list of the same cells.
-pub(crate) fn copy_cells(alloc: Global, cells: &[Cell]) -> Result<Vec<Cell>, Memory>
-    ensures { IfOk result (λ copies. copies.items ≡ cells.now) }
-{
-    Ok(Vec::from_slice(alloc, cells)?)
-}
-
 /// Puts all that some arguments look at behind other cells.
-pub(crate) fn push_looks(args: &[Part], to: &mut Vec<Cell>) -> Result<(), Memory>
-    ensures { OnOk result (to.new.items ≡ to.old.items ++ all_looks args.now) }
+pub(crate) fn push_looks(args: &[Part], to: &mut Looks) -> Result<(), Memory>
+    ensures { OnOk result (to.new ≡ to.old ++ all_looks args.now) }
 {
     for arg in args {
-        push_all(&arg.looks, to)?;
+        to.extend(&arg.looks)?;
     }
     Ok(())
 }
 
 /// Puts cells behind others.
-pub(crate) fn push_all(cells: &[Cell], to: &mut Vec<Cell>) -> Result<(), Memory>
-    ensures { OnOk result (to.new.items ≡ to.old.items ++ cells.now) }
+pub(crate) fn push_all(cells: &[Cell], to: &mut Looks) -> Result<(), Memory>
+    ensures { OnOk result (to.new ≡ to.old ++ cells.now) }
 {
-    to.extend_from_slice(cells)?;
+    for cell in cells {
+        to.push(*cell)?;
+    }
     Ok(())
 }
 

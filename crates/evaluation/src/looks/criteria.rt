@@ -8,7 +8,8 @@ ghost use Rattle.sheet_funcs.specs.Criteria.{met};
 ghost use Rattle.sheet_model.specs.Grids.{IsFull};
 ghost use Rattle.sheet_model.specs.declared.value.Value.TheVariants.{Error};
 
-use crate::looks::arguments::{all_looks, copy_cells, push_all};
+use crate::looked::Looks;
+use crate::looks::arguments::all_looks;
 use crate::part::Part;
 use cell_grids::Reference;
 use cell_refs::Cell;
@@ -17,18 +18,19 @@ use sheet_model::{Arg, Memory, Value};
 use std::alloc::Global;
 
 /// What SUMIF looks at: the tested grid and the criterion, and then of a reference the cells that are summed.
-pub(crate) fn sumif_looks(alloc: Global, args: &[Part]) -> Result<Vec<Cell>, Memory>
-    ensures { IfOk result (λ looks. looks.items ≡ sumif_looks by_value args.now) }
+pub(crate) fn sumif_looks(alloc: Global, args: &[Part]) -> Result<Looks, Memory>
+    ensures { IfOk result (λ looks. looks ≡ sumif_looks by_value args.now) }
 {
     let [tested, criterion, summed] = args else {
         return all_looks(alloc, args);
     };
-    let Some(grid) = &summed.reference else {
+    let Some(areas) = &summed.reference else {
         return all_looks(alloc, args);
     };
-    let mut looks = copy_cells(alloc, &tested.looks)?;
-    push_all(&criterion.looks, &mut looks)?;
-    push_summed(grid, tested, criterion, &mut looks)?;
+    let grid = areas.grid(alloc)?;
+    let mut looks = tested.looks.copy(alloc)?;
+    looks.extend(&criterion.looks)?;
+    push_summed(&grid, tested, criterion, &mut looks)?;
     Ok(looks)
 }
 
@@ -37,9 +39,9 @@ fn push_summed(
     grid: &Reference,
     tested: &Part,
     criterion: &Part,
-    to: &mut Vec<Cell>,
+    to: &mut Looks,
 ) -> Result<(), Memory>
-    ensures { OnOk result (to.new.items ≡ to.old.items ++ then_cells
+    ensures { OnOk result (to.new ≡ to.old ++ then_cells
         (outcomes (tested.now ∷ criterion.now ∷ [])) (summed_looks by_value grid.now)) }
 {
     let Some(tested) = &tested.outcome else {
@@ -56,9 +58,9 @@ fn push_met(
     grid: &Reference,
     tested: &Arg,
     criterion: &Arg,
-    to: &mut Vec<Cell>,
+    to: &mut Looks,
 ) -> Result<(), Memory>
-    ensures { OnOk result (to.new.items ≡ to.old.items
+    ensures { OnOk result (to.new ≡ to.old
         ++ met_cells grid.now (grid_of tested.now) (no_error (value_of criterion.now))) }
 {
     let Ok(criterion) = value_or_error(criterion) else {
@@ -76,11 +78,11 @@ fn push_met_among(
     criterion: &Value,
     tested: &[Value],
     cells: &[Cell],
-    to: &mut Vec<Cell>,
+    to: &mut Looks,
 ) -> Result<(), Memory>
     requires count { length tested.now ≡ length cells.now }
     requires criterion { (k : ErrorKind) → criterion.now ≢ Error k }
-    ensures { OnOk result (to.new.items ≡ to.old.items ++ met criterion.now tested.now cells.now) }
+    ensures { OnOk result (to.new ≡ to.old ++ met criterion.now tested.now cells.now) }
 {
     for (place, value) in tested.iter().enumerate() {
         if meets(value, criterion) {

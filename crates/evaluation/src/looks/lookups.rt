@@ -11,12 +11,13 @@ ghost use Rattle.sheet_funcs.specs.Within.{IsWithin};
 
 use crate::calls::{narrow_called, whole_part};
 use crate::cells::Cells;
-use crate::looks::arguments::{copy_cells, outcomes, push_all, push_looks};
+use crate::looked::Looks;
+use crate::looks::arguments::{outcomes, push_all, push_looks};
 use crate::looks::picks::picked_part;
 use crate::part::Part;
 use crate::values::values_of;
 use cell_grids::Reference;
-use cell_refs::{Cell, ErrorKind};
+use cell_refs::ErrorKind;
 use formula_ast::Func;
 use sheet_funcs::{Pick, record_at};
 use sheet_model::{Arg, Memory, Value};
@@ -42,7 +43,7 @@ pub(crate) fn lookup_part<C: Cells>(
     let [key, table, rest @ ..] = args else {
         return whole_part(alloc, lookup(across), args);
     };
-    let Some(grid) = &table.reference else {
+    let Some(areas) = &table.reference else {
         let looks = looks_of_all(alloc, table, key, rest)?;
         let outcome = narrow_called(alloc, lookup(across), outcomes(alloc, args)?)?;
         return Ok(Part {
@@ -51,10 +52,11 @@ pub(crate) fn lookup_part<C: Cells>(
             reference: None,
         });
     };
+    let grid = areas.grid(alloc)?;
     if across {
         return record_part(alloc, cells, &grid.transpose(alloc)?, key, rest);
     }
-    record_part(alloc, cells, grid, key, rest)
+    record_part(alloc, cells, &grid, key, rest)
 }
 
 // The function.
@@ -65,11 +67,11 @@ fn lookup(across: bool) -> Func
 }
 
 // All that a table, a key and further arguments look at, in this order.
-fn looks_of_all(alloc: Global, table: &Part, key: &Part, rest: &[Part]) -> Result<Vec<Cell>, Memory>
-    ensures { IfOk result (λ looks. looks.items ≡ all_looks (table.now ∷ key.now ∷ rest.now)) }
+fn looks_of_all(alloc: Global, table: &Part, key: &Part, rest: &[Part]) -> Result<Looks, Memory>
+    ensures { IfOk result (λ looks. looks ≡ all_looks (table.now ∷ key.now ∷ rest.now)) }
 {
-    let mut looks = copy_cells(alloc, &table.looks)?;
-    push_all(&key.looks, &mut looks)?;
+    let mut looks = table.looks.copy(alloc)?;
+    looks.extend(&key.looks)?;
     push_looks(rest, &mut looks)?;
     Ok(looks)
 }
@@ -88,7 +90,7 @@ fn record_part<C: Cells>(
       reference = None;
     }) }
 {
-    let mut looks = copy_cells(alloc, &key.looks)?;
+    let mut looks = key.looks.copy(alloc)?;
     push_looks(rest, &mut looks)?;
     let keys = grid.first_column(alloc)?;
     push_all(&keys, &mut looks)?;
@@ -103,14 +105,14 @@ fn found_part<C: Cells>(
     alloc: Global,
     cells: &C,
     grid: &Reference,
-    looks: Vec<Cell>,
+    looks: Looks,
     keys: &[Value],
     key: &Part,
     rest: &[Part],
 ) -> Result<Part, Memory>
     requires { length keys.now ≡ grid.now.rows }
     ensures { IfOk result (λ part. part ≡ record {
-      looks = looks.items ++ then_cells (outcomes (key.now ∷ rest.now))
+      looks = looks ++ then_cells (outcomes (key.now ∷ rest.now))
           (λ args. picked_cells grid.now (record_pick grid.now.columns keys.now args));
       outcome = option_and_then (λ args. picked_outcome (C.known cells.now) grid.now
           (record_pick grid.now.columns keys.now args)) (outcomes (key.now ∷ rest.now));

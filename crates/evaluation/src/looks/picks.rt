@@ -12,6 +12,7 @@ ghost use Rattle.sheet_funcs.specs.declared.pick.Pick.TheVariants.{Part as Picke
 
 use crate::calls::whole_part;
 use crate::cells::Cells;
+use crate::looked::Looks;
 use crate::looks::arguments::{all_looks, outcomes, push_all};
 use crate::part::Part;
 use crate::values::{single_grid, values_of};
@@ -34,14 +35,16 @@ pub(crate) fn index_part<C: Cells>(alloc: Global, cells: &C, args: &[Part]) -> R
     let [source, places @ ..] = args else {
         return whole_part(alloc, Func::Index, args);
     };
-    let Some(grid) = &source.reference else {
+    let Some(areas) = &source.reference else {
         return whole_part(alloc, Func::Index, args);
     };
     let looks = all_looks(alloc, places)?;
     let Some(at) = outcomes(alloc, places)? else {
         return Ok(Part::without(looks));
     };
-    picked_part(alloc, cells, grid, looks, pick_at(grid, &at))
+    let grid = areas.grid(alloc)?;
+    let pick = pick_at(&grid, &at);
+    picked_part(alloc, cells, &grid, looks, pick)
 }
 
 // What these places pick; other than one or two pick nothing.
@@ -60,12 +63,12 @@ pub(crate) fn picked_part<C: Cells>(
     alloc: Global,
     cells: &C,
     grid: &Reference,
-    looks: Vec<Cell>,
+    looks: Looks,
     pick: Pick,
 ) -> Result<Part, Memory>
     requires { IsWithin grid.now.rows grid.now.columns pick }
     ensures { IfOk result (λ part. part ≡ record {
-      looks = looks.items ++ picked_cells grid.now pick;
+      looks = looks ++ picked_cells grid.now pick;
       outcome = picked_outcome (C.known cells.now) grid.now pick;
       reference = None;
     }) }
