@@ -125,10 +125,10 @@ fn values_of_areas<C: Cells>(
 {
     let mut values = Vec::new(alloc);
     for area in areas {
-        let Some(mut more) = cells.values(alloc, area)? else {
-            return Ok(None);
-        };
-        values.append(&mut more)?;
+        match cells.values(alloc, area)? {
+            Some(mut more) => values.append(&mut more)?,
+            None => return Ok(None),
+        }
     }
     Ok(Some(values))
 }

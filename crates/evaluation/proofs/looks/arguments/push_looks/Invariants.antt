@@ -4,4 +4,4 @@ use Rattle.evaluation.proofs.looks.arguments.push_looks.Given as goal
 
 -- what the arguments so far look at, behind what was there
 abbrev pub invariant-loop-arg : goal.invariant-loop-arg
-invariant-loop-arg l = l.to.items ≡ l.initial.to.items ++ all_looks (take l.arg-index l.args)
+invariant-loop-arg l = l.to ≡ l.initial.to ++ all_looks (take l.arg-index l.args)
