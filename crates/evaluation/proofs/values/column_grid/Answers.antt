@@ -15,4 +15,4 @@ pub returns : goal.returns
 returns g c =
     let known = g.C.Cells.known c.args.cells.now in
     ap Some c.in_grid.ensures
-    ∙ column_is known (flat_map cells_of c.args.areas.now) c.in-Ok.rows c.in-Some.values.items (rw c.in-Some.is at c.in_ok-values.ensures) (c.in-Ok.ensures.1 ∙ c.len.ensures)
+    ∙ column_is known (flat_map cells_of c.args.areas.now) c.in-Ok.rows c.in-Some.values.items (rw c.in-Some.is at c.in_ok-values.ensures) (omega (arith, c.in-Ok.ensures.1, c.len.ensures))

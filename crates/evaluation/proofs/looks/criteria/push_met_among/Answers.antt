@@ -11,10 +11,10 @@ loop-place-preserved c =
     let i = c.loop-place.place in
     elim c.if-meets.branch [
       | then-meets+in_ok-push w ↦
-          taken c.args.criterion.now tested cells i _ c.loop-place.to.items (omega arith) c.requires.count c.loop-place.invariant c.index-tested-place.result c.index-tested-place.is
-          _ c.if-meets.to.items (get_or_default cells i _ _ (omega (arith, c.requires.count))) (sym c.meets.ensures ∙ w.if-meets.true) (ap (λ v. v.items) w.to-is ∙ w.in_ok-push.ensures.items)
+          taken c.args.criterion.now tested cells i _ c.loop-place.to (omega arith) c.requires.count c.loop-place.invariant c.index-tested-place.result c.index-tested-place.is
+          _ c.if-meets.to (get_or_default cells i _ _ (omega (arith, c.requires.count))) (sym c.meets.ensures ∙ w.if-meets.true) (w.to-is ∙ w.in_ok-push.ensures)
       | else-meets w ↦
-          skipped c.args.criterion.now tested cells i _ c.loop-place.to.items (omega arith) c.requires.count c.loop-place.invariant c.index-tested-place.result c.index-tested-place.is
+          skipped c.args.criterion.now tested cells i _ c.loop-place.to (omega arith) c.requires.count c.loop-place.invariant c.index-tested-place.result c.index-tested-place.is
           (sym c.meets.ensures ∙ w.if-meets.false)
-          ∙ ap (λ v. v.items ++ met_among c.args.criterion.now (drop (i + 1) tested) (drop (i + 1) cells)) (sym w.to-is)
+          ∙ ap (λ v. v ++ met_among c.args.criterion.now (drop (i + 1) tested) (drop (i + 1) cells)) (sym w.to-is)
     ]
