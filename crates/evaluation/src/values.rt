@@ -96,11 +96,7 @@ fn area_grid<C: Cells>(alloc: Global, cells: &C, area: &Area) -> Result<Option<A
 
 // The values of some areas in one column.
 #[tactic(auto, using(crate::proofs::Elements::elements_are))]
-fn column_grid<C: Cells>(
-    alloc: Global,
-    cells: &C,
-    areas: &[Area],
-) -> Result<Option<Arg>, Memory>
+fn column_grid<C: Cells>(alloc: Global, cells: &C, areas: &[Area]) -> Result<Option<Arg>, Memory>
     requires { 0 < length areas.now }
     ensures { IfOk result (λ found. found
         ≡ (referred (C.known cells.now) (column_of_areas areas.now)).outcome) }

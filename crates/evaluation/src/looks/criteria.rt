@@ -54,12 +54,7 @@ fn push_summed(
 }
 
 // Puts behind other cells those in the places where a grid of the same size meets the criterion.
-fn push_met(
-    grid: &Reference,
-    tested: &Arg,
-    criterion: &Arg,
-    to: &mut Looks,
-) -> Result<(), Memory>
+fn push_met(grid: &Reference, tested: &Arg, criterion: &Arg, to: &mut Looks) -> Result<(), Memory>
     ensures { OnOk result (to.new ≡ to.old
         ++ met_cells grid.now (grid_of tested.now) (no_error (value_of criterion.now))) }
 {
