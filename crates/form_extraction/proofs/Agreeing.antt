@@ -68,7 +68,7 @@ module _ (f g : Cell → Option Abs) where
 
   sum_alike : (s : Span) (parts : List Part) (tested criterion summed : Part) → OfPart Same summed → calls.sum_over f s parts tested criterion summed ≡ calls.sum_over g s parts tested criterion summed
   sum_alike s parts tested criterion summed h =
-      ap (λ (on : (Source → Outcome) → Outcome). on_part tested (λ a. on_part criterion (λ c. on (λ src. calls.unless_error (Rattle.form_table.specs.Lookups.error_of (Rattle.form_table.specs.Wanted.value_of c)) (calls.sum_at s parts src a c)))))
+      ap (λ (on : (Source → Outcome) → Outcome). on_part tested (λ a. on_part criterion (λ c. on (λ src. calls.unless_error (Rattle.form_table.specs.Lookups.error_of (Rattle.form_table.specs.Wanted.value_of c)) (calls.sum_at s parts src (calls.seen_before summed.reference summed.outcome) a c)))))
       (on_alike summed h)
 
   sumif_alike : (s : Span) (ps : List Part) → AllByRecursion (OfPart Same) ps → calls.sumif_outcome f s ps ≡ calls.sumif_outcome g s ps

@@ -16,4 +16,4 @@ blocks_hold = ((refl, refl), ((refl, refl), ((refl, refl), ((refl, refl), ((refl
 
 pub picks_hold : Hold picks
 unfolding computed eq_ℚ is_narrow is_narrow_sum floor_ℚ power_ℚ
-picks_hold = ((refl, refl), ((refl, refl), ((refl, refl), ((refl, refl), ((refl, refl), ((refl, refl), ((refl, refl), tt)))))))
+picks_hold = ((refl, refl), ((refl, refl), ((refl, refl), ((refl, refl), ((refl, refl), ((refl, refl), ((refl, refl), ((refl, refl), ((refl, refl), ((refl, refl), tt))))))))))

@@ -17,7 +17,7 @@ use Rattle.sheet_funcs.specs.Sums.{total}
 use Rattle.sheet_funcs.specs.Products.{is_of_size}
 use Rattle.sheet_funcs.specs.Criteria.{meets, sum_where, sumif_by, sumif_of}
 use Rattle.sheet_funcs.specs.Arguments as functions
-use Rattle.recalculation.specs.Evaluation.{evaluated, all_evaluated}
+use Rattle.recalculation.specs.Evaluation.{CellGrid, evaluated, all_evaluated}
 use Rattle.affine_forms.specs.Forms.{Assignment}
 use Rattle.form_values.specs.Meaning.{abs_at, arg_at}
 use Rattle.form_values.specs.Trials.{Refusal}
@@ -27,13 +27,14 @@ use Rattle.form_values.specs.declared.abs.AbsArg.{AbsArg}
 use Rattle.form_values.specs.declared.abs.AbsArg.TheVariants.{One, Area}
 use Rattle.form_table.specs.Wanted as wanted
 use Rattle.form_table.specs.Lookups.{known_value, known_keys, error_of}
-use Rattle.form_table.specs.Criteria.{places_from, by_known, met_places, sum_of_elements}
+use Rattle.form_table.specs.Criteria.{places_from, by_known, met_places, sum_of_elements, certain_error, certain_by}
 use Rattle.form_truth.specs.Rows.{IsOutcomeOf, Represents}
 use Rattle.form_truth.proofs.Rows.{summed_is_right}
+use Rattle.form_truth.proofs.CertainSums.{certain_is_summed}
 use Rattle.form_truth.proofs.Varying.{value_known, grid_known}
-use Rattle.form_extraction.specs.Parts.{Gives, Part, on_part, tried_on, outcome_by}
+use Rattle.form_extraction.specs.Parts.{Outcome, Gives, Refused, Without, Part, on_part, tried_on, outcome_by}
 use Rattle.form_extraction.specs.Sources.{Source, on_source, elements_at, taken}
-use Rattle.form_extraction.specs.Calls.{fails, unless_error, sum_at, sum_over, sumif_outcome}
+use Rattle.form_extraction.specs.Calls.{fails, unless_error, seen_before, sum_at, sum_over, sumif_outcome}
 use Rattle.form_extraction.specs.Formulas.{part_of, parts_of}
 use Rattle.form_extraction.proofs.Worth.{IsWorth, Agree, PartIsTrue, ArePartsTrue}
 use Rattle.form_extraction.proofs.Parts.{given_first, tried_first, gives_same}
@@ -130,9 +131,22 @@ same_columns : (x : Assignment) (a : AbsArg) → (grid_of (arg_at x a)).columns 
 same_columns x (One a) = refl
 same_columns x (Area g) = refl
 
+same_items : (x : Assignment) (a : AbsArg) → (grid_of (arg_at x a)).items ≡ map (abs_at x) (wanted.grid_of a).items
+same_items x (One a) = refl
+same_items x (Area g) = refl
+
+-- ---- errors that are certainly summed
+-- an error that is certain by what is seen before is the first among the summed elements
+abbrev IsCertain : Assignment → List Abs → List Value → Type 0
+IsCertain x seen us =
+    (criterion : Value) (tested : List Abs) (k : ErrorKind) → certain_error criterion seen tested ≡ Some k → numbers_among (met_among criterion (map (abs_at x) tested) us) ≡ Err k
+
+nothing_certain : (x : Assignment) (us : List Value) → IsCertain x [] us
+nothing_certain x us criterion tested k e = cc
+
 module _ (x : Assignment) (forms : Cell → Option Abs) (values : Cell → Value) (agree : Agree x forms values) where
   -- ---- the sum over a source
-  module _ (whole : Span) (parts : List Part) (s : Source) (summed : Arg) (m : Matches x s (grid_of summed)) (tested criterion : AbsArg) where
+  module _ (whole : Span) (parts : List Part) (s : Source) (summed : Arg) (m : Matches x s (grid_of summed)) (seen : List Abs) (certain : IsCertain x seen (grid_of summed).items) (tested criterion : AbsArg) where
     abbrev numbers : Value → Calculation Arg
     numbers c = on_ok (numbers_among (met_among c (grid_of (arg_at x tested)).items (grid_of summed).items)) (λ xs. counted (total xs))
 
@@ -153,23 +167,37 @@ module _ (x : Assignment) (forms : Cell → Option Abs) (values : Cell → Value
               ∙ w.same x,
         )
 
-    by_size : (b : Bool) → (a : AbsArg)
-        → (if b then tried_on whole parts (met_places (wanted.grid_of tested).items (wanted.value_of criterion)) (λ places. taken s places (λ items. outcome_by whole parts (sum_of_elements items))) else fails kind.Value) ≡ Gives a
-        → IsWorth x (exact (if b then numbers (abs_at x (wanted.value_of criterion)) else answered (Error kind.Value))) a
-    by_size false a e = error_worth x kind.Value a e
-    by_size true a e =
+    abbrev by_met : Outcome
+    by_met = tried_on whole parts (met_places (wanted.grid_of tested).items (wanted.value_of criterion)) (λ places. taken s places (λ items. outcome_by whole parts (sum_of_elements items)))
+
+    certain_numbers : (c : Option Value) → known_value (wanted.value_of criterion) ≡ c → (k : ErrorKind) → certain_by c seen (wanted.grid_of tested).items ≡ Some k
+        → numbers_among (met_among (abs_at x (wanted.value_of criterion)) (grid_of (arg_at x tested)).items (grid_of summed).items) ≡ Err k
+    certain_numbers None d k e = cc
+    certain_numbers (Some c) d k e =
+        ap₂ (λ c us. numbers_among (met_among c us (grid_of summed).items)) (value_known (wanted.value_of criterion) c d x) (same_items x tested) ∙ certain c (wanted.grid_of tested).items k e
+
+    by_certain : (o : Option ErrorKind) → certain_by (known_value (wanted.value_of criterion)) seen (wanted.grid_of tested).items ≡ o → (a : AbsArg) → unless_error o by_met ≡ Gives a
+        → IsWorth x (exact (numbers (abs_at x (wanted.value_of criterion)))) a
+    by_certain (Some k) d a e =
+        subst (λ r. IsWorth x (exact (on_ok r (λ xs. counted (total xs)))) a) (sym (certain_numbers (known_value (wanted.value_of criterion)) refl k d)) (error_worth x k a e)
+    by_certain None d a e =
         let q = tried_first whole parts (met_places (wanted.grid_of tested).items (wanted.value_of criterion)) (λ places. taken s places (λ items. outcome_by whole parts (sum_of_elements items))) a e in
         by_places q.value (places_known (wanted.grid_of tested).items (wanted.value_of criterion) q.value q.is) a q.goes
+
+    by_size : (b : Bool) → (a : AbsArg) → (if b then unless_error (certain_by (known_value (wanted.value_of criterion)) seen (wanted.grid_of tested).items) by_met else fails kind.Value) ≡ Gives a
+        → IsWorth x (exact (if b then numbers (abs_at x (wanted.value_of criterion)) else answered (Error kind.Value))) a
+    by_size false a e = error_worth x kind.Value a e
+    by_size true a e = by_certain (certain_by (known_value (wanted.value_of criterion)) seen (wanted.grid_of tested).items) refl a e
 
     same_size : is_of_size (grid_of (arg_at x tested)) (grid_of summed) ≡ (((wanted.grid_of tested).rows == s.rows) && ((wanted.grid_of tested).columns == s.columns))
     same_size = ap₂ (λ p q. p && q) (ap₂ ◌==◌ (same_rows x tested) (sym m.rows)) (ap₂ ◌==◌ (same_columns x tested) (sym m.columns))
 
-    sized_true : (a : AbsArg) → sum_at whole parts s tested criterion ≡ Gives a → IsWorth x (exact (sum_where (grid_of (arg_at x tested)) (abs_at x (wanted.value_of criterion)) (grid_of summed))) a
+    sized_true : (a : AbsArg) → sum_at whole parts s seen tested criterion ≡ Gives a → IsWorth x (exact (sum_where (grid_of (arg_at x tested)) (abs_at x (wanted.value_of criterion)) (grid_of summed))) a
     sized_true a e =
         subst (λ b. IsWorth x (exact (if b then numbers (abs_at x (wanted.value_of criterion)) else answered (Error kind.Value))) a) (sym same_size)
         (by_size (((wanted.grid_of tested).rows == s.rows) && ((wanted.grid_of tested).columns == s.columns)) a e)
 
-    by_error : (k : Option ErrorKind) → error_of (wanted.value_of criterion) ≡ k → (a : AbsArg) → unless_error k (sum_at whole parts s tested criterion) ≡ Gives a
+    by_error : (k : Option ErrorKind) → error_of (wanted.value_of criterion) ≡ k → (a : AbsArg) → unless_error k (sum_at whole parts s seen tested criterion) ≡ Gives a
         → IsWorth x (exact (sumif_by (arg_at x tested) (arg_at x criterion) summed)) a
     by_error (Some k) e a h =
         subst (λ v. IsWorth x (exact (on_ok (no_error v) (λ c. sum_where (grid_of (arg_at x tested)) c (grid_of summed)))) a) (sym (value_at x criterion ∙ error_known x (wanted.value_of criterion) k e)) (error_worth x k a h)
@@ -177,18 +205,31 @@ module _ (x : Assignment) (forms : Cell → Option Abs) (values : Cell → Value
         subst (λ r. IsWorth x (exact (on_ok r (λ c. sum_where (grid_of (arg_at x tested)) c (grid_of summed)))) a)
         (sym (ap no_error (value_at x criterion) ∙ no_error_known x (wanted.value_of criterion) e)) (sized_true a h)
 
+  -- what is seen before of a part: nothing of a reference, and else all elements
+  seen_certain : (v : Tree) → PartIsTrue x forms values v → IsCertain x (seen_before (part_of forms v).reference (part_of forms v).outcome) (grid_of (exact (evaluated values v))).items
+  seen_certain v l = by_part (part_of forms v).reference (part_of forms v).outcome (λ a e. l a e)
+    where
+      by_part : (r : Option CellGrid) (o : Outcome) → ((a : AbsArg) → o ≡ Gives a → IsWorth x (exact (evaluated values v)) a) → IsCertain x (seen_before r o) (grid_of (exact (evaluated values v))).items
+      by_part (Some g) o h = nothing_certain x (grid_of (exact (evaluated values v))).items
+      by_part None (Gives a) h =
+          subst (IsCertain x (wanted.grid_of a).items) (sym (ap (λ v. (grid_of v).items) (h a refl).1 ∙ same_items x a))
+          (λ criterion tested k e. certain_is_summed x criterion (wanted.grid_of a).items tested k e)
+      by_part None (Refused at cause) h = nothing_certain x (grid_of (exact (evaluated values v))).items
+      by_part None Without h = nothing_certain x (grid_of (exact (evaluated values v))).items
+
   sum_over_true : (whole : Span) (parts : List Part) (t u v : Tree) → PartIsTrue x forms values t → PartIsTrue x forms values u → PartIsTrue x forms values v → (a : AbsArg)
       → sum_over forms whole parts (part_of forms t) (part_of forms u) (part_of forms v) ≡ Gives a
       → IsWorth x (exact (sumif_by (exact (evaluated values t)) (exact (evaluated values u)) (exact (evaluated values v)))) a
   sum_over_true whole parts t u v h k l a e =
+      let seen = seen_before (part_of forms v).reference (part_of forms v).outcome in
       let p = given_first (part_of forms t).outcome
-      (λ a. on_part (part_of forms u) (λ c. on_source forms (part_of forms v) (λ s. unless_error (error_of (wanted.value_of c)) (sum_at whole parts s a c)))) a e in
-      let q = given_first (part_of forms u).outcome (λ c. on_source forms (part_of forms v) (λ s. unless_error (error_of (wanted.value_of c)) (sum_at whole parts s p.value c))) a p.goes in
-      let o = source_first x forms values agree v l (λ s. unless_error (error_of (wanted.value_of q.value)) (sum_at whole parts s p.value q.value)) a q.goes in
+      (λ a. on_part (part_of forms u) (λ c. on_source forms (part_of forms v) (λ s. unless_error (error_of (wanted.value_of c)) (sum_at whole parts s seen a c)))) a e in
+      let q = given_first (part_of forms u).outcome (λ c. on_source forms (part_of forms v) (λ s. unless_error (error_of (wanted.value_of c)) (sum_at whole parts s seen p.value c))) a p.goes in
+      let o = source_first x forms values agree v l (λ s. unless_error (error_of (wanted.value_of q.value)) (sum_at whole parts s seen p.value q.value)) a q.goes in
       let r = h p.value p.is in
       let w = k q.value q.is in
       subst (λ v. IsWorth x v a) (ap₂ (λ tested criterion. exact (sumif_by tested criterion (exact (evaluated values v)))) (sym r.1) (sym w.1))
-      (by_error whole parts o.source (exact (evaluated values v)) o.matches p.value q.value (error_of (wanted.value_of q.value)) refl a o.goes)
+      (by_error whole parts o.source (exact (evaluated values v)) o.matches seen (seen_certain v l) p.value q.value (error_of (wanted.value_of q.value)) refl a o.goes)
 
   pub sumif_true : (whole : Span) (ts : Trees) → ArePartsTrue x forms values ts → (a : AbsArg) → sumif_outcome forms whole (parts_of forms ts) ≡ Gives a
       → IsWorth x (exact (sumif_of (map exact (all_evaluated values ts)))) a

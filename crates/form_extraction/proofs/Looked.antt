@@ -26,12 +26,12 @@ use Rattle.form_values.specs.declared.abs.AbsArg.TheVariants.{One}
 use Rattle.sheet_funcs.specs.declared.lookups.MatchKind.{MatchKind}
 use Rattle.form_table.specs.Wanted.{Wanted, value_of, number_of, known_number, single, grid_of}
 use Rattle.form_table.specs.Picks.{pick_form}
-use Rattle.form_table.specs.Lookups.{record_form, kinds_in, error_of}
-use Rattle.form_table.specs.Criteria.{met_places, sum_of_elements}
+use Rattle.form_table.specs.Lookups.{record_form, kinds_in, known_value, error_of}
+use Rattle.form_table.specs.Criteria.{met_places, sum_of_elements, certain_by}
 use Rattle.form_extraction.specs.Parts.{Outcome, Gives, Refused, Without, Part, value_in, argument, tried_on, outcome_by, on_outcome, on_part, on_parts}
 use Rattle.form_extraction.specs.Deciding.{given_by, truth_in, is_known_error, place_in, record_picked, record_by, cells_at, summed_by, by_form}
 use Rattle.form_extraction.specs.Sources.{Source, of_cells, in_source, in_turned, elements_at, on_elements, taken, key_places, exchanged}
-use Rattle.form_extraction.specs.Calls.{chosen_or, by_test, by_error, by_place, picked_from, index_outcome, record_from, lookup_by, lookup_outcome, unless_error, sum_at, sumif_outcome, size_of, call_outcome}
+use Rattle.form_extraction.specs.Calls.{chosen_or, by_test, by_error, by_place, picked_from, index_outcome, record_from, lookup_by, lookup_outcome, unless_error, seen_before, sum_at, sumif_outcome, size_of, call_outcome}
 use Rattle.form_extraction.specs.Formulas.{part_of, parts_of, of_forms, signed, turned, joined}
 use Rattle.form_table.specs.Operators.{minus_form, percent_form}
 use Rattle.form_extraction.specs.Laws.{DependsOnLooked}
@@ -334,41 +334,43 @@ module _ (f g : Cell → Option Abs) where
         ∙ elements_then (elements_at (of_cells g grid) places) (λ items. outcome_by s ps (sum_of_elements items)) (λ items. outcome_by s qs (sum_of_elements items))
         (λ items d. spans_same s ps qs q (sum_of_elements items) Gives)
 
-    sized_same : (b : Bool) → All f g (then_cells (if b then option_map (cells_at grid) (given_by (met_places (grid_of a).items c)) else Some []) (λ cells. cells))
-        → (if b then tried_on s ps (met_places (grid_of a).items c) (λ places. taken (of_cells f grid) places (λ items. outcome_by s ps (sum_of_elements items))) else Gives (One (Known (Error kind.Value))))
-        ≡ (if b then tried_on s qs (met_places (grid_of a).items c) (λ places. taken (of_cells g grid) places (λ items. outcome_by s qs (sum_of_elements items))) else Gives (One (Known (Error kind.Value))))
-    sized_same false h = refl
-    sized_same true h =
+    abbrev by_met : (Cell → Option Abs) → List Part → Abs → Outcome
+    by_met forms parts c = tried_on s parts (met_places (grid_of a).items c) (λ places. taken (of_cells forms grid) places (λ items. outcome_by s parts (sum_of_elements items)))
+
+    abbrev sized : (Cell → Option Abs) → List Part → Abs → Bool → Option ErrorKind → Outcome
+    sized forms parts c b o = if b then unless_error o (by_met forms parts c) else Gives (One (Known (Error kind.Value)))
+
+    sized_same : (b : Bool) (o : Option ErrorKind) → All f g (then_cells (if b then option_map (cells_at grid) (given_by (met_places (grid_of a).items c)) else Some []) (λ cells. cells))
+        → sized f ps c b o ≡ sized g qs c b o
+    sized_same false o h = refl
+    sized_same true (Some k) h = refl
+    sized_same true None h =
         spans_same s ps qs q (met_places (grid_of a).items c) (λ places. taken (of_cells f grid) places (λ items. outcome_by s ps (sum_of_elements items)))
         ∙ trial_same s qs (met_places (grid_of a).items c) (λ places. taken (of_cells f grid) places (λ items. outcome_by s ps (sum_of_elements items)))
         (λ places. taken (of_cells g grid) places (λ items. outcome_by s qs (sum_of_elements items)))
         (λ places d. sum_same places (subst (λ o. All f g (then_cells (option_map (cells_at grid) o) (λ cells. cells))) d h))
 
     met_same : (o : Option ErrorKind) → All f g (then_cells (summed_by grid a c o) (λ cells. cells)) → (b : AbsArg) → value_of b ≡ c
-        → unless_error o (sum_at s ps (of_cells f grid) a b) ≡ unless_error o (sum_at s qs (of_cells g grid) a b)
+        → unless_error o (sum_at s ps (of_cells f grid) [] a b) ≡ unless_error o (sum_at s qs (of_cells g grid) [] a b)
     met_same (Some k) h b d = refl
     met_same None h b d =
-        ap (λ c. if ((grid_of a).rows == grid.rows) && ((grid_of a).columns == grid.columns)
-        then tried_on s ps (met_places (grid_of a).items c) (λ places. taken (of_cells f grid) places (λ items. outcome_by s ps (sum_of_elements items)))
-        else Gives (One (Known (Error kind.Value)))) d
-        ∙ sized_same (((grid_of a).rows == grid.rows) && ((grid_of a).columns == grid.columns)) h
-        ∙ sym (ap (λ c. if ((grid_of a).rows == grid.rows) && ((grid_of a).columns == grid.columns)
-        then tried_on s qs (met_places (grid_of a).items c) (λ places. taken (of_cells g grid) places (λ items. outcome_by s qs (sum_of_elements items)))
-        else Gives (One (Known (Error kind.Value)))) d)
+        let size : Bool = ((grid_of a).rows == grid.rows) && ((grid_of a).columns == grid.columns) in
+        let certain : Abs → Option ErrorKind = λ c. certain_by (known_value c) [] (grid_of a).items in
+        ap (λ c. sized f ps c size (certain c)) d ∙ sized_same size (certain c) h ∙ sym (ap (λ c. sized g qs c size (certain c)) d)
 
   -- the sum over a part, by tested and criterion
   abbrev sum_in : (Cell → Option Abs) → Span → Part → List Part → Option CellGrid → Outcome
   sum_in forms s v (p ∷ c ∷ []) r =
-      on_part p (λ a. on_part c (λ b. in_source r forms v (λ src. unless_error (error_of (value_of b)) (sum_at s (p ∷ c ∷ v ∷ []) src a b))))
+      on_part p (λ a. on_part c (λ b. in_source r forms v (λ src. unless_error (error_of (value_of b)) (sum_at s (p ∷ c ∷ v ∷ []) src (seen_before r v.outcome) a b))))
   sum_in forms s v _ r = Without
 
   over_same : (s : Span) (grid : CellGrid) (p c v w : Part) → v.span ≡ w.span → All f g (then_cells (outcomes (map argument (p ∷ c ∷ []))) (summed_looks by_form grid))
       → sum_in f s v (p ∷ c ∷ []) (Some grid) ≡ sum_in g s w (p ∷ c ∷ []) (Some grid)
   over_same s grid p c v w q h =
-      part_same p (λ a. on_part c (λ b. unless_error (error_of (value_of b)) (sum_at s (p ∷ c ∷ v ∷ []) (of_cells f grid) a b)))
-      (λ a. on_part c (λ b. unless_error (error_of (value_of b)) (sum_at s (p ∷ c ∷ w ∷ []) (of_cells g grid) a b)))
-      (λ a d. part_same c (λ b. unless_error (error_of (value_of b)) (sum_at s (p ∷ c ∷ v ∷ []) (of_cells f grid) a b))
-      (λ b. unless_error (error_of (value_of b)) (sum_at s (p ∷ c ∷ w ∷ []) (of_cells g grid) a b))
+      part_same p (λ a. on_part c (λ b. unless_error (error_of (value_of b)) (sum_at s (p ∷ c ∷ v ∷ []) (of_cells f grid) [] a b)))
+      (λ a. on_part c (λ b. unless_error (error_of (value_of b)) (sum_at s (p ∷ c ∷ w ∷ []) (of_cells g grid) [] a b)))
+      (λ a d. part_same c (λ b. unless_error (error_of (value_of b)) (sum_at s (p ∷ c ∷ v ∷ []) (of_cells f grid) [] a b))
+      (λ b. unless_error (error_of (value_of b)) (sum_at s (p ∷ c ∷ w ∷ []) (of_cells g grid) [] a b))
       (λ b e. met_same s grid (p ∷ c ∷ v ∷ []) (p ∷ c ∷ w ∷ []) (ap (λ sp. p.span ∷ c.span ∷ sp ∷ []) q) a (value_of b) (error_of (value_of b))
       (subst (λ o. All f g (then_cells o (summed_looks by_form grid))) (ap₂ both d (ap₂ both e refl)) h) b refl))
 
@@ -411,7 +413,7 @@ module _ (f g : Cell → Option Abs) where
   sumif_two s t u h k =
       let e = all_same (more t (more u none)) h k in (
         ap (λ ps. all_looks (map argument ps)) e,
-        ap (λ (on : (Source → Outcome) → Outcome). on_part (part_of f t) (λ a. on_part (part_of f u) (λ b. on (λ src. unless_error (error_of (value_of b)) (sum_at s (part_of f t ∷ part_of f u ∷ []) src a b)))))
+        ap (λ (on : (Source → Outcome) → Outcome). on_part (part_of f t) (λ a. on_part (part_of f u) (λ b. on (λ src. unless_error (error_of (value_of b)) (sum_at s (part_of f t ∷ part_of f u ∷ []) src (seen_before (part_of f t).reference (part_of f t).outcome) a b)))))
             (by_reference (part_of f t).reference refl) ∙ ap (sumif_outcome g s) e,
       )
     where

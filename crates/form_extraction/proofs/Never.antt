@@ -31,8 +31,8 @@ use Rattle.affine_forms.specs.declared.rel.Rel.{Rel}
 use Rattle.affine_forms.specs.declared.rel.Rel.TheVariants as rel
 use Rattle.form_table.specs.Wanted.{value_of, number_of, known_number, single, grid_of}
 use Rattle.form_table.specs.Picks.{pick_form}
-use Rattle.form_table.specs.Lookups.{record_form, kinds_in, error_of}
-use Rattle.form_table.specs.Criteria.{met_places, sum_of_elements}
+use Rattle.form_table.specs.Lookups.{record_form, kinds_in, known_value, error_of}
+use Rattle.form_table.specs.Criteria.{met_places, sum_of_elements, certain_by}
 use Rattle.form_table.specs.Operators.{infix_form, minus_form, percent_form}
 use Rattle.form_table.specs.Choosing.{if_test}
 use Rattle.form_table.specs.Table.{form_called}
@@ -41,7 +41,7 @@ use Rattle.form_extraction.specs.declared.forms.Why.{Why}
 use Rattle.form_extraction.specs.Parts.{Outcome, Gives, Refused, Without, Part, tried, tried_on, outcome_by, on_outcome, on_part, on_parts}
 use Rattle.form_extraction.specs.Deciding.{is_known_error, place_in}
 use Rattle.form_extraction.specs.Sources.{Source, of_cells, of_raster, in_source, on_source, in_turned, on_turned, element, elements_at, on_elements, taken, part_places, exchanged}
-use Rattle.form_extraction.specs.Calls.{chosen_or, on_branch, both_branches, by_test, by_error, by_place, fails, raster, picked_from, record_from, lookup_by, lookup_outcome, unless_error, sum_at, sum_over, sumif_outcome, size_of, call_outcome}
+use Rattle.form_extraction.specs.Calls.{chosen_or, on_branch, both_branches, by_test, by_error, by_place, fails, raster, picked_from, record_from, lookup_by, lookup_outcome, unless_error, seen_before, sum_at, sum_over, sumif_outcome, size_of, call_outcome}
 use Rattle.form_extraction.specs.Formulas.{part_of, parts_of, of_forms}
 use Rattle.form_extraction.specs.Laws.{CircularWhereCircle}
 use Rattle.form_extraction.specs.Looked.{forms_of}
@@ -185,21 +185,28 @@ module _ (forms : Cell → Option Abs) (total : (c : Cell) → (b : Abs) × (for
       (λ k. turned_never cells turned kept q h.1.0 _
       (λ src t. taken_never src t _ _ (λ keys. parts_never ps h.1.1 (λ args. lookup_by s (p ∷ q ∷ ps) src keys (k ∷ args)) (λ args. lookup_never s (p ∷ q ∷ ps) src t keys (k ∷ args))))) e
 
-  sum_never : (s : Span) (ps : List Part) (src : Source) → IsTotal src → (a c : AbsArg) (o : Option ErrorKind) → Never (unless_error o (sum_at s ps src a c))
-  sum_never s ps src h a c (Some k) e = gives_never _ e
-  sum_never s ps src h a c None e = by (((grid_of a).rows == src.rows) && ((grid_of a).columns == src.columns)) e
+  sum_never : (s : Span) (ps : List Part) (src : Source) → IsTotal src → (seen : List Abs) (a c : AbsArg) (o : Option ErrorKind) → Never (unless_error o (sum_at s ps src seen a c))
+  sum_never s ps src h seen a c (Some k) e = gives_never _ e
+  sum_never s ps src h seen a c None e = by (((grid_of a).rows == src.rows) && ((grid_of a).columns == src.columns)) e
     where
-      by : (b : Bool) → Never (if b then tried_on s ps (met_places (grid_of a).items (value_of c)) (λ places. taken src places (λ items. outcome_by s ps (sum_of_elements items))) else fails kind.Value)
-      by true e =
+      abbrev by_met : Outcome
+      by_met = tried_on s ps (met_places (grid_of a).items (value_of c)) (λ places. taken src places (λ items. outcome_by s ps (sum_of_elements items)))
+
+      by_certain : (o : Option ErrorKind) → Never (unless_error o by_met)
+      by_certain (Some k) e = gives_never _ e
+      by_certain None e =
           trial_never s ps (met_places (grid_of a).items (value_of c)) (λ places. taken src places (λ items. outcome_by s ps (sum_of_elements items)))
           (λ places. taken_never src h places (λ items. outcome_by s ps (sum_of_elements items)) (λ items. trial_never s ps (sum_of_elements items) Gives gives_never)) e
+
+      by : (b : Bool) → Never (if b then unless_error (certain_by (known_value (value_of c)) seen (grid_of a).items) by_met else fails kind.Value)
+      by true e = by_certain (certain_by (known_value (value_of c)) seen (grid_of a).items) e
       by false e = gives_never _ e
 
   over_never : (s : Span) (ps : List Part) (p q v : Part) → HasForm p → HasForm q → HasForm v → Never (sum_over forms s ps p q v)
   over_never s ps p q v h k l =
-      first_never p.outcome (λ a. on_part q (λ c. on_source forms v (λ src. unless_error (error_of (value_of c)) (sum_at s ps src a c)))) h
-      (λ a. first_never q.outcome (λ c. on_source forms v (λ src. unless_error (error_of (value_of c)) (sum_at s ps src a c))) k
-      (λ c. source_never v l (λ src. unless_error (error_of (value_of c)) (sum_at s ps src a c)) (λ src t. sum_never s ps src t a c (error_of (value_of c)))))
+      first_never p.outcome (λ a. on_part q (λ c. on_source forms v (λ src. unless_error (error_of (value_of c)) (sum_at s ps src (seen_before v.reference v.outcome) a c)))) h
+      (λ a. first_never q.outcome (λ c. on_source forms v (λ src. unless_error (error_of (value_of c)) (sum_at s ps src (seen_before v.reference v.outcome) a c))) k
+      (λ c. source_never v l (λ src. unless_error (error_of (value_of c)) (sum_at s ps src (seen_before v.reference v.outcome) a c)) (λ src t. sum_never s ps src t (seen_before v.reference v.outcome) a c (error_of (value_of c)))))
 
   sumif_never : (s : Span) (ps : List Part) → HaveForms ps → Never (sumif_outcome forms s ps)
   sumif_never s [] h e = gives_never _ e

@@ -38,8 +38,8 @@ use Rattle.form_values.specs.declared.abs.AbsArg.TheVariants.{One, Area}
 use Rattle.form_table.specs.Wanted.{value_of, number_of, grid_of}
 use Rattle.form_table.specs.Items.{item_at, form_in, first_error}
 use Rattle.form_table.specs.Picks.{pick_form}
-use Rattle.form_table.specs.Lookups.{record_form, kinds_in, error_of}
-use Rattle.form_table.specs.Criteria.{met_places, sum_of_elements}
+use Rattle.form_table.specs.Lookups.{record_form, kinds_in, known_value, error_of}
+use Rattle.form_table.specs.Criteria.{met_places, sum_of_elements, certain_by}
 use Rattle.form_table.specs.Products.{or_fault}
 use Rattle.form_truth.specs.Picks.{IsPick, IsRecord, first_column}
 use Rattle.form_truth.specs.Rows.{ArgumentVaries}
@@ -51,7 +51,7 @@ use Rattle.form_extraction.specs.declared.forms.Why.{Why}
 use Rattle.form_extraction.specs.declared.forms.Why.TheVariants as why
 use Rattle.form_extraction.specs.Parts.{Outcome, Gives, Refused, Part, span_at, outcome_by, on_part, on_parts, tried_on}
 use Rattle.form_extraction.specs.Sources.{Source, of_cells, of_raster, element, elements_at, on_source, in_turned, on_turned, taken, part_places, key_places}
-use Rattle.form_extraction.specs.Calls.{fails, raster, picked_from, index_outcome, record_from, lookup_by, lookup_outcome, unless_error, sum_at, sum_over, sumif_outcome, size_of}
+use Rattle.form_extraction.specs.Calls.{fails, raster, picked_from, index_outcome, record_from, lookup_by, lookup_outcome, unless_error, seen_before, sum_at, sum_over, sumif_outcome, size_of}
 use Rattle.form_extraction.specs.Formulas.{part_of, parts_of}
 use Rattle.form_extraction.specs.Refuted.{IsPart, in_call, IsAmong, first, later, IsRefuted}
 use Rattle.form_extraction.proofs.Worth.{Agree}
@@ -380,18 +380,32 @@ module _ (forms : Cell → Option Abs) (values : Assignment → Cell → Value) 
             tree_refuted u c l there_u (subst (λ b. Varies (λ x. arg_at x b)) same y.varies) at (sym second_span ∙ e) cause w
         by (suc (suc i)) y e = let n : ◌≡◌ {A = Option AbsArg} None (Some y.argument) = y.is_there in cc
 
+    abbrev by_met : AbsArg → AbsArg → Source → Outcome
+    by_met a c g = tried_on s (parts_of forms ts) (met_places (grid_of a).items (value_of c)) (λ places. taken g places (summed_of g))
+
+    uncertain : (a c : AbsArg) → IsOf forms values agree t a → IsOf forms values agree u c → (g : Source) (at : Span) (cause : Why) (o : Option ErrorKind) → unless_error o (by_met a c g) ≡ Refused at cause
+        → IsRefuted values sum at cause
+    uncertain a c k l g at cause (Some n) e = absurd (gives_never _ at cause e)
+    uncertain a c k l g at cause None e = places_own a c k l g at cause (tried_own s (parts_of forms ts) (met_places (grid_of a).items (value_of c)) (λ places. taken g places (summed_of g)) at cause e)
+
+    abbrev seen : List Abs
+    seen = seen_before (part_of forms v).reference (part_of forms v).outcome
+
+    abbrev certain : AbsArg → AbsArg → Option ErrorKind
+    certain a c = certain_by (known_value (value_of c)) seen (grid_of a).items
+
     sized : (a c : AbsArg) → IsOf forms values agree t a → IsOf forms values agree u c → (g : Source) (at : Span) (cause : Why) (b : Bool)
-        → (if b then tried_on s (parts_of forms ts) (met_places (grid_of a).items (value_of c)) (λ places. taken g places (summed_of g)) else fails kind.Value) ≡ Refused at cause → IsRefuted values sum at cause
-    sized a c k l g at cause true e = places_own a c k l g at cause (tried_own s (parts_of forms ts) (met_places (grid_of a).items (value_of c)) (λ places. taken g places (summed_of g)) at cause e)
+        → (if b then unless_error (certain a c) (by_met a c g) else fails kind.Value) ≡ Refused at cause → IsRefuted values sum at cause
+    sized a c k l g at cause true e = uncertain a c k l g at cause (certain a c) e
     sized a c k l g at cause false e = absurd (gives_never _ at cause e)
 
-    unless : (a c : AbsArg) → IsOf forms values agree t a → IsOf forms values agree u c → (g : Source) (at : Span) (cause : Why) (o : Option ErrorKind) → unless_error o (sum_at s (parts_of forms ts) g a c) ≡ Refused at cause
+    unless : (a c : AbsArg) → IsOf forms values agree t a → IsOf forms values agree u c → (g : Source) (at : Span) (cause : Why) (o : Option ErrorKind) → unless_error o (sum_at s (parts_of forms ts) g seen a c) ≡ Refused at cause
         → IsRefuted values sum at cause
     unless a c k l g at cause (Some e) h = absurd (gives_never _ at cause h)
     unless a c k l g at cause None h = sized a c k l g at cause (((grid_of a).rows == g.rows) && ((grid_of a).columns == g.columns)) h
 
     abbrev of_source : AbsArg → AbsArg → Source → Outcome
-    of_source a c g = unless_error (error_of (value_of c)) (sum_at s (parts_of forms ts) g a c)
+    of_source a c g = unless_error (error_of (value_of c)) (sum_at s (parts_of forms ts) g seen a c)
 
     summed_first : (a c : AbsArg) → IsOf forms values agree t a → IsOf forms values agree u c → (at : Span) (cause : Why) → IsRefuted values v at cause ⊎ Behind (IsSourceOf forms values agree v) (of_source a c) at cause
         → IsRefuted values sum at cause

@@ -143,6 +143,12 @@ picks =
     example (tree.Call (span 1 24) func.SumIf (trees ((tree.Reference (span 7 12) (Listed (area 0 4 2 4) ∷ [])) ∷ (tree.Text (span 13 17) (62 ∷ 49 ∷ [])) ∷ (tree.Reference (span 18 23) (Listed (area 0 5 2 5) ∷ [])) ∷ []))) (Form (Affine (affine (whole 0) ((1, whole 1) ∷ (2, whole 1) ∷ [])))) (cell 0 4 ∷ cell 1 4 ∷ cell 2 4 ∷ cell 1 5 ∷ cell 2 5 ∷ []) ∷
     -- =SUMIF(E1:E3;A2;F1:F3)
     example (tree.Call (span 1 22) func.SumIf (trees ((tree.Reference (span 7 12) (Listed (area 0 4 2 4) ∷ [])) ∷ (tree.Reference (span 13 15) (Listed (area 1 0 1 0) ∷ [])) ∷ (tree.Reference (span 16 21) (Listed (area 0 5 2 5) ∷ [])) ∷ []))) (Refused (span 13 15) why.Undecided) (cell 0 4 ∷ cell 1 4 ∷ cell 2 4 ∷ cell 1 0 ∷ []) ∷
+    -- =SUMIF(A2:C2;">1";1/{1;0;0})
+    example (tree.Call (span 1 28) func.SumIf (trees ((tree.Reference (span 7 12) (Listed (area 1 0 1 2) ∷ [])) ∷ (tree.Text (span 13 17) (62 ∷ 49 ∷ [])) ∷ (tree.Infix (span 18 27) op.Div (tree.Number (span 18 19) (whole 1)) (tree.Array (span 20 27) 1 3 (trees ((tree.Number (span 21 22) (whole 1)) ∷ (tree.Number (span 23 24) (whole 0)) ∷ (tree.Number (span 25 26) (whole 0)) ∷ [])))) ∷ []))) (Form (Known (Error kind.Div0))) (cell 1 0 ∷ cell 1 1 ∷ cell 1 2 ∷ []) ∷
+    -- =SUMIF(A2:C2;">1";1/{0;1;1})
+    example (tree.Call (span 1 28) func.SumIf (trees ((tree.Reference (span 7 12) (Listed (area 1 0 1 2) ∷ [])) ∷ (tree.Text (span 13 17) (62 ∷ 49 ∷ [])) ∷ (tree.Infix (span 18 27) op.Div (tree.Number (span 18 19) (whole 1)) (tree.Array (span 20 27) 1 3 (trees ((tree.Number (span 21 22) (whole 0)) ∷ (tree.Number (span 23 24) (whole 1)) ∷ (tree.Number (span 25 26) (whole 1)) ∷ [])))) ∷ []))) (Refused (span 7 12) why.Undecided) (cell 1 0 ∷ cell 1 1 ∷ cell 1 2 ∷ []) ∷
+    -- =SUMIF(A2:C2;">1";A3:C3)
+    example (tree.Call (span 1 24) func.SumIf (trees ((tree.Reference (span 7 12) (Listed (area 1 0 1 2) ∷ [])) ∷ (tree.Text (span 13 17) (62 ∷ 49 ∷ [])) ∷ (tree.Reference (span 18 23) (Listed (area 2 0 2 2) ∷ [])) ∷ []))) (Refused (span 7 12) why.Undecided) (cell 1 0 ∷ cell 1 1 ∷ cell 1 2 ∷ []) ∷
     -- =SUMPRODUCT(A2:B2;E1:E2)
     example (tree.Call (span 1 24) func.SumProduct (trees ((tree.Reference (span 12 17) (Listed (area 1 0 1 1) ∷ [])) ∷ (tree.Reference (span 18 23) (Listed (area 0 4 1 4) ∷ [])) ∷ []))) (Form (Known (Error kind.Value))) (cell 1 0 ∷ cell 1 1 ∷ cell 0 4 ∷ cell 1 4 ∷ []) ∷
     -- =MMULT(A2:B2;E1:E2)
