@@ -189,16 +189,14 @@ module _ (forms : Cell → Option Abs) (total : (c : Cell) → (b : Abs) × (for
   sum_never s ps src h seen a c (Some k) e = gives_never _ e
   sum_never s ps src h seen a c None e = by (((grid_of a).rows == src.rows) && ((grid_of a).columns == src.columns)) e
     where
-      abbrev by_met : Outcome
-      by_met = tried_on s ps (met_places (grid_of a).items (value_of c)) (λ places. taken src places (λ items. outcome_by s ps (sum_of_elements items)))
-
-      by_certain : (o : Option ErrorKind) → Never (unless_error o by_met)
+      by_certain : (o : Option ErrorKind) → Never (unless_error o (tried_on s ps (met_places (grid_of a).items (value_of c)) (λ places. taken src places (λ items. outcome_by s ps (sum_of_elements items)))))
       by_certain (Some k) e = gives_never _ e
       by_certain None e =
           trial_never s ps (met_places (grid_of a).items (value_of c)) (λ places. taken src places (λ items. outcome_by s ps (sum_of_elements items)))
           (λ places. taken_never src h places (λ items. outcome_by s ps (sum_of_elements items)) (λ items. trial_never s ps (sum_of_elements items) Gives gives_never)) e
 
-      by : (b : Bool) → Never (if b then unless_error (certain_by (known_value (value_of c)) seen (grid_of a).items) by_met else fails kind.Value)
+      by : (b : Bool)
+          → Never (if b then unless_error (certain_by (known_value (value_of c)) seen (grid_of a).items) (tried_on s ps (met_places (grid_of a).items (value_of c)) (λ places. taken src places (λ items. outcome_by s ps (sum_of_elements items)))) else fails kind.Value)
       by true e = by_certain (certain_by (known_value (value_of c)) seen (grid_of a).items) e
       by false e = gives_never _ e
 
