@@ -23,7 +23,7 @@ pub(crate) enum Source<'a> {
 
 impl Source<'_> {
     ghost use Rattle.std.specs.Prelude.{◌≡◌, ◌<◌, ◌++◌, OnOk};
-    ghost use Rattle.form_calls.specs.Sources.{cells_in, columns_of, rows_of};
+    ghost use Rattle.form_calls.specs.Sources.{cells_in, columns_of, rows_of, seen_of};
 
     /// How many rows it has.
     pub(crate) fn rows(&self) -> u32
@@ -44,6 +44,16 @@ impl Source<'_> {
         match self {
             Source::Cells(grid) => grid.cols(),
             Source::Values(arg) => size_of(arg).1,
+        }
+    }
+
+    /// Its elements that are looked at before it is known which are picked: of a reference none are.
+    pub(crate) fn seen(&self) -> &[Abs]
+        ensures { result.now ≡ seen_of self.now }
+    {
+        match self {
+            Source::Cells(_) => &[],
+            Source::Values(arg) => arg.elements(),
         }
     }
 
