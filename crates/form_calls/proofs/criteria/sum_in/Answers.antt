@@ -19,10 +19,8 @@ returns-in-Ok-places_met g c =
     let e : error_of (value_of q) ≡ None = ap error_of (sym is) ∙ c.in-Ok.ensures.1 in
     let r : (grid_of a).rows ≡ rows_of s = let t = c.size_of-rows.ensures.rows in let n = c.rows.ensures.count in let f = c.if-rows.false in cc in
     let d : (grid_of a).columns ≡ columns_of s = let t = c.size_of-rows.ensures.columns in let n = c.cols.ensures.count in let f = c.if-cols.false in cc in
-    let n : certain_by (known_value (value_of q)) (seen_of s) (grid_of a).items ≡ None =
-    let t = c.in_default.ensures in let b = c.seen.ensures in let l = c.elements.ensures in let h = elements_same a in cc in
-    let m : narrow (met_places (grid_of a).items (value_of q)) ≡ Some (Ok places) =
-    ap₂ (λ items v. narrow (met_places items v)) (sym (c.elements-2.ensures ∙ elements_same a)) (sym is) ∙ c.in-Ok-places_met.ensures ∙ ap (λ places. Some (Ok places)) (sym c.deref.ensures.value) in
+    let n : certain_by (known_value (value_of q)) (seen_of s) (grid_of a).items ≡ None = let t = c.in_default.ensures in let b = c.seen.ensures in let l = c.elements.ensures in let h = elements_same a in cc in
+    let m : narrow (met_places (grid_of a).items (value_of q)) ≡ Some (Ok places) = ap₂ (λ items v. narrow (met_places items v)) (sym (c.elements-2.ensures ∙ elements_same a)) (sym is) ∙ c.in-Ok-places_met.ensures ∙ ap (λ places. Some (Ok places)) (sym c.deref.ensures.value) in
     subst (λ v. IfOk c.sum_at.result (λ part. part ≡ v))
     (ap₂ (λ cells o. record { span = c.args.whole; looks = c.args.looks.items ++ cells; outcome = o; reference = None })
     (cells_placed (rows_of s) (columns_of s) a (value_of q) places e r d m (cells_seen c.args.seen s))
