@@ -1,5 +1,5 @@
 -- The sum of SUMIF and the cells that it looks at, by the grid that is summed.
-use Rattle.std.proofs.Common.{◌≡◌, ◌&&◌, ◌==◌, refl, sym, ap, ap₂, ◌∙◌, Bool, true, false, if◌then◌else◌, arith, ℕ, List, [], ◌∷◌, Option, Some, None, Ok}
+use Rattle.std.proofs.Common.{◌≡◌, ◌&&◌, ◌==◌, refl, sym, ap, ap₂, ◌∙◌, Bool, true, false, if◌then◌else◌, arith, ℕ, List, [], Option, Some, None, Ok}
 use Rattle.std.proofs.lemmas.Bool.Decides.{nat_tests}
 use Rattle.calculations.specs.Calculation.{narrow}
 use Rattle.cell_refs.specs.declared.cell.Cell.{Cell}
