@@ -6,7 +6,7 @@ use Rattle.std.proofs.lemmas.List.{map-append}
 use Rattle.std.proofs.lemmas.List.FromFn.{map-range_with_len_more}
 use Rattle.cell_refs.specs.declared.cell.Cell.{Cell}
 use Rattle.cell_refs.specs.Areas.{Area, area_height, area_len, area_width, cell_at, cells_of}
-use Rattle.cell_grids.specs.AreaRows.{row_cells}
+use Rattle.cell_grids.specs.AreaRows.{cell_of_row, row_cells}
 use Rattle.cell_grids.proofs.AreaRows.{one_row_more}
 use Rattle.evaluation.proofs.Elements.{elements_are}
 use Rattle.recalculation.specs.Looking.{are_known, known_or_empty, or_empty}
@@ -96,6 +96,17 @@ module _ (f : Cell → Option Value) where
     pub all_values : (i : ℕ) (values : List Value) → i ≡ area_height a → are_known f (rows i) ≡ true → values ≡ map (known_or_empty f) (rows i) → Some values ≡ elements f (cells_of a)
     all_values i values at h e =
         ap Some (e ∙ ap (λ n. map (known_or_empty f) (rows n)) at) ∙ sym (elements_are f (cells_of a) ∙ ap (λ b. cond b (Some (map (known_or_empty f) (cells_of a))) None) (ap (λ n. are_known f (rows n)) (sym at) ∙ h))
+
+    -- ---- a row of one cell
+    alone : (row : ℕ) → a.further_columns ≡ 0 → row_cells a row ≡ cell_of_row a row 0 ∷ []
+    alone row e = ap (λ n. map (cell_of_row a row) (range_with_len 0 (n + 1))) e
+
+    pub known_alone : (row : ℕ) → a.further_columns ≡ 0 → are_known f (row_cells a row) ≡ is_some (f (cell_of_row a row 0))
+    known_alone row e = ap (are_known f) (alone row e) ∙ one_alone (cell_of_row a row 0)
+
+    pub value_alone : (row : ℕ) (values : List Value) → a.further_columns ≡ 0
+        → values ++ or_empty (f (cell_of_row a row 0)) ∷ [] ≡ values ++ map (known_or_empty f) (row_cells a row)
+    value_alone row values e = ap (λ cells. values ++ map (known_or_empty f) cells) (sym (alone row e))
 
   -- ---- one cell after the other
   pub some_unknown : (a : Area) (place : ℕ) → place < area_len a → are_known f (map (cell_at a) (range_with_len 0 place)) ≡ true → is_some (f (cell_at a place)) ≡ false → None ≡ elements f (cells_of a)

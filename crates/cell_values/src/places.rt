@@ -1,9 +1,9 @@
 // A number for each cell.
-ghost use Rattle.std.specs.Prelude.{◌≡◌, ◌<◌, ◌==◌, [], OnOk, if◌then◌else◌, get_or, length, option_map, unwrap_or, ℕ};
+ghost use Rattle.std.specs.Prelude.{◌≡◌, ◌<◌, ◌==◌, [], OnOk, if◌then◌else◌, get_or, length, ℕ};
 ghost use Rattle.std.specs.BTreeMap.{is_at};
 ghost use Rattle.cell_refs.specs.declared.cell.Cell.{Cell};
 ghost use Rattle.cell_refs.specs.Cells.{cell_cmp};
-ghost use Rattle.cell_values.specs.Places.{in_rows, place_in, row_in};
+ghost use Rattle.cell_values.specs.Places.{in_rows, place_in};
 
 use cell_refs::{Cell, SheetId};
 use memory::Memory;
@@ -44,12 +44,14 @@ impl Places {
         }
     }
 
-    /// The numbers of a row, where it has some.
-    pub(crate) fn row(&self, sheet: SheetId, row: u16) -> Option<&RowPlaces>
-        ensures { unwrap_or (option_map (λ r. r.now) result) [] ≡ row_in self.now sheet.0 row }
+    /// The numbers of the rows of a sheet.
+    pub(crate) fn rows(&self, sheet: SheetId) -> &[RowPlaces]
+        ensures { result.now ≡ get_or self.now sheet.0 [] }
     {
-        let sheet = self.sheets.get(sheet.0 as usize)?;
-        sheet.rows.get(row as usize)
+        match self.sheets.get(sheet.0 as usize) {
+            Some(sheet) => &sheet.rows,
+            None => &[],
+        }
     }
 
     /// Puts a cell's number in place of what it had.
@@ -99,8 +101,8 @@ impl SheetPlaces {
     }
 
     fn put(&mut self, row: u16, col: u16, place: u32) -> Result<(), Memory>
-        ensures { OnOk result ((r c : ℕ) → in_rows self.new r c
-            ≡ (if r == row then (if c == col then place else in_rows self.old r c) else in_rows self.old r c)) }
+        ensures { OnOk result ((r c : ℕ) → in_rows self.new r c ≡ (if r == row
+            then (if c == col then place else in_rows self.old r c) else in_rows self.old r c)) }
     {
         let alloc = *self.rows.allocator();
         let number = row as usize;

@@ -95,13 +95,33 @@ impl<'a> Values<'a> {
         ensures values { IfOk result (λ known. known ≡ true → to.new.items
             ≡ to.old.items ++ map (known_or_empty (value_at self.now)) (row_cells area.now row)) }
     {
-        let places = self.places.row(area.sheet(), row);
+        let places = self.places.rows(area.sheet()).get(row as usize);
         for col in area.left()..area.right() + 1 {
             if !self.push_known(alloc, place_in_row(places, col), to)? {
                 return Ok(false);
             }
         }
         Ok(true)
+    }
+
+    // The values of the cells of an area of one column, if all are known.
+    fn column(&self, alloc: Global, area: &Area) -> Result<Option<Vec<Value>>, Memory>
+        requires { area.now.further_columns ≡ 0 }
+        ensures values { IfOk result (λ found. option_map (λ values. values.items) found
+            ≡ elements (value_at self.now) (cells_of area.now)) }
+        ensures count { IfOk result (λ found.
+            IfSome found (λ values. length values.items ≡ length (cells_of area.now))) }
+    {
+        let rows = self.places.rows(area.sheet());
+        let col = area.left();
+        let mut values = Vec::new(alloc);
+        values.reserve(area.len() as usize)?;
+        for row in area.top()..area.bottom() + 1 {
+            if !self.push_known(alloc, place_in_row(rows.get(row as usize), col), &mut values)? {
+                return Ok(None);
+            }
+        }
+        Ok(Some(values))
     }
 
     // Puts the value at a place of the list behind others, if there is one.
@@ -111,6 +131,7 @@ impl<'a> Values<'a> {
             → to.new.items ≡ to.old.items ++ or_empty (value_in_list self.now place) ∷ []) }
     {
         match self.known.get(place as usize) {
+            Some(Known::Value(Value::Number(number))) => to.push(Value::Number(*number))?,
             Some(Known::Value(value)) => to.push(value.copy(alloc)?)?,
             Some(Known::Text(text)) => {
                 to.push(Value::Text(Text::new(String::from_str(alloc, text)?)))?;
@@ -163,6 +184,9 @@ impl Cells for Values<'_> {
         ensures count { IfOk result (λ found.
             IfSome found (λ values. length values.items ≡ length (cells_of area.now))) }
     {
+        if area.left() == area.right() {
+            return self.column(alloc, area);
+        }
         let mut values = Vec::new(alloc);
         values.reserve(area.len() as usize)?;
         for row in area.top()..area.bottom() + 1 {
