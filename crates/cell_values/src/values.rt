@@ -95,7 +95,8 @@ impl<'a> Values<'a> {
         ensures values { IfOk result (λ known. known ≡ true → to.new.items
             ≡ to.old.items ++ map (known_or_empty (value_at self.now)) (row_cells area.now row)) }
     {
-        let places = self.places.rows(area.sheet()).get(row as usize);
+        let rows = self.places.rows(area.sheet());
+        let places = row_at(rows, row);
         for col in area.left()..area.right() + 1 {
             if !self.push_known(alloc, place_in_row(places, col), to)? {
                 return Ok(false);
@@ -117,7 +118,7 @@ impl<'a> Values<'a> {
         let mut values = Vec::new(alloc);
         values.reserve(area.len() as usize)?;
         for row in area.top()..area.bottom() + 1 {
-            if !self.push_known(alloc, place_in_row(rows.get(row as usize), col), &mut values)? {
+            if !self.push_known(alloc, place_in_row(row_at(rows, row), col), &mut values)? {
                 return Ok(None);
             }
         }
@@ -150,6 +151,13 @@ impl<'a> Values<'a> {
             Some(Known::Value(_)) | Some(Known::Text(_)) => true,
         }
     }
+}
+
+// The numbers of a row, where it has some.
+fn row_at(rows: &[RowPlaces], row: u16) -> Option<&RowPlaces>
+    ensures { unwrap_or (option_map (λ r. r.now) result) [] ≡ get_or rows.now row [] }
+{
+    rows.get(row as usize)
 }
 
 // The place of the cell in a column, in a row that may have none.

@@ -1,4 +1,4 @@
-use Rattle.std.proofs.Common.{◌≡◌, ◌≤◌, ◌∙◌, ◌+◌, ◌-◌, ◌++◌, ◌∷◌, [], ap, arith, map, sym, true, false}
+use Rattle.std.proofs.Common.{get_or, ◌≡◌, ◌≤◌, ◌∙◌, ◌+◌, ◌-◌, ◌++◌, ◌∷◌, [], ap, arith, map, sym, false}
 use Rattle.std.specs.Prelude.{is_some}
 use Rattle.cell_refs.specs.Areas.{area_height}
 use Rattle.cell_grids.specs.AreaRows.{cell_of_row}
@@ -18,7 +18,7 @@ returns-then-not-branch-clause-values c =
     let at : c.args.area.now.top + i ≡ c.loop-row.row = omega (arith, top, from) in
     let within : i + 1 ≤ area_height c.args.area.now = omega (arith, top, bottom, from, before) in
     let seen : value_in_list c.args.self.now c.place_in_row.result ≡ value_at c.args.self.now (cell_of_row c.args.area.now c.loop-row.row 0) =
-    read_at c.args.self.now _ c.place_in_row.result c.left-col.result 0 c.loop-row.row c.sheet.result c.args.area.now c.place_in_row.ensures c.rows.ensures c.sheet.ensures (omega (arith, c.left-col.ensures.value)) in
+    read_at c.args.self.now _ c.place_in_row.result c.left-col.result 0 c.loop-row.row c.sheet.result c.args.area.now c.place_in_row.ensures (c.row_at.ensures ∙ ap (λ rows. get_or rows c.loop-row.row []) c.rows-rows.ensures) c.sheet.ensures (omega (arith, c.left-col.ensures.value)) in
     let unknown : are_known (value_at c.args.self.now) (rows (value_at c.args.self.now) c.args.area.now (i + 1)) ≡ false =
     known_row (value_at c.args.self.now) c.args.area.now i c.loop-row.row at c.loop-row.invariant.known
     ∙ known_alone (value_at c.args.self.now) c.args.area.now c.loop-row.row c.requires ∙ ap is_some (sym seen) ∙ sym c.in_ok-push_known.ensures.known ∙ c.if-not-branch.true in
@@ -32,7 +32,7 @@ loop-row-preserved c =
     let at : c.args.area.now.top + i ≡ c.loop-row.row = omega (arith, top, from) in
     let next : i + 1 ≡ c.loop-row.row + 1 - c.args.area.now.top = omega (arith, top, from) in
     let seen : value_in_list c.args.self.now c.place_in_row.result ≡ value_at c.args.self.now (cell_of_row c.args.area.now c.loop-row.row 0) =
-    read_at c.args.self.now _ c.place_in_row.result c.left-col.result 0 c.loop-row.row c.sheet.result c.args.area.now c.place_in_row.ensures c.rows.ensures c.sheet.ensures (omega (arith, c.left-col.ensures.value)) in
+    read_at c.args.self.now _ c.place_in_row.result c.left-col.result 0 c.loop-row.row c.sheet.result c.args.area.now c.place_in_row.ensures (c.row_at.ensures ∙ ap (λ rows. get_or rows c.loop-row.row []) c.rows-rows.ensures) c.sheet.ensures (omega (arith, c.left-col.ensures.value)) in
     record {
       known = ap (λ n. are_known (value_at c.args.self.now) (rows (value_at c.args.self.now) c.args.area.now n)) (sym next)
           ∙ known_row (value_at c.args.self.now) c.args.area.now i c.loop-row.row at c.loop-row.invariant.known

@@ -1,4 +1,4 @@
-use Rattle.std.proofs.Common.{◌≡◌, ◌≤◌, ◌∙◌, ◌+◌, ◌-◌, ◌++◌, ◌∷◌, [], ap, arith, map, sym, false, true}
+use Rattle.std.proofs.Common.{get_or, ◌≡◌, ◌≤◌, ◌∙◌, ◌+◌, ◌-◌, ◌++◌, ◌∷◌, [], ap, arith, map, sym, false, true}
 use Rattle.std.specs.Prelude.{is_some}
 use Rattle.cell_refs.specs.Areas.{area_width}
 use Rattle.cell_grids.specs.AreaRows.{cell_of_row, first_of_row}
@@ -16,7 +16,7 @@ returns-then-not-branch-clause-known c =
     let from = c.loop-col.auto.col in
     let at : c.args.area.now.left + n ≡ c.loop-col.col = omega (arith, left, from) in
     let seen : value_in_list c.args.self.now c.place_in_row.result ≡ value_at c.args.self.now (cell_of_row c.args.area.now c.args.row n) =
-    read_at c.args.self.now _ c.place_in_row.result c.loop-col.col n c.args.row c.sheet.result c.args.area.now c.place_in_row.ensures c.row-places.ensures c.sheet.ensures at in
+    read_at c.args.self.now _ c.place_in_row.result c.loop-col.col n c.args.row c.sheet.result c.args.area.now c.place_in_row.ensures (c.row_at-places.ensures ∙ ap (λ rows. get_or rows c.args.row []) c.rows-rows.ensures) c.sheet.ensures at in
     let before = c.loop-col-test.true in
     let within : n + 1 ≤ area_width c.args.area.now = omega (arith, left, right, from, before) in
     let unknown : is_some (value_at c.args.self.now (cell_of_row c.args.area.now c.args.row n)) ≡ false = ap is_some (sym seen) ∙ sym c.in_ok-push_known.ensures.known ∙ c.if-not-branch.true in
@@ -30,7 +30,7 @@ loop-col-preserved c =
     let from = c.loop-col.auto.col in
     let at : c.args.area.now.left + n ≡ c.loop-col.col = omega (arith, left, from) in
     let seen : value_in_list c.args.self.now c.place_in_row.result ≡ value_at c.args.self.now (cell_of_row c.args.area.now c.args.row n) =
-    read_at c.args.self.now _ c.place_in_row.result c.loop-col.col n c.args.row c.sheet.result c.args.area.now c.place_in_row.ensures c.row-places.ensures c.sheet.ensures at in
+    read_at c.args.self.now _ c.place_in_row.result c.loop-col.col n c.args.row c.sheet.result c.args.area.now c.place_in_row.ensures (c.row_at-places.ensures ∙ ap (λ rows. get_or rows c.args.row []) c.rows-rows.ensures) c.sheet.ensures at in
     let next : n + 1 ≡ c.loop-col.col + 1 - c.args.area.now.left = omega (arith, left, from) in
     let known : is_some (value_at c.args.self.now (cell_of_row c.args.area.now c.args.row n)) ≡ true = ap is_some (sym seen) ∙ sym c.in_ok-push_known.ensures.known ∙ c.if-not-branch.false in
     record {
