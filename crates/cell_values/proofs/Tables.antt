@@ -11,8 +11,12 @@ use Rattle.cell_refs.specs.Cells.{cell_cmp}
 use Rattle.cell_values.specs.declared.values.Known.{Known}
 use Rattle.cell_values.specs.declared.values.Known.TheVariants as known
 use Rattle.cell_values.specs.declared.values.Values.{Values}
-use Rattle.cell_values.specs.Places.{place_in, row_in}
+use Rattle.cell_values.specs.Places.{place_in}
 use Rattle.cell_values.specs.Values.{IsTable, known_value, value_at, value_in_list}
+
+-- the numbers of a row
+abbrev row_in : List (List (List ℕ)) → ℕ → ℕ → List ℕ
+row_in sheets sheet row = get_or (get_or sheets sheet []) row []
 
 -- the value at the place that stands in a row and a column
 pub read_at : (t : Values) (numbers : List ℕ) (place col n row : ℕ) (sheet : SheetId) (a : Area) → place ≡ get_or numbers col 0 → numbers ≡ row_in t.places sheet.0 row → sheet ≡ a.sheet

@@ -6,10 +6,6 @@ use Rattle.cell_refs.specs.declared.cell.Cell.{Cell}
 abbrev pub in_rows : List (List ℕ) → ℕ → ℕ → ℕ
 in_rows rows row col = get_or (get_or rows row []) col 0
 
--- the numbers of a row
-abbrev pub row_in : List (List (List ℕ)) → ℕ → ℕ → List ℕ
-row_in sheets sheet row = get_or (get_or sheets sheet []) row []
-
 -- the number of a cell
 abbrev pub place_in : List (List (List ℕ)) → Cell → ℕ
 place_in sheets q = in_rows (get_or sheets q.sheet.0 []) q.row q.col

@@ -105,7 +105,7 @@ impl<'a> Values<'a> {
         Ok(true)
     }
 
-    // The values of the cells of an area of one column, if all are known.
+    // The values of the cells of an area of one column, if all are known. It has a loop of its own for speed: sums are mostly of columns.
     fn column(&self, alloc: Global, area: &Area) -> Result<Option<Vec<Value>>, Memory>
         requires { area.now.further_columns ≡ 0 }
         ensures values { IfOk result (λ found. option_map (λ values. values.items) found
@@ -132,6 +132,7 @@ impl<'a> Values<'a> {
             → to.new.items ≡ to.old.items ++ or_empty (value_in_list self.now place) ∷ []) }
     {
         match self.known.get(place as usize) {
+            // a number is the most frequent, and is copied without a call
             Some(Known::Value(Value::Number(number))) => to.push(Value::Number(*number))?,
             Some(Known::Value(value)) => to.push(value.copy(alloc)?)?,
             Some(Known::Text(text)) => {

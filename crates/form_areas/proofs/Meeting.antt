@@ -23,7 +23,7 @@ use Rattle.form_values.specs.declared.abs.Abs.TheVariants.{Known}
 use Rattle.form_values.specs.declared.abs.AbsArg.{AbsArg}
 use Rattle.form_values.specs.declared.abs.AbsArg.TheVariants as arg
 use Rattle.form_values.specs.declared.refusal.OpRefusal.{OpRefusal}
-use Rattle.form_table.specs.Criteria.{by_known, certain_by, met_places, places_from, sum_of_elements}
+use Rattle.form_table.specs.Criteria.{by_known, summed_error_by, met_places, places_from, sum_of_elements}
 use Rattle.form_table.specs.Items.{first_error, item_at}
 use Rattle.form_table.specs.Lookups.{known_value}
 use Rattle.form_table.specs.Products.{error_among, is_of_size, or_fault}
@@ -95,7 +95,7 @@ abbrev sum_by : Bool → Option ErrorKind → List Abs → Abs → List Abs → 
 sum_by b o tested criterion summed =
     if b then or_fault o (and_then (met_places tested criterion) (λ places. sum_of_elements (picked summed places))) else one (fault kind.Value)
 
-pub where_given : (g h : Raster) (criterion : Abs) (v : Value) (r : Result Abs OpRefusal) → is_of_size g h ≡ true → None ≡ certain_by (known_value criterion) h.items g.items → list_all is_known g.items ≡ true → criterion ≡ Known v
+pub where_given : (g h : Raster) (criterion : Abs) (v : Value) (r : Result Abs OpRefusal) → is_of_size g h ≡ true → None ≡ summed_error_by (known_value criterion) h.items g.items → list_all is_known g.items ≡ true → criterion ≡ Known v
     → length g.items ≡ length h.items → Answers (sum_of (met v g.items h.items)) r → Answers (sum_where g criterion h) (result_map_both arg.One (λ s. s) r)
 where_given g h criterion v r size uncertain known is same answer =
     same_answers (one (sum_of (met v g.items h.items))) (sum_where g criterion h) (result_map_both arg.One (λ s. s) r)

@@ -30,7 +30,7 @@ use Rattle.form_values.specs.declared.abs.Abs.TheVariants.{Known, Affine, Test}
 use Rattle.form_values.specs.declared.abs.AbsArg.{AbsArg}
 use Rattle.form_values.specs.declared.abs.AbsArg.TheVariants.{One, Area}
 use Rattle.form_values.specs.declared.refusal.OpRefusal.{OpRefusal}
-use Rattle.form_table.specs.Criteria.{by_known, places_from, sum_of_elements, certain_by, certain_error}
+use Rattle.form_table.specs.Criteria.{by_known, places_from, sum_of_elements, summed_error_by, summed_error}
 use Rattle.form_table.specs.Lookups.{error_of, known_keys, known_value}
 use Rattle.form_table.specs.Products.{error_among, is_of_size, or_fault}
 use Rattle.form_table.specs.Wanted.{grid_of, unless, value_of}
@@ -191,7 +191,7 @@ module _ (args : List AbsArg) (tested criterion summed : AbsArg) (first : slice_
     picked_sum = and_then (by_known (known_keys (grid_of tested).items) (known_value (value_of criterion))) (λ places. sum_of_elements (picked (grid_of summed).items places))
 
     module _ (of_size : is_of_size (grid_of tested) (grid_of summed) ≡ true) where
-      certain_sum : (c : Value) (k : ErrorKind) → known_value (value_of criterion) ≡ Some c → certain_error c (grid_of summed).items (grid_of tested).items ≡ Some k → (x : Assignment) → value x ≡ arg.One (Error k)
+      certain_sum : (c : Value) (k : ErrorKind) → known_value (value_of criterion) ≡ Some c → summed_error c (grid_of summed).items (grid_of tested).items ≡ Some k → (x : Assignment) → value x ≡ arg.One (Error k)
       certain_sum c k known e x =
           value_is no_fault x
           ∙ ap (λ b. exact (summed_where b (abs_at x (value_of criterion)) (functions.grid_of (arg_at x tested)).items (functions.grid_of (arg_at x summed)).items)) of_size
@@ -199,17 +199,17 @@ module _ (args : List AbsArg) (tested criterion summed : AbsArg) (first : slice_
           ∙ ap₂ (λ (g h : Rectangle). exact (numbers c g.items h.items)) (grid_is x tested) (grid_is x summed)
           ∙ ap (λ r. exact (on_ok r (λ xs. counted (sums.total xs)))) (certain_is_summed x c (grid_of summed).items (grid_of tested).items k e)
 
-      certain_known : (c : Option Value) (k : ErrorKind) → known_value (value_of criterion) ≡ c → certain_by c (grid_of summed).items (grid_of tested).items ≡ Some k → (x : Assignment) → value x ≡ arg.One (Error k)
+      certain_known : (c : Option Value) (k : ErrorKind) → known_value (value_of criterion) ≡ c → summed_error_by c (grid_of summed).items (grid_of tested).items ≡ Some k → (x : Assignment) → value x ≡ arg.One (Error k)
       certain_known None k known e = cc
       certain_known (Some c) k known e = certain_sum c k known e
 
-      by_certain : (o : Option ErrorKind) → certain_by (known_value (value_of criterion)) (grid_of summed).items (grid_of tested).items ≡ o → IsOutcomeOf value args (exact (or_fault o picked_sum))
+      by_certain : (o : Option ErrorKind) → summed_error_by (known_value (value_of criterion)) (grid_of summed).items (grid_of tested).items ≡ o → IsOutcomeOf value args (exact (or_fault o picked_sum))
       by_certain (Some k) e = record { sound = (tt, tt); same = certain_known (known_value (value_of criterion)) k refl e }
       by_certain None e = by_keys of_size (known_keys (grid_of tested).items) refl (known_value (value_of criterion)) refl
 
     by_size : (b : Bool) → is_of_size (grid_of tested) (grid_of summed) ≡ b
-        → IsOutcomeOf value args (exact (if b then or_fault (certain_by (known_value (value_of criterion)) (grid_of summed).items (grid_of tested).items) picked_sum else one (fault kind.Value)))
-    by_size true s = by_certain s (certain_by (known_value (value_of criterion)) (grid_of summed).items (grid_of tested).items) refl
+        → IsOutcomeOf value args (exact (if b then or_fault (summed_error_by (known_value (value_of criterion)) (grid_of summed).items (grid_of tested).items) picked_sum else one (fault kind.Value)))
+    by_size true s = by_certain s (summed_error_by (known_value (value_of criterion)) (grid_of summed).items (grid_of tested).items) refl
     by_size false s = record {
       sound = (tt, tt);
       same = λ x.

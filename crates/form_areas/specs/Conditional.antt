@@ -1,5 +1,6 @@
 -- SUMIF (OpenDocument 1.2 part 2, section 6.16.62) on open values: the numbers in the places where a known grid meets a known
--- criterion are added, and the other elements are not looked at.
+-- criterion are added, and the other elements are not looked at; an error that is certainly the first of what is summed is the result
+-- before that.
 use Rattle.std.specs.Prelude.{ℕ, if◌then◌else◌, List, [], ◌∷◌, map, slice_index_or}
 use Rattle.cell_refs.specs.declared.error_kind.ErrorKind.TheVariants as kind
 use Rattle.sheet_model.specs.declared.value.Value.TheVariants.{Empty}
@@ -11,17 +12,18 @@ use Rattle.form_values.specs.declared.abs.AbsArg.{AbsArg}
 use Rattle.form_table.specs.Wanted.{value_of, grid_of}
 use Rattle.form_table.specs.Lookups.{known_value, error_of}
 use Rattle.form_table.specs.Products.{or_fault, is_of_size}
-use Rattle.form_table.specs.Criteria.{met_places, sum_of_elements, certain_by}
+use Rattle.form_table.specs.Criteria.{met_places, sum_of_elements, summed_error_by}
 
 -- the elements in some places
 abbrev pub picked : List Abs → List ℕ → List Abs
 picked items places = map (λ place. slice_index_or items place (Known Empty)) places
 
--- the sum of the elements of one grid in the places where another of its size meets a criterion, or the error that certainly is
+-- the sum of the elements of one grid in the places where another of its size meets a criterion, or the error that is
+-- certainly the first of these
 abbrev pub sum_where : Raster → Abs → Raster → Trial AbsArg
 sum_where tested criterion summed =
     if is_of_size tested summed
-    then or_fault (certain_by (known_value criterion) summed.items tested.items)
+    then or_fault (summed_error_by (known_value criterion) summed.items tested.items)
     (and_then (met_places tested.items criterion) (λ places. sum_of_elements (picked summed.items places)))
     else one (fault kind.Value)
 

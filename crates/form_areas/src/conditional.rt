@@ -24,7 +24,7 @@ ghost use Rattle.sheet_funcs.specs.Criteria.{meets};
 
 use crate::grids::{full_elements, is_of_size};
 use crate::items::add_element;
-use crate::met_places::certain_error;
+use crate::met_places::summed_error;
 use crate::values::value_or_error;
 use affine_forms::{Form, FormStop};
 use cell_refs::ErrorKind;
@@ -36,8 +36,8 @@ use sheet_model::Value;
 use std::alloc::Global;
 
 /// SUMIF: the sum of the numbers of the third grid, or of the first where there is no third, in the places where the first meets
-/// the criterion. The first grid and the criterion have to be known; the other elements of the third grid count for nothing. An error
-/// that is summed whatever the open elements of the first grid hold is the result all the same.
+/// the criterion. The first grid and the criterion have to be known; the other elements of the third grid count for nothing. Where
+/// elements of the first grid are open, an error that is the first among the summed ones whatever these hold is the result.
 pub fn sumif(alloc: Global, args: &[AbsArg]) -> Result<AbsArg, OpRefusal>
     requires takes { Takes func.SumIf (length args.now) }
     ensures answer { Answers (sumif_form args.now) result }
@@ -87,7 +87,7 @@ fn sum_where(
     if !is_of_size(tested, summed) {
         return Ok(AbsArg::One(fault(ErrorKind::Value)));
     }
-    if let Some(kind) = certain_error(criterion, full_elements(summed), full_elements(tested)) {
+    if let Some(kind) = summed_error(criterion, full_elements(summed), full_elements(tested)) {
         return Ok(AbsArg::One(fault(kind)));
     }
     if !tested.is_known() {
@@ -135,12 +135,22 @@ fn error_met(criterion: &Value, tested: &[Abs], summed: &[Abs]) -> Option<ErrorK
     None
 }
 
-/// The error that an element is, if it is asked for.
-pub(crate) fn error_where(asked: bool, item: &Abs) -> Option<ErrorKind>
+// The error that an element is, if it is asked for.
+fn error_where(asked: bool, item: &Abs) -> Option<ErrorKind>
     ensures { result ≡ (if asked then error_of item.now else None) }
 {
+    if !asked {
+        return None;
+    }
+    error_of(item)
+}
+
+/// The error that an element is.
+pub(crate) fn error_of(item: &Abs) -> Option<ErrorKind>
+    ensures { result ≡ error_of item.now }
+{
     match item {
-        Abs::Known(Value::Error(kind)) if asked => Some(*kind),
+        Abs::Known(Value::Error(kind)) => Some(*kind),
         _ => None,
     }
 }

@@ -20,7 +20,7 @@ pub use grids::size_of;
 pub use indexing::index_at;
 pub use lookups::lookup_at;
 pub use matrices::{mmult, transpose, transpose_elements};
-pub use met_places::{certain_error, places_met, sum_elements};
+pub use met_places::{places_met, sum_elements, summed_error};
 pub use products::sumproduct;
 pub use records::record_at;
 pub use sums::{average, count, sum};

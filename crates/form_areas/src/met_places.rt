@@ -1,18 +1,18 @@
 // The parts of SUMIF where not all of the summed grid is read: the places that meet the criterion, the sum of the elements there, and
-// the error that certainly is summed.
+// the error that is the first of these whatever the open elements of the tested grid hold.
 ghost use Rattle.std.specs.Prelude.{◌≡◌, IfOk, None, map};
 ghost use Rattle.std.specs.List.{filter_map, list_all};
 ghost use Rattle.std.specs.Result.{result_map_both};
 ghost use Rattle.affine_forms.specs.Answers as forms;
 ghost use Rattle.affine_forms.specs.Steps.{total};
-ghost use Rattle.form_table.specs.Criteria.{certain_beside, certain_by, certain_error, if_same, met_places, places_from, sum_of_elements};
+ghost use Rattle.form_table.specs.Criteria.{certain_beside, summed_error_by, summed_error, if_same, met_places, places_from, sum_of_elements};
 ghost use Rattle.form_table.specs.Items.{form_in, item_at};
 ghost use Rattle.form_table.specs.Lookups.{error_of, known_value};
 ghost use Rattle.form_values.specs.Known.{is_known, value_in};
 ghost use Rattle.form_values.specs.Trials.{Answers};
 ghost use Rattle.form_values.specs.declared.abs.Abs.TheVariants.{Known};
 
-use crate::conditional::{error_where, is_met};
+use crate::conditional::{error_of, is_met};
 use crate::items::{add_elements, error_among};
 use affine_forms::{Form, FormStop};
 use cell_refs::ErrorKind;
@@ -80,26 +80,26 @@ fn total_of(alloc: Global, items: &[Abs]) -> Result<Form, FormStop>
 }
 
 /// The error that is the first among the summed elements whatever the open elements of the tested grid hold, if there is such a one.
-pub fn certain_error(criterion: &Abs, summed: &[Abs], tested: &[Abs]) -> Option<ErrorKind>
+pub fn summed_error(criterion: &Abs, summed: &[Abs], tested: &[Abs]) -> Option<ErrorKind>
     requires { error_of criterion.now ≡ None }
-    ensures { result ≡ certain_by (known_value criterion.now) summed.now tested.now }
+    ensures { result ≡ summed_error_by (known_value criterion.now) summed.now tested.now }
 {
-    match criterion {
-        Abs::Known(criterion) => certain_among(criterion, summed, tested),
-        Abs::Affine(_) | Abs::Test(_, _) => None,
-    }
+    let Abs::Known(criterion) = criterion else {
+        return None;
+    };
+    summed_error_among(criterion, summed, tested)
 }
 
 // The same by a known criterion, from the last place to the first.
-fn certain_among(criterion: &Value, summed: &[Abs], tested: &[Abs]) -> Option<ErrorKind>
+fn summed_error_among(criterion: &Value, summed: &[Abs], tested: &[Abs]) -> Option<ErrorKind>
     requires { error_of (Known criterion.now) ≡ None }
-    ensures { result ≡ certain_error criterion.now summed.now tested.now }
+    ensures { result ≡ summed_error criterion.now summed.now tested.now }
 {
     let mut certain = None;
     let mut place = summed.len().min(tested.len());
     while place > 0 {
         place -= 1;
-        let error = error_where(true, &summed[place]);
+        let error = error_of(&summed[place]);
         certain = certain_beside(criterion, &tested[place], error, certain);
     }
     certain

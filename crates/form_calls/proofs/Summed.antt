@@ -11,7 +11,7 @@ use Rattle.form_values.specs.declared.abs.Abs.{Abs}
 use Rattle.form_values.specs.declared.abs.AbsArg.{AbsArg}
 use Rattle.form_values.specs.declared.abs.AbsArg.TheVariants.{One, Area}
 use Rattle.form_values.specs.Meaning.{elements_of}
-use Rattle.form_table.specs.Criteria.{certain_by, met_places, sum_of_elements}
+use Rattle.form_table.specs.Criteria.{summed_error_by, met_places, sum_of_elements}
 use Rattle.form_table.specs.Lookups.{known_value, error_of}
 use Rattle.form_table.specs.Wanted.{grid_of, value_of}
 use Rattle.form_extraction.specs.Calls.{fails, seen_before, sum_at, sum_over, unless_error}
@@ -86,14 +86,14 @@ module _ (rows columns : ℕ) (a : AbsArg) (q : Abs) (places : List ℕ) (e : er
       ∙ ap (λ o. then_cells (given_of o) f) m)
 
 pub sum_placed : (whole : Span) (ps : List Part) (s : grids.Source) (seen : List Abs) (a q : AbsArg) (places : List ℕ) → error_of (value_of q) ≡ None
-    → (grid_of a).rows ≡ s.rows → (grid_of a).columns ≡ s.columns → certain_by (known_value (value_of q)) seen (grid_of a).items ≡ None
+    → (grid_of a).rows ≡ s.rows → (grid_of a).columns ≡ s.columns → summed_error_by (known_value (value_of q)) seen (grid_of a).items ≡ None
     → narrow (met_places (grid_of a).items (value_of q)) ≡ Some (Ok places)
     → taken s places (λ items. outcome_by whole ps (sum_of_elements items)) ≡ unless_error (error_of (value_of q)) (sum_at whole ps s seen a q)
 sum_placed whole ps s seen a q places e r d n m =
     let summed : List ℕ → Outcome = λ places. taken s places (λ items. outcome_by whole ps (sum_of_elements items)) in
     let by_met : Outcome = tried_on whole ps (met_places (grid_of a).items (value_of q)) summed in
     sym (ap (λ o. unless_error o (sum_at whole ps s seen a q)) e
-    ∙ ap (λ b. if b then unless_error (certain_by (known_value (value_of q)) seen (grid_of a).items) by_met else fails kind.Value) (same_size s.rows s.columns a (value_of q) places e r d m)
+    ∙ ap (λ b. if b then unless_error (summed_error_by (known_value (value_of q)) seen (grid_of a).items) by_met else fails kind.Value) (same_size s.rows s.columns a (value_of q) places e r d m)
     ∙ ap (λ o. unless_error o by_met) n
     ∙ ap (tried whole ps summed) m)
 

@@ -24,9 +24,9 @@ items_of forms (Cells g) = map forms g.now.cells
 items_of forms (Values a) = map Some (grid_of a.now).items
 
 -- the elements that are looked at before it is known which are picked: of a reference none are
-abbrev pub seen_of : Source → List Abs
-seen_of (Cells g) = []
-seen_of (Values a) = (grid_of a.now).items
+abbrev pub read_before : Source → List Abs
+read_before (Cells g) = []
+read_before (Values a) = (grid_of a.now).items
 
 abbrev pub source_of : (Cell → Option Abs) → Source → grids.Source
 source_of forms s = record { rows = rows_of s; columns = columns_of s; items = items_of forms s }

@@ -1,7 +1,7 @@
 // SUMIF.
 ghost use Rattle.std.specs.Prelude.{◌≡◌, ◌++◌, [], ◌∷◌, IfOk, None, OnOk, if◌then◌else◌, is_some, map};
 ghost use Rattle.form_calls.specs.Criteria.{cells_seen, met_unless, sum_cells};
-ghost use Rattle.form_calls.specs.Sources.{columns_of, rows_of, seen_of, source_of};
+ghost use Rattle.form_calls.specs.Sources.{columns_of, rows_of, read_before, source_of};
 ghost use Rattle.form_extraction.specs.Calls.{sum_at, sum_over, sumif_outcome, unless_error};
 ghost use Rattle.form_extraction.specs.Deciding.{by_form};
 ghost use Rattle.form_extraction.specs.Parts.{argument, outcome_by};
@@ -14,7 +14,7 @@ ghost use Rattle.recalculation.specs.Looks.{all_looks, sum_looks, sumif_looks, t
 use crate::ends::{error_part, miscounted_part, refused_part, valueless_part};
 use crate::source::{Source, elements_at};
 use cell_refs::{Cell, ErrorKind, Span};
-use form_areas::{certain_error, places_met, size_of, sum_elements, value_or_error};
+use form_areas::{places_met, size_of, sum_elements, summed_error, value_or_error};
 use form_extraction::Outcome;
 use form_parts::{FormsOfCells, Part, all_looks, outcome_by, push_cells};
 use form_values::{Abs, AbsArg};
@@ -134,7 +134,7 @@ fn sum_part<C: FormsOfCells>(
     )
 }
 
-// The sum over a grid by the values of the tested grid and of the criterion, or the error that certainly is among what is summed.
+// The sum over a grid by the values of the tested grid and of the criterion, or the error that is certainly the first of what is summed.
 fn sum_in<C: FormsOfCells>(
     alloc: Global,
     forms: &C,
@@ -152,7 +152,7 @@ fn sum_in<C: FormsOfCells>(
           ++ then_cells (met_unless (error_of (value_of criterion.now)) (rows_of source.now)
           (columns_of source.now) tested.now (value_of criterion.now)) (cells_seen seen source.now);
       outcome = unless_error (error_of (value_of criterion.now)) (sum_at whole args.now
-          (source_of (C.forms forms.now) source.now) (seen_of source.now) tested.now criterion.now);
+          (source_of (C.forms forms.now) source.now) (read_before source.now) tested.now criterion.now);
       reference = None;
     }) }
 {
@@ -164,7 +164,7 @@ fn sum_in<C: FormsOfCells>(
     if rows != source.rows() || cols != source.cols() {
         return Ok(error_part(whole, looks, ErrorKind::Value));
     }
-    if let Some(kind) = certain_error(criterion, source.seen(), tested.elements()) {
+    if let Some(kind) = summed_error(criterion, source.read_before(), tested.elements()) {
         return Ok(error_part(whole, looks, kind));
     }
     match places_met(alloc, tested.elements(), criterion) {

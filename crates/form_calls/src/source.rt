@@ -23,7 +23,7 @@ pub(crate) enum Source<'a> {
 
 impl Source<'_> {
     ghost use Rattle.std.specs.Prelude.{◌≡◌, ◌<◌, ◌++◌, OnOk};
-    ghost use Rattle.form_calls.specs.Sources.{cells_in, columns_of, rows_of, seen_of};
+    ghost use Rattle.form_calls.specs.Sources.{cells_in, columns_of, rows_of, read_before};
 
     /// How many rows it has.
     pub(crate) fn rows(&self) -> u32
@@ -48,8 +48,8 @@ impl Source<'_> {
     }
 
     /// Its elements that are looked at before it is known which are picked: of a reference none are.
-    pub(crate) fn seen(&self) -> &[Abs]
-        ensures { result.now ≡ seen_of self.now }
+    pub(crate) fn read_before(&self) -> &[Abs]
+        ensures { result.now ≡ read_before self.now }
     {
         match self {
             Source::Cells(_) => &[],

@@ -27,7 +27,7 @@ use Rattle.form_values.specs.declared.abs.AbsArg.{AbsArg}
 use Rattle.form_values.specs.declared.abs.AbsArg.TheVariants.{One, Area}
 use Rattle.form_table.specs.Wanted as wanted
 use Rattle.form_table.specs.Lookups.{known_value, known_keys, error_of}
-use Rattle.form_table.specs.Criteria.{places_from, by_known, met_places, sum_of_elements, certain_error, certain_by}
+use Rattle.form_table.specs.Criteria.{places_from, by_known, met_places, sum_of_elements, summed_error, summed_error_by}
 use Rattle.form_truth.specs.Rows.{IsOutcomeOf, Represents}
 use Rattle.form_truth.proofs.Rows.{summed_is_right}
 use Rattle.form_truth.proofs.CertainSums.{certain_is_summed}
@@ -139,7 +139,7 @@ same_items x (Area g) = refl
 -- an error that is certain by what is seen before is the first among the summed elements
 abbrev IsCertain : Assignment → List Abs → List Value → Type 0
 IsCertain x seen us =
-    (criterion : Value) (tested : List Abs) (k : ErrorKind) → certain_error criterion seen tested ≡ Some k → numbers_among (met_among criterion (map (abs_at x) tested) us) ≡ Err k
+    (criterion : Value) (tested : List Abs) (k : ErrorKind) → summed_error criterion seen tested ≡ Some k → numbers_among (met_among criterion (map (abs_at x) tested) us) ≡ Err k
 
 nothing_certain : (x : Assignment) (us : List Value) → IsCertain x [] us
 nothing_certain x us criterion tested k e = cc
@@ -170,13 +170,13 @@ module _ (x : Assignment) (forms : Cell → Option Abs) (values : Cell → Value
     abbrev by_met : Outcome
     by_met = tried_on whole parts (met_places (wanted.grid_of tested).items (wanted.value_of criterion)) (λ places. taken s places (λ items. outcome_by whole parts (sum_of_elements items)))
 
-    certain_numbers : (c : Option Value) → known_value (wanted.value_of criterion) ≡ c → (k : ErrorKind) → certain_by c seen (wanted.grid_of tested).items ≡ Some k
+    certain_numbers : (c : Option Value) → known_value (wanted.value_of criterion) ≡ c → (k : ErrorKind) → summed_error_by c seen (wanted.grid_of tested).items ≡ Some k
         → numbers_among (met_among (abs_at x (wanted.value_of criterion)) (grid_of (arg_at x tested)).items (grid_of summed).items) ≡ Err k
     certain_numbers None d k e = cc
     certain_numbers (Some c) d k e =
         ap₂ (λ c us. numbers_among (met_among c us (grid_of summed).items)) (value_known (wanted.value_of criterion) c d x) (same_items x tested) ∙ certain c (wanted.grid_of tested).items k e
 
-    by_certain : (o : Option ErrorKind) → certain_by (known_value (wanted.value_of criterion)) seen (wanted.grid_of tested).items ≡ o → (a : AbsArg) → unless_error o by_met ≡ Gives a
+    by_certain : (o : Option ErrorKind) → summed_error_by (known_value (wanted.value_of criterion)) seen (wanted.grid_of tested).items ≡ o → (a : AbsArg) → unless_error o by_met ≡ Gives a
         → IsWorth x (exact (numbers (abs_at x (wanted.value_of criterion)))) a
     by_certain (Some k) d a e =
         subst (λ r. IsWorth x (exact (on_ok r (λ xs. counted (total xs)))) a) (sym (certain_numbers (known_value (wanted.value_of criterion)) refl k d)) (error_worth x k a e)
@@ -184,10 +184,10 @@ module _ (x : Assignment) (forms : Cell → Option Abs) (values : Cell → Value
         let q = tried_first whole parts (met_places (wanted.grid_of tested).items (wanted.value_of criterion)) (λ places. taken s places (λ items. outcome_by whole parts (sum_of_elements items))) a e in
         by_places q.value (places_known (wanted.grid_of tested).items (wanted.value_of criterion) q.value q.is) a q.goes
 
-    by_size : (b : Bool) → (a : AbsArg) → (if b then unless_error (certain_by (known_value (wanted.value_of criterion)) seen (wanted.grid_of tested).items) by_met else fails kind.Value) ≡ Gives a
+    by_size : (b : Bool) → (a : AbsArg) → (if b then unless_error (summed_error_by (known_value (wanted.value_of criterion)) seen (wanted.grid_of tested).items) by_met else fails kind.Value) ≡ Gives a
         → IsWorth x (exact (if b then numbers (abs_at x (wanted.value_of criterion)) else answered (Error kind.Value))) a
     by_size false a e = error_worth x kind.Value a e
-    by_size true a e = by_certain (certain_by (known_value (wanted.value_of criterion)) seen (wanted.grid_of tested).items) refl a e
+    by_size true a e = by_certain (summed_error_by (known_value (wanted.value_of criterion)) seen (wanted.grid_of tested).items) refl a e
 
     same_size : is_of_size (grid_of (arg_at x tested)) (grid_of summed) ≡ (((wanted.grid_of tested).rows == s.rows) && ((wanted.grid_of tested).columns == s.columns))
     same_size = ap₂ (λ p q. p && q) (ap₂ ◌==◌ (same_rows x tested) (sym m.rows)) (ap₂ ◌==◌ (same_columns x tested) (sym m.columns))

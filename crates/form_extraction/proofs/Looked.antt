@@ -27,7 +27,7 @@ use Rattle.sheet_funcs.specs.declared.lookups.MatchKind.{MatchKind}
 use Rattle.form_table.specs.Wanted.{Wanted, value_of, number_of, known_number, single, grid_of}
 use Rattle.form_table.specs.Picks.{pick_form}
 use Rattle.form_table.specs.Lookups.{record_form, kinds_in, known_value, error_of}
-use Rattle.form_table.specs.Criteria.{met_places, sum_of_elements, certain_by}
+use Rattle.form_table.specs.Criteria.{met_places, sum_of_elements, summed_error_by}
 use Rattle.form_extraction.specs.Parts.{Outcome, Gives, Refused, Without, Part, value_in, argument, tried_on, outcome_by, on_outcome, on_part, on_parts}
 use Rattle.form_extraction.specs.Deciding.{given_by, truth_in, is_known_error, place_in, record_picked, record_by, cells_at, summed_by, by_form}
 use Rattle.form_extraction.specs.Sources.{Source, of_cells, in_source, in_turned, elements_at, on_elements, taken, key_places, exchanged}
@@ -355,7 +355,7 @@ module _ (f g : Cell → Option Abs) where
     met_same (Some k) h b d = refl
     met_same None h b d =
         let size : Bool = ((grid_of a).rows == grid.rows) && ((grid_of a).columns == grid.columns) in
-        let certain : Abs → Option ErrorKind = λ c. certain_by (known_value c) [] (grid_of a).items in
+        let certain : Abs → Option ErrorKind = λ c. summed_error_by (known_value c) [] (grid_of a).items in
         ap (λ c. sized f ps c size (certain c)) d ∙ sized_same size (certain c) h ∙ sym (ap (λ c. sized g qs c size (certain c)) d)
 
   -- the sum over a part, by tested and criterion

@@ -32,7 +32,7 @@ use Rattle.affine_forms.specs.declared.rel.Rel.TheVariants as rel
 use Rattle.form_table.specs.Wanted.{value_of, number_of, known_number, single, grid_of}
 use Rattle.form_table.specs.Picks.{pick_form}
 use Rattle.form_table.specs.Lookups.{record_form, kinds_in, known_value, error_of}
-use Rattle.form_table.specs.Criteria.{met_places, sum_of_elements, certain_by}
+use Rattle.form_table.specs.Criteria.{met_places, sum_of_elements, summed_error_by}
 use Rattle.form_table.specs.Operators.{infix_form, minus_form, percent_form}
 use Rattle.form_table.specs.Choosing.{if_test}
 use Rattle.form_table.specs.Table.{form_called}
@@ -196,8 +196,8 @@ module _ (forms : Cell → Option Abs) (total : (c : Cell) → (b : Abs) × (for
           (λ places. taken_never src h places (λ items. outcome_by s ps (sum_of_elements items)) (λ items. trial_never s ps (sum_of_elements items) Gives gives_never)) e
 
       by : (b : Bool)
-          → Never (if b then unless_error (certain_by (known_value (value_of c)) seen (grid_of a).items) (tried_on s ps (met_places (grid_of a).items (value_of c)) (λ places. taken src places (λ items. outcome_by s ps (sum_of_elements items)))) else fails kind.Value)
-      by true e = by_certain (certain_by (known_value (value_of c)) seen (grid_of a).items) e
+          → Never (if b then unless_error (summed_error_by (known_value (value_of c)) seen (grid_of a).items) (tried_on s ps (met_places (grid_of a).items (value_of c)) (λ places. taken src places (λ items. outcome_by s ps (sum_of_elements items)))) else fails kind.Value)
+      by true e = by_certain (summed_error_by (known_value (value_of c)) seen (grid_of a).items) e
       by false e = gives_never _ e
 
   over_never : (s : Span) (ps : List Part) (p q v : Part) → HasForm p → HasForm q → HasForm v → Never (sum_over forms s ps p q v)

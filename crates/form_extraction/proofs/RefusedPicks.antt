@@ -39,7 +39,7 @@ use Rattle.form_table.specs.Wanted.{value_of, number_of, grid_of}
 use Rattle.form_table.specs.Items.{item_at, form_in, first_error}
 use Rattle.form_table.specs.Picks.{pick_form}
 use Rattle.form_table.specs.Lookups.{record_form, kinds_in, known_value, error_of}
-use Rattle.form_table.specs.Criteria.{met_places, sum_of_elements, certain_by}
+use Rattle.form_table.specs.Criteria.{met_places, sum_of_elements, summed_error_by}
 use Rattle.form_table.specs.Products.{or_fault}
 use Rattle.form_truth.specs.Picks.{IsPick, IsRecord, first_column}
 use Rattle.form_truth.specs.Rows.{ArgumentVaries}
@@ -392,7 +392,7 @@ module _ (forms : Cell → Option Abs) (values : Assignment → Cell → Value) 
     seen = seen_before (part_of forms v).reference (part_of forms v).outcome
 
     abbrev certain : AbsArg → AbsArg → Option ErrorKind
-    certain a c = certain_by (known_value (value_of c)) seen (grid_of a).items
+    certain a c = summed_error_by (known_value (value_of c)) seen (grid_of a).items
 
     sized : (a c : AbsArg) → IsOf forms values agree t a → IsOf forms values agree u c → (g : Source) (at : Span) (cause : Why) (b : Bool)
         → (if b then unless_error (certain a c) (by_met a c g) else fails kind.Value) ≡ Refused at cause → IsRefuted values sum at cause

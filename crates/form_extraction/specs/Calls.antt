@@ -24,7 +24,7 @@ use Rattle.form_table.specs.Wanted.{value_of, number_of, known_number, single, g
 use Rattle.form_table.specs.Choosing.{if_test}
 use Rattle.form_table.specs.Picks.{pick_form}
 use Rattle.form_table.specs.Lookups.{record_form, kinds_in, known_value, error_of}
-use Rattle.form_table.specs.Criteria.{met_places, sum_of_elements, certain_by}
+use Rattle.form_table.specs.Criteria.{met_places, sum_of_elements, summed_error_by}
 use Rattle.form_table.specs.Table.{form_called}
 use Rattle.form_extraction.specs.Parts.{Outcome, Gives, Refused, Part, tried_on, outcome_by, on_part, on_parts}
 use Rattle.form_extraction.specs.declared.forms.Why.TheVariants as why
@@ -119,7 +119,7 @@ seen_before None o = []
 abbrev pub sum_at : Span → List Part → Source → List Abs → AbsArg → AbsArg → Outcome
 sum_at whole parts s seen tested criterion =
     if ((grid_of tested).rows == s.rows) && ((grid_of tested).columns == s.columns)
-    then unless_error (certain_by (known_value (value_of criterion)) seen (grid_of tested).items)
+    then unless_error (summed_error_by (known_value (value_of criterion)) seen (grid_of tested).items)
     (tried_on whole parts (met_places (grid_of tested).items (value_of criterion))
     (λ places. taken s places (λ items. outcome_by whole parts (sum_of_elements items))))
     else fails kind.Value

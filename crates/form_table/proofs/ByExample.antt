@@ -32,4 +32,4 @@ choose_hold = (refl, (refl, (refl, (refl, (refl, (refl, tt))))))
 
 pub certain_hold : Hold certain
 unfolding computed eq_ℚ is_narrow is_narrow_sum floor_ℚ power_ℚ
-certain_hold = (refl, (refl, (refl, (refl, (refl, (refl, (refl, (refl, tt))))))))
+certain_hold = (refl, (refl, (refl, (refl, (refl, (refl, (refl, (refl, (refl, tt)))))))))

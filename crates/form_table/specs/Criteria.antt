@@ -1,6 +1,6 @@
 -- SUMIF and COUNTIF (OpenDocument 1.2 part 2, sections 6.16.62 and 6.13.7) on open values: the tested grid and the criterion have to
--- be known, and the summed elements are added whatever they are. An error that is summed whatever the open elements of the tested grid
--- hold is the result all the same.
+-- be known, and the summed elements are added whatever they are. Where elements of the tested grid are open, an error that is the first
+-- among the summed ones whatever these hold is the result.
 use Rattle.std.specs.Prelude.{ℕ, suc, ◌==◌, if◌then◌else◌, List, [], ◌∷◌, Option, Some, None}
 use Rattle.std.specs.List.{filter_map}
 use Rattle.sheet_model.specs.declared.value.Value.{Value}
@@ -54,15 +54,15 @@ certain_beside criterion (Known v) (Some k) later = if meets criterion v then So
 certain_beside criterion a (Some k) later = if_same k later
 
 -- the error that is the first among the summed elements, whatever the open elements of the tested grid hold, if there is such a one
-abbrev pub certain_error : Value → List Abs → List Abs → Option ErrorKind
-certain_error criterion [] tested = None
-certain_error criterion (a ∷ summed) [] = None
-certain_error criterion (a ∷ summed) (b ∷ tested) = certain_beside criterion b (error_of a) (certain_error criterion summed tested)
+abbrev pub summed_error : Value → List Abs → List Abs → Option ErrorKind
+summed_error criterion [] tested = None
+summed_error criterion (a ∷ summed) [] = None
+summed_error criterion (a ∷ summed) (b ∷ tested) = certain_beside criterion b (error_of a) (summed_error criterion summed tested)
 
 -- no error is certain by a criterion that isn't known
-abbrev pub certain_by : Option Value → List Abs → List Abs → Option ErrorKind
-certain_by None summed tested = None
-certain_by (Some criterion) summed tested = certain_error criterion summed tested
+abbrev pub summed_error_by : Option Value → List Abs → List Abs → Option ErrorKind
+summed_error_by None summed tested = None
+summed_error_by (Some criterion) summed tested = summed_error criterion summed tested
 
 -- ---- COUNTIF: an error as the criterion is the result
 abbrev pub countif_form : AbsArg → AbsArg → Trial AbsArg

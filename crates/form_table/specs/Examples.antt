@@ -22,7 +22,7 @@ use Rattle.form_table.specs.Operators.{infix_form, minus_form, percent_form}
 use Rattle.form_table.specs.Wanted.{number_of}
 use Rattle.form_table.specs.Choosing.{if_test, iferror_form, choose_form}
 use Rattle.form_table.specs.Lookups.{record_form, kinds_in}
-use Rattle.form_table.specs.Criteria.{certain_error}
+use Rattle.form_table.specs.Criteria.{summed_error}
 use Rattle.form_table.specs.Picks.{pick_form}
 use Rattle.form_table.specs.Table.{form_called}
 
@@ -482,7 +482,7 @@ choose =
     (choose_form (fails kind.NotAvailable) (x ∷ y ∷ []), Some (Ok (Err kind.NotAvailable))) ∷
     []
 
--- ---- SUMIF: which error is summed whatever the open elements of the tested grid hold, by the summed elements and the tested ones
+-- ---- SUMIF: which error is the first among the summed elements whatever the open elements of the tested grid hold
 abbrev pub missing_is : Abs
 missing_is = Known (Error kind.NotAvailable)
 
@@ -492,19 +492,21 @@ fault_is = Known (Error kind.Value)
 abbrev pub certain : List (Example (Option ErrorKind))
 certain =
     -- SUMIF({1;x};1;{#N/A;y})
-    (given (certain_error (Number one_ℚ) (missing_is ∷ y_is ∷ []) (one_is ∷ x_is ∷ [])), Some (Ok (Some kind.NotAvailable))) ∷
+    (given (summed_error (Number one_ℚ) (missing_is ∷ y_is ∷ []) (one_is ∷ x_is ∷ [])), Some (Ok (Some kind.NotAvailable))) ∷
     -- SUMIF({2;x};1;{#N/A;y})
-    (given (certain_error (Number one_ℚ) (missing_is ∷ y_is ∷ []) (two_is ∷ x_is ∷ [])), Some (Ok None)) ∷
+    (given (summed_error (Number one_ℚ) (missing_is ∷ y_is ∷ []) (two_is ∷ x_is ∷ [])), Some (Ok None)) ∷
     -- SUMIF({x;1};1;{#N/A;#VALUE!})
-    (given (certain_error (Number one_ℚ) (missing_is ∷ fault_is ∷ []) (x_is ∷ one_is ∷ [])), Some (Ok None)) ∷
+    (given (summed_error (Number one_ℚ) (missing_is ∷ fault_is ∷ []) (x_is ∷ one_is ∷ [])), Some (Ok None)) ∷
     -- SUMIF({x;1};1;{#N/A;#N/A})
-    (given (certain_error (Number one_ℚ) (missing_is ∷ missing_is ∷ []) (x_is ∷ one_is ∷ [])), Some (Ok (Some kind.NotAvailable))) ∷
+    (given (summed_error (Number one_ℚ) (missing_is ∷ missing_is ∷ []) (x_is ∷ one_is ∷ [])), Some (Ok (Some kind.NotAvailable))) ∷
     -- SUMIF({t;1};1;{y;#N/A})
-    (given (certain_error (Number one_ℚ) (y_is ∷ missing_is ∷ []) (t_is ∷ one_is ∷ [])), Some (Ok (Some kind.NotAvailable))) ∷
+    (given (summed_error (Number one_ℚ) (y_is ∷ missing_is ∷ []) (t_is ∷ one_is ∷ [])), Some (Ok (Some kind.NotAvailable))) ∷
     -- SUMIF({x;1};1;{#N/A;y})
-    (given (certain_error (Number one_ℚ) (missing_is ∷ y_is ∷ []) (x_is ∷ one_is ∷ [])), Some (Ok None)) ∷
+    (given (summed_error (Number one_ℚ) (missing_is ∷ y_is ∷ []) (x_is ∷ one_is ∷ [])), Some (Ok None)) ∷
     -- SUMIF({t;2;1};1;{#N/A;#VALUE!;#N/A})
-    (given (certain_error (Number one_ℚ) (missing_is ∷ fault_is ∷ missing_is ∷ []) (t_is ∷ two_is ∷ one_is ∷ [])), Some (Ok (Some kind.NotAvailable))) ∷
+    (given (summed_error (Number one_ℚ) (missing_is ∷ fault_is ∷ missing_is ∷ []) (t_is ∷ two_is ∷ one_is ∷ [])), Some (Ok (Some kind.NotAvailable))) ∷
+    -- SUMIF({t;1};1;{#N/A;#VALUE!})
+    (given (summed_error (Number one_ℚ) (missing_is ∷ fault_is ∷ []) (t_is ∷ one_is ∷ [])), Some (Ok None)) ∷
     -- of {1} and {y;#N/A}, where the tested elements are fewer
-    (given (certain_error (Number one_ℚ) (y_is ∷ missing_is ∷ []) (one_is ∷ [])), Some (Ok None)) ∷
+    (given (summed_error (Number one_ℚ) (y_is ∷ missing_is ∷ []) (one_is ∷ [])), Some (Ok None)) ∷
     []

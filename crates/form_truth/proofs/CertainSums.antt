@@ -11,7 +11,7 @@ use Rattle.form_values.specs.Meaning.{abs_at}
 use Rattle.form_values.specs.declared.abs.Abs.{Abs}
 use Rattle.form_values.specs.declared.abs.Abs.TheVariants.{Known, Affine, Test}
 use Rattle.form_table.specs.Choosing.{place_of}
-use Rattle.form_table.specs.Criteria.{if_same, certain_beside, certain_error}
+use Rattle.form_table.specs.Criteria.{if_same, certain_beside, summed_error}
 use Rattle.form_table.specs.Lookups.{error_of}
 use Rattle.form_truth.specs.Picks.{CertainIsSummed}
 use Rattle.form_truth.proofs.Sameness.{same_error_is}
@@ -85,5 +85,5 @@ certain_is_summed x criterion [] tested k h = cc
 certain_is_summed x criterion (a ∷ summed) [] k h = cc
 certain_is_summed x criterion (a ∷ summed) (b ∷ tested) k h =
     ap numbers_among (by_test (meets criterion (abs_at x b)) (abs_at x b) (abs_at x a) (map (abs_at x) tested) (map (abs_at x) summed) criterion refl)
-    ∙ beside x criterion a (met criterion (map (abs_at x) tested) (map (abs_at x) summed)) (certain_error criterion summed tested)
+    ∙ beside x criterion a (met criterion (map (abs_at x) tested) (map (abs_at x) summed)) (summed_error criterion summed tested)
     (λ l e. certain_is_summed x criterion summed tested l e) b (error_of a) k refl h

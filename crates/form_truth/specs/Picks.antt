@@ -28,7 +28,7 @@ use Rattle.form_values.specs.declared.abs.AbsArg.{AbsArg}
 use Rattle.form_table.specs.Wanted as open_values
 use Rattle.form_table.specs.Wanted.{value_of, grid_of}
 use Rattle.form_table.specs.Choosing.{choice_at, choose_form}
-use Rattle.form_table.specs.Criteria.{places_from, met_places, certain_error}
+use Rattle.form_table.specs.Criteria.{places_from, met_places, summed_error}
 use Rattle.form_table.specs.Lookups.{lookup_pick_form, record_form, kinds_in}
 use Rattle.form_table.specs.Products.{at, transposed}
 use Rattle.form_table.specs.Picks.{pick_form}
@@ -86,10 +86,10 @@ PlacesAreRight =
     → IsPick (λ x. places_from 0 (functions.value_of (arg_at x criterion)) (functions.elements_of (arg_at x tested))) (tested ∷ criterion ∷ [])
     (exact (met_places (grid_of tested).items (value_of criterion)))
 
--- an error that is certain is the first among the summed elements under every assignment
+-- an error that is certainly the first among the summed elements is so under every assignment
 abbrev pub CertainIsSummed : Type 0
 CertainIsSummed =
-    (x : Assignment) (criterion : Value) (summed tested : List Abs) (k : ErrorKind) → certain_error criterion summed tested ≡ Some k
+    (x : Assignment) (criterion : Value) (summed tested : List Abs) (k : ErrorKind) → summed_error criterion summed tested ≡ Some k
     → numbers_among (met criterion (map (abs_at x) tested) (map (abs_at x) summed)) ≡ Err k
 
 -- ---- CHOOSE, by the number that the place is

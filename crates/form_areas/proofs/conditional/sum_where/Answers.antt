@@ -2,7 +2,7 @@ use Rattle.std.proofs.Common.{ap, ap₂, sym, ◌∙◌, subst}
 use Rattle.std.specs.List.{list_all}
 use Rattle.form_values.specs.Known.{is_known}
 use Rattle.form_values.specs.Trials.{Answers}
-use Rattle.form_table.specs.Criteria.{certain_by}
+use Rattle.form_table.specs.Criteria.{summed_error_by}
 use Rattle.form_table.specs.Lookups.{known_value}
 use Rattle.form_table.specs.Wanted.{grid_of}
 use Rattle.form_areas.specs.Met.{met, sum_of}
@@ -17,7 +17,7 @@ returns c =
     let h = grid_of c.args.summed.now in
     let v = c.in-Known.criterion in
     let size = sym c.is_of_size.ensures ∙ c.if-not-is_of_size.false in
-    let uncertain = c.in_default.ensures ∙ ap₂ (certain_by (known_value c.args.criterion.now)) c.full_elements.ensures.items c.full_elements-2.ensures.items in
+    let uncertain = c.in_default.ensures ∙ ap₂ (summed_error_by (known_value c.args.criterion.now)) c.full_elements.ensures.items c.full_elements-2.ensures.items in
     rw c.as_one.ensures
     (where_given g h c.args.criterion.now v c.sum_met.result size uncertain
     (ap (list_all is_known) (sym (grid_items c.args.tested.now)) ∙ sym c.is_known.ensures ∙ c.if-not-is_known.false) c.in-Known.is

@@ -1,6 +1,6 @@
 use Rattle.std.proofs.Common.{arith}
 use Rattle.form_areas.proofs.Certain.{behind_all}
-use Rattle.form_areas.proofs.met_places.certain_among.Goals as goal
+use Rattle.form_areas.proofs.met_places.summed_error_among.Goals as goal
 
 pub loop-place-init : goal.loop-place-init
 loop-place-init c = record {
