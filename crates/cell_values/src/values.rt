@@ -125,22 +125,21 @@ impl<'a> Values<'a> {
         Ok(Some(values))
     }
 
-    // Puts the value at a place of the list behind others, if there is one.
+    // Puts the value at a place of the list behind others, if there is one. A number is the most frequent: it is copied in the loop.
+    #[inline(always)]
     fn push_known(&self, alloc: Global, place: u32, to: &mut Vec<Value>) -> Result<bool, Memory>
         ensures known { IfOk result (λ known. known ≡ is_some (value_in_list self.now place)) }
         ensures value { IfOk result (λ known. known ≡ true
             → to.new.items ≡ to.old.items ++ or_empty (value_in_list self.now place) ∷ []) }
     {
         match self.known.get(place as usize) {
-            // a number is the most frequent, and is copied without a call
-            Some(Known::Value(Value::Number(number))) => to.push(Value::Number(*number))?,
-            Some(Known::Value(value)) => to.push(value.copy(alloc)?)?,
-            Some(Known::Text(text)) => {
-                to.push(Value::Text(Text::new(String::from_str(alloc, text)?)))?;
+            Some(Known::Value(Value::Number(number))) => {
+                to.push(Value::Number(*number))?;
+                Ok(true)
             }
-            Some(Known::Nothing) | None => return Ok(false),
+            Some(known) => push_value(alloc, known, to),
+            None => Ok(false),
         }
-        Ok(true)
     }
 
     // Whether a cell has a value.
@@ -152,6 +151,23 @@ impl<'a> Values<'a> {
             Some(Known::Value(_)) | Some(Known::Text(_)) => true,
         }
     }
+}
+
+// Puts what is known of a cell behind other values, if that is a value.
+#[inline(never)]
+fn push_value(alloc: Global, known: &Known, to: &mut Vec<Value>) -> Result<bool, Memory>
+    ensures known { IfOk result (λ is_known. is_known ≡ is_some (known_value known.now)) }
+    ensures value { IfOk result (λ is_known. is_known ≡ true
+        → to.new.items ≡ to.old.items ++ or_empty (known_value known.now) ∷ []) }
+{
+    match known {
+        Known::Value(value) => to.push(value.copy(alloc)?)?,
+        Known::Text(text) => {
+            to.push(Value::Text(Text::new(String::from_str(alloc, text)?)))?;
+        }
+        Known::Nothing => return Ok(false),
+    }
+    Ok(true)
 }
 
 // The numbers of a row, where it has some.
