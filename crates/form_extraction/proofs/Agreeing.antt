@@ -23,7 +23,8 @@ use Rattle.recalculation.proofs.WithinAreas.{of_referred}
 use Rattle.form_values.specs.declared.abs.Abs.{Abs}
 use Rattle.form_values.specs.declared.abs.AbsArg.{AbsArg}
 use Rattle.form_table.specs.Operators.{minus_form, percent_form}
-use Rattle.form_extraction.specs.Parts.{Outcome, Part, argument, on_part, on_parts, tried_on}
+use Rattle.form_extraction.specs.Parts.{Part, argument, on_part, on_parts, tried_on}
+use Rattle.form_extraction.specs.declared.forms.Outcome.{Outcome}
 use Rattle.form_extraction.specs.Sources.{Source, of_cells, in_source, on_source, in_turned, taken, key_places, exchanged}
 use Rattle.form_extraction.specs.Deciding.{by_form}
 use Rattle.form_extraction.specs.Calls as calls

@@ -23,7 +23,7 @@ use Rattle.form_values.specs.declared.abs.Abs.{Abs}
 use Rattle.form_values.specs.declared.abs.Abs.TheVariants.{Known}
 use Rattle.form_values.specs.declared.abs.AbsArg.{AbsArg}
 use Rattle.form_values.specs.declared.abs.AbsArg.TheVariants.{One}
-use Rattle.form_extraction.specs.Parts.{Gives}
+use Rattle.form_extraction.specs.declared.forms.Outcome.TheVariants.{Gives}
 use Rattle.form_extraction.specs.Calls.{size_of, call_outcome}
 use Rattle.form_extraction.specs.Formulas.{part_of, parts_of}
 use Rattle.form_extraction.proofs.Worth.{IsWorth, Agree, PartIsTrue, ArePartsTrue}

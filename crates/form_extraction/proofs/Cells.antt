@@ -31,7 +31,8 @@ use Rattle.workbook.specs.declared.place.Place.TheVariants as place
 use Rattle.form_extraction.specs.declared.forms.CellForm.TheVariants.{Form, Blocked, Circular}
 use Rattle.form_extraction.specs.declared.forms.CellForm.TheVariants as result
 use Rattle.form_extraction.specs.declared.forms.Why.{Why}
-use Rattle.form_extraction.specs.Parts.{Outcome, Gives, Refused, Without}
+use Rattle.form_extraction.specs.declared.forms.Outcome.{Outcome}
+use Rattle.form_extraction.specs.declared.forms.Outcome.TheVariants.{Gives, Refused, Without}
 use Rattle.form_extraction.specs.Formulas.{part_of}
 use Rattle.form_extraction.specs.Places.{form_in, Decisions, overriding, lesser, with_least, least_without, by_outcome, by_looks, formula_form, entry_form, decision_or, form_over, form_of}
 use Rattle.form_extraction.specs.Looked.{forms_of, LooksFrom, LooksAt, LookedIsReferred, IsLeastWithout, refers_to_circle, side_form, side_value, SideOfCircle, SideOfNoCircle}

@@ -25,7 +25,8 @@ use Rattle.affine_forms.specs.Forms.{Assignment, AffineForm, worth}
 use Rattle.affine_forms.specs.declared.rel.Rel.{Rel}
 use Rattle.affine_forms.specs.declared.rel.Rel.TheVariants as rel
 use Rattle.affine_forms.proofs.Exact.{exact-followed_by, exact-turned_into}
-use Rattle.form_values.specs.Meaning.{abs_at, arg_at, IsAbs, IsOpen, IsSound, holds}
+use Rattle.form_values.specs.Meaning.{abs_at, arg_at, IsAbs, IsOpen, IsSound}
+use Rattle.affine_forms.specs.Relations.{holds}
 use Rattle.form_values.specs.declared.abs.Abs.{Abs}
 use Rattle.form_values.specs.declared.abs.Abs.TheVariants.{Known, Affine, Test}
 use Rattle.form_values.specs.declared.abs.AbsArg.{AbsArg}
@@ -39,7 +40,9 @@ use Rattle.form_truth.proofs.Fitting.{constant_is, Fits, is_none, is_form, is_op
 use Rattle.form_truth.proofs.SingleRows.{not_zero}
 use Rattle.form_truth.proofs.Singles.{single_at}
 use Rattle.form_truth.proofs.Table.{table_right}
-use Rattle.form_extraction.specs.Parts.{Outcome, Gives, Part, outcome_by}
+use Rattle.form_extraction.specs.Parts.{Part, outcome_by}
+use Rattle.form_extraction.specs.declared.forms.Outcome.{Outcome}
+use Rattle.form_extraction.specs.declared.forms.Outcome.TheVariants.{Gives}
 use Rattle.form_extraction.specs.Deciding.{is_known_error, place_in}
 use Rattle.form_extraction.specs.Calls.{fails, chosen_or, on_branch, both_branches, by_test, if_outcome, by_error, iferror_outcome, by_place, choose_outcome}
 use Rattle.form_extraction.specs.Formulas.{part_of, parts_of}

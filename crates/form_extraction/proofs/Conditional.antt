@@ -32,7 +32,9 @@ use Rattle.form_truth.specs.Rows.{IsOutcomeOf, Represents}
 use Rattle.form_truth.proofs.Rows.{summed_is_right}
 use Rattle.form_truth.proofs.CertainSums.{certain_is_summed}
 use Rattle.form_truth.proofs.Varying.{value_known, grid_known}
-use Rattle.form_extraction.specs.Parts.{Outcome, Gives, Refused, Without, Part, on_part, tried_on, outcome_by}
+use Rattle.form_extraction.specs.Parts.{Part, on_part, tried_on, outcome_by}
+use Rattle.form_extraction.specs.declared.forms.Outcome.{Outcome}
+use Rattle.form_extraction.specs.declared.forms.Outcome.TheVariants.{Gives, Refused, Without}
 use Rattle.form_extraction.specs.Sources.{Source, on_source, elements_at, taken}
 use Rattle.form_extraction.specs.Calls.{fails, unless_error, seen_before, sum_at, sum_over, sumif_outcome}
 use Rattle.form_extraction.specs.Formulas.{part_of, parts_of}

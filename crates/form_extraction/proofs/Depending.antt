@@ -21,10 +21,13 @@ use Rattle.fractions.specs.Rational.{ℚ}
 use Rattle.fractions.specs.Floor.{floor_ℚ}
 use Rattle.sheet_model.specs.declared.value.Value.TheVariants.{Error}
 use Rattle.sheet_funcs.specs.declared.lookups.MatchKind.{MatchKind}
-use Rattle.form_table.specs.Wanted.{Wanted, form, open_test, none as no_number, known_number, is_known}
+use Rattle.form_table.specs.Wanted.{Wanted, form, open_test, none as no_number, known_number}
+use Rattle.form_values.specs.Known.{is_known}
 use Rattle.form_table.specs.Lookups.{record_form, by_field, in_field, from_one}
 use Rattle.form_extraction.specs.declared.forms.Why.TheVariants as why
-use Rattle.form_extraction.specs.Parts.{Outcome, Gives, Refused, Without, Part, value_in, argument, tried, tried_on, on_outcome, on_part, on_parts}
+use Rattle.form_extraction.specs.Parts.{Part, value_in, argument, tried, tried_on, on_outcome, on_part, on_parts}
+use Rattle.form_extraction.specs.declared.forms.Outcome.{Outcome}
+use Rattle.form_extraction.specs.declared.forms.Outcome.TheVariants.{Gives, Refused, Without}
 use Rattle.form_extraction.specs.Deciding.{given_of, given_by, record_picked, cells_at}
 use Rattle.form_extraction.specs.Sources.{of_cells, element, elements_at, on_elements, taken, part_places}
 use Rattle.form_extraction.specs.Calls.{picked_from, record_from, raster}

@@ -23,7 +23,9 @@ use Rattle.form_values.specs.declared.abs.AbsArg.TheVariants.{One}
 use Rattle.form_table.specs.Picks.{pick_form}
 use Rattle.form_truth.specs.Picks.{IsPick}
 use Rattle.form_truth.proofs.Picking.{index_is_right}
-use Rattle.form_extraction.specs.Parts.{Outcome, Gives, on_parts, tried_on}
+use Rattle.form_extraction.specs.Parts.{on_parts, tried_on}
+use Rattle.form_extraction.specs.declared.forms.Outcome.{Outcome}
+use Rattle.form_extraction.specs.declared.forms.Outcome.TheVariants.{Gives}
 use Rattle.form_extraction.specs.Calls.{picked_from, index_outcome}
 use Rattle.form_extraction.specs.Formulas.{part_of, parts_of}
 use Rattle.form_extraction.proofs.Worth.{IsWorth, Agree, ArePartsTrue}

@@ -28,7 +28,9 @@ use Rattle.form_table.specs.Wanted.{Wanted, value_of, number_of, known_number, s
 use Rattle.form_table.specs.Picks.{pick_form}
 use Rattle.form_table.specs.Lookups.{record_form, kinds_in, known_value, error_of}
 use Rattle.form_table.specs.Criteria.{met_places, sum_of_elements, summed_error_by}
-use Rattle.form_extraction.specs.Parts.{Outcome, Gives, Refused, Without, Part, value_in, argument, tried_on, outcome_by, on_outcome, on_part, on_parts}
+use Rattle.form_extraction.specs.Parts.{Part, value_in, argument, tried_on, outcome_by, on_outcome, on_part, on_parts}
+use Rattle.form_extraction.specs.declared.forms.Outcome.{Outcome}
+use Rattle.form_extraction.specs.declared.forms.Outcome.TheVariants.{Gives, Refused, Without}
 use Rattle.form_extraction.specs.Deciding.{given_by, truth_in, is_known_error, place_in, record_picked, record_by, cells_at, summed_by, by_form}
 use Rattle.form_extraction.specs.Sources.{Source, of_cells, in_source, in_turned, elements_at, on_elements, taken, key_places, exchanged}
 use Rattle.form_extraction.specs.Calls.{chosen_or, by_test, by_error, by_place, picked_from, index_outcome, record_from, lookup_by, lookup_outcome, unless_error, seen_before, sum_at, sumif_outcome, size_of, call_outcome}

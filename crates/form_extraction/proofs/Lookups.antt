@@ -32,7 +32,9 @@ use Rattle.form_table.specs.Wanted.{number_of}
 use Rattle.form_table.specs.Wanted as wanted
 use Rattle.form_table.specs.Lookups.{kinds_in, record_form}
 use Rattle.form_truth.proofs.Fitting.{fits}
-use Rattle.form_extraction.specs.Parts.{Outcome, Gives, Part, on_parts}
+use Rattle.form_extraction.specs.Parts.{Part, on_parts}
+use Rattle.form_extraction.specs.declared.forms.Outcome.{Outcome}
+use Rattle.form_extraction.specs.declared.forms.Outcome.TheVariants.{Gives}
 use Rattle.form_extraction.specs.Sources.{Source, of_cells, of_raster, in_turned, on_turned, element, elements_at, taken, key_places, exchanged}
 use Rattle.form_extraction.specs.Calls.{raster, record_from, lookup_by, lookup_outcome}
 use Rattle.form_extraction.specs.Formulas.{part_of, parts_of}

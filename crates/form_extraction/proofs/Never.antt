@@ -38,7 +38,9 @@ use Rattle.form_table.specs.Choosing.{if_test}
 use Rattle.form_table.specs.Table.{form_called}
 use Rattle.form_extraction.specs.declared.forms.CellForm.TheVariants.{Circular}
 use Rattle.form_extraction.specs.declared.forms.Why.{Why}
-use Rattle.form_extraction.specs.Parts.{Outcome, Gives, Refused, Without, Part, tried, tried_on, outcome_by, on_outcome, on_part, on_parts}
+use Rattle.form_extraction.specs.Parts.{Part, tried, tried_on, outcome_by, on_outcome, on_part, on_parts}
+use Rattle.form_extraction.specs.declared.forms.Outcome.{Outcome}
+use Rattle.form_extraction.specs.declared.forms.Outcome.TheVariants.{Gives, Refused, Without}
 use Rattle.form_extraction.specs.Deciding.{is_known_error, place_in}
 use Rattle.form_extraction.specs.Sources.{Source, of_cells, of_raster, in_source, on_source, in_turned, on_turned, element, elements_at, on_elements, taken, part_places, exchanged}
 use Rattle.form_extraction.specs.Calls.{chosen_or, on_branch, both_branches, by_test, by_error, by_place, fails, raster, picked_from, record_from, lookup_by, lookup_outcome, unless_error, seen_before, sum_at, sum_over, sumif_outcome, size_of, call_outcome}

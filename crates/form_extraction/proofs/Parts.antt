@@ -20,8 +20,10 @@ use Rattle.form_values.specs.declared.abs.Abs.{Abs}
 use Rattle.form_values.specs.declared.abs.Abs.TheVariants.{Known}
 use Rattle.form_values.specs.declared.abs.AbsArg.{AbsArg}
 use Rattle.form_values.specs.declared.abs.AbsArg.TheVariants.{Area}
-use Rattle.form_table.specs.Wanted.{known_arg}
-use Rattle.form_extraction.specs.Parts.{Outcome, Gives, Refused, Without, Part, tried, tried_on, refused_at, on_outcome}
+use Rattle.form_values.specs.Known.{known_arg}
+use Rattle.form_extraction.specs.Parts.{Part, tried, tried_on, refused_at, on_outcome}
+use Rattle.form_extraction.specs.declared.forms.Outcome.{Outcome}
+use Rattle.form_extraction.specs.declared.forms.Outcome.TheVariants.{Gives, Refused, Without}
 use Rattle.recalculation.specs.Looks.{both, elements}
 use Rattle.recalculation.proofs.GridCells.{IsWhole, areas_whole}
 use Rattle.form_extraction.specs.Formulas.{part_of, of_forms}

@@ -28,7 +28,8 @@ use Rattle.form_values.specs.declared.abs.AbsArg.TheVariants.{One, Area}
 use Rattle.form_table.specs.Wanted.{grid_of}
 use Rattle.form_truth.proofs.Choosing.{single_sound}
 use Rattle.form_truth.proofs.Singles.{single_at}
-use Rattle.form_extraction.specs.Parts.{Outcome, Gives}
+use Rattle.form_extraction.specs.declared.forms.Outcome.{Outcome}
+use Rattle.form_extraction.specs.declared.forms.Outcome.TheVariants.{Gives}
 use Rattle.recalculation.specs.Looks.{both}
 use Rattle.form_extraction.specs.Sources.{Source, of_cells, of_raster, in_source, on_source, element, elements_at, on_elements, part_places}
 use Rattle.form_extraction.specs.Calls.{raster, picked_from, size_of}

@@ -38,7 +38,9 @@ use Rattle.form_truth.proofs.Chosen.{chosen_is_right}
 use Rattle.form_truth.proofs.Rows.{choice_is_right}
 use Rattle.form_extraction.specs.declared.forms.Why.{Why}
 use Rattle.form_extraction.specs.declared.forms.Why.TheVariants as why
-use Rattle.form_extraction.specs.Parts.{Outcome, Gives, Refused, span_at, outcome_by}
+use Rattle.form_extraction.specs.Parts.{span_at, outcome_by}
+use Rattle.form_extraction.specs.declared.forms.Outcome.{Outcome}
+use Rattle.form_extraction.specs.declared.forms.Outcome.TheVariants.{Gives, Refused}
 use Rattle.form_extraction.specs.Deciding.{is_known_error, place_in}
 use Rattle.form_extraction.specs.Calls.{chosen_or, on_branch, both_branches, by_test, if_outcome, by_error, iferror_outcome, by_place, choose_outcome}
 use Rattle.form_extraction.specs.Formulas.{part_of, parts_of}

@@ -49,7 +49,9 @@ use Rattle.form_truth.proofs.Finding.{lookup_is_right}
 use Rattle.form_truth.proofs.Picking.{index_is_right}
 use Rattle.form_extraction.specs.declared.forms.Why.{Why}
 use Rattle.form_extraction.specs.declared.forms.Why.TheVariants as why
-use Rattle.form_extraction.specs.Parts.{Outcome, Gives, Refused, Part, span_at, outcome_by, on_part, on_parts, tried_on}
+use Rattle.form_extraction.specs.Parts.{Part, span_at, outcome_by, on_part, on_parts, tried_on}
+use Rattle.form_extraction.specs.declared.forms.Outcome.{Outcome}
+use Rattle.form_extraction.specs.declared.forms.Outcome.TheVariants.{Gives, Refused}
 use Rattle.form_extraction.specs.Sources.{Source, of_cells, of_raster, element, elements_at, on_source, in_turned, on_turned, taken, part_places, key_places}
 use Rattle.form_extraction.specs.Calls.{fails, raster, picked_from, index_outcome, record_from, lookup_by, lookup_outcome, unless_error, seen_before, sum_at, sum_over, sumif_outcome, size_of}
 use Rattle.form_extraction.specs.Formulas.{part_of, parts_of}

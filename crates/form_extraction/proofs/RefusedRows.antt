@@ -28,7 +28,9 @@ use Rattle.form_truth.specs.Laws.{called_at, CallIsRight}
 use Rattle.form_truth.proofs.Rows.{infix_is_right}
 use Rattle.form_extraction.specs.declared.forms.Why.{Why}
 use Rattle.form_extraction.specs.declared.forms.Why.TheVariants as why
-use Rattle.form_extraction.specs.Parts.{Outcome, Gives, Refused, outcome_by, on_part, on_parts}
+use Rattle.form_extraction.specs.Parts.{outcome_by, on_part, on_parts}
+use Rattle.form_extraction.specs.declared.forms.Outcome.{Outcome}
+use Rattle.form_extraction.specs.declared.forms.Outcome.TheVariants.{Gives, Refused}
 use Rattle.form_extraction.specs.Formulas.{part_of, parts_of}
 use Rattle.form_extraction.specs.Refuted.{IsPart, itself, in_call, in_left, in_right, IsAmong, first, later, PartBends, IsSo, IsRefuted}
 use Rattle.form_extraction.proofs.Worth.{Agree}

@@ -22,7 +22,9 @@ use Rattle.form_table.specs.Wanted.{grid_of}
 use Rattle.form_truth.specs.Rows.{ArgumentVaries}
 use Rattle.form_extraction.specs.declared.forms.Why.{Why}
 use Rattle.form_extraction.specs.declared.forms.Why.TheVariants as why
-use Rattle.form_extraction.specs.Parts.{Outcome, Gives, Refused, Without, Part, span_at, tried, tried_on, on_outcome, on_part, on_parts}
+use Rattle.form_extraction.specs.Parts.{Part, span_at, tried, tried_on, on_outcome, on_part, on_parts}
+use Rattle.form_extraction.specs.declared.forms.Outcome.{Outcome}
+use Rattle.form_extraction.specs.declared.forms.Outcome.TheVariants.{Gives, Refused, Without}
 use Rattle.form_extraction.specs.Sources.{Source, of_cells, of_raster, in_source, on_source, on_elements}
 use Rattle.form_extraction.specs.Formulas.{part_of, parts_of}
 use Rattle.form_extraction.specs.Refuted.{itself, IsAmong, first, later, IsSo, IsRefuted}

@@ -37,7 +37,8 @@ use Rattle.form_extraction.specs.declared.forms.CellForm.{CellForm}
 use Rattle.form_extraction.specs.declared.forms.CellForm.TheVariants.{Form}
 use Rattle.form_extraction.specs.declared.forms.CellForm.TheVariants as result
 use Rattle.form_extraction.specs.declared.forms.Why.{Why}
-use Rattle.form_extraction.specs.Parts.{Outcome, Gives, Refused, Without}
+use Rattle.form_extraction.specs.declared.forms.Outcome.{Outcome}
+use Rattle.form_extraction.specs.declared.forms.Outcome.TheVariants.{Gives, Refused, Without}
 use Rattle.form_extraction.specs.Sources.{exchanged}
 use Rattle.form_extraction.specs.Calls.{call_outcome}
 use Rattle.form_extraction.specs.Formulas.{part_of, parts_of, of_forms}

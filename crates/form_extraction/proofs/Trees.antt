@@ -24,7 +24,9 @@ use Rattle.form_values.specs.declared.abs.Abs.{Abs}
 use Rattle.form_values.specs.declared.abs.AbsArg.{AbsArg}
 use Rattle.form_table.specs.Operators.{infix_form, minus_form, percent_form}
 use Rattle.form_table.specs.Table.{form_called}
-use Rattle.form_extraction.specs.Parts.{Outcome, Gives, outcome_by, on_part, on_parts}
+use Rattle.form_extraction.specs.Parts.{outcome_by, on_part, on_parts}
+use Rattle.form_extraction.specs.declared.forms.Outcome.{Outcome}
+use Rattle.form_extraction.specs.declared.forms.Outcome.TheVariants.{Gives}
 use Rattle.recalculation.specs.Looks.{elements}
 use Rattle.form_extraction.specs.Calls.{call_outcome}
 use Rattle.form_extraction.specs.Formulas.{part_of, parts_of}

@@ -11,7 +11,7 @@ use Rattle.affine_forms.specs.Forms.{Assignment}
 use Rattle.form_values.specs.Meaning.{abs_at, arg_at, IsAbs, IsSound}
 use Rattle.form_values.specs.declared.abs.Abs.{Abs}
 use Rattle.form_values.specs.declared.abs.AbsArg.{AbsArg}
-use Rattle.form_extraction.specs.Parts.{Gives}
+use Rattle.form_extraction.specs.declared.forms.Outcome.TheVariants.{Gives}
 use Rattle.form_extraction.specs.Formulas.{part_of}
 
 -- an open argument has this value

@@ -26,7 +26,9 @@ use Rattle.form_table.specs.Picks.{pick_form}
 use Rattle.form_table.specs.Lookups.{record_form, kinds_in, known_value, error_of}
 use Rattle.form_table.specs.Criteria.{met_places, sum_of_elements, summed_error_by}
 use Rattle.form_table.specs.Table.{form_called}
-use Rattle.form_extraction.specs.Parts.{Outcome, Gives, Refused, Part, tried_on, outcome_by, on_part, on_parts}
+use Rattle.form_extraction.specs.Parts.{Part, tried_on, outcome_by, on_part, on_parts}
+use Rattle.form_extraction.specs.declared.forms.Outcome.{Outcome}
+use Rattle.form_extraction.specs.declared.forms.Outcome.TheVariants.{Gives, Refused}
 use Rattle.form_extraction.specs.declared.forms.Why.TheVariants as why
 use Rattle.form_extraction.specs.Deciding.{is_known_error, place_in}
 use Rattle.form_extraction.specs.Sources.{Source, on_source, on_turned, taken, part_places, key_places, exchanged}

@@ -17,9 +17,11 @@ use Rattle.form_values.specs.Trials.{Trial}
 use Rattle.form_values.specs.declared.abs.Abs.{Abs}
 use Rattle.form_values.specs.declared.abs.AbsArg.{AbsArg}
 use Rattle.form_values.specs.declared.abs.AbsArg.TheVariants.{Area}
-use Rattle.form_table.specs.Wanted.{known_arg}
+use Rattle.form_values.specs.Known.{known_arg}
 use Rattle.form_table.specs.Operators.{infix_form, minus_form, percent_form}
-use Rattle.form_extraction.specs.Parts.{Outcome, Gives, Without, Part, argument, outcome_by, on_part}
+use Rattle.form_extraction.specs.Parts.{Part, argument, outcome_by, on_part}
+use Rattle.form_extraction.specs.declared.forms.Outcome.{Outcome}
+use Rattle.form_extraction.specs.declared.forms.Outcome.TheVariants.{Gives, Without}
 use Rattle.form_extraction.specs.Calls.{call_outcome}
 use Rattle.form_extraction.specs.Deciding.{by_form}
 

@@ -10,7 +10,8 @@ use Rattle.recalculation.specs.Recalculation.{val}
 use Rattle.recalculation.specs.Walks.{is_circular}
 use Rattle.affine_forms.specs.Forms.{Assignment, AffineForm, worth, decision_form}
 use Rattle.affine_forms.specs.declared.rel.Rel.{Rel}
-use Rattle.form_values.specs.Meaning.{abs_at, holds, IsAbs}
+use Rattle.form_values.specs.Meaning.{abs_at, IsAbs}
+use Rattle.affine_forms.specs.Relations.{holds}
 use Rattle.form_values.specs.declared.abs.Abs.{Abs}
 use Rattle.form_values.specs.declared.abs.Abs.TheVariants.{Known, Affine, Test}
 use Rattle.form_extraction.specs.declared.forms.CellForm.TheVariants.{Form, Circular}

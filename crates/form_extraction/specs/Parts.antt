@@ -7,9 +7,8 @@ use Rattle.recalculation.specs.Evaluation.{CellGrid}
 use Rattle.recalculation.specs.Looks.{Argument}
 use Rattle.form_values.specs.Trials.{Trial, Refusal, Breaks, Undecided}
 use Rattle.form_values.specs.declared.abs.AbsArg.{AbsArg}
-pub use Rattle.form_extraction.specs.declared.forms.Outcome.{Outcome}
-pub use Rattle.form_extraction.specs.declared.forms.Outcome.TheVariants.{Gives, Refused, Without}
-use Rattle.form_extraction.specs.declared.forms.Why.{Why}
+use Rattle.form_extraction.specs.declared.forms.Outcome.{Outcome}
+use Rattle.form_extraction.specs.declared.forms.Outcome.TheVariants.{Gives, Refused, Without}
 use Rattle.form_extraction.specs.declared.forms.Why.TheVariants as why
 
 -- a part: its place in the text, the cells at which it looks, its outcome, and its cells where it is a reference

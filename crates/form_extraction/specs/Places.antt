@@ -19,7 +19,8 @@ use Rattle.workbook.specs.declared.place.Place.TheVariants as place
 use Rattle.form_extraction.specs.declared.forms.CellForm.{CellForm}
 use Rattle.form_extraction.specs.declared.forms.CellForm.TheVariants.{Form, Blocked, Circular}
 use Rattle.form_extraction.specs.declared.forms.CellForm.TheVariants as result
-use Rattle.form_extraction.specs.Parts.{Outcome, Gives, Refused, Without}
+use Rattle.form_extraction.specs.declared.forms.Outcome.{Outcome}
+use Rattle.form_extraction.specs.declared.forms.Outcome.TheVariants.{Gives, Refused, Without}
 use Rattle.form_extraction.specs.Formulas.{part_of}
 
 -- the form, where there is one

@@ -12,7 +12,9 @@ use Rattle.form_values.specs.declared.abs.Abs.{Abs}
 use Rattle.form_values.specs.declared.abs.Abs.TheVariants.{Known}
 use Rattle.sheet_model.specs.declared.value.Value.TheVariants.{Empty}
 use Rattle.form_table.specs.Wanted.{grid_of}
-use Rattle.form_extraction.specs.Parts.{Outcome, Without, Part, on_part}
+use Rattle.form_extraction.specs.Parts.{Part, on_part}
+use Rattle.form_extraction.specs.declared.forms.Outcome.{Outcome}
+use Rattle.form_extraction.specs.declared.forms.Outcome.TheVariants.{Without}
 
 -- rows and columns of elements, none where a cell has no form
 pub record Source : Type 0 where

@@ -1,7 +1,6 @@
 -- What the calls on parts of formulas give each other.
 use Rattle.std.specs.Prelude.{◌≡◌, ⊤, length, if◌then◌else◌, List, Option, Some, None, is_some}
 use Rattle.cell_refs.specs.declared.span.Span.{Span}
-pub use Rattle.form_functions.specs.Whole.{is_whole}
 use Rattle.form_values.specs.declared.abs.AbsArg.{AbsArg}
 use Rattle.form_values.specs.declared.refusal.OpRefusal.{OpRefusal}
 use Rattle.form_values.specs.declared.refusal.OpRefusal.TheVariants as refusal

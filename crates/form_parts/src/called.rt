@@ -1,7 +1,7 @@
 // Calls of functions that look at all of their arguments.
 ghost use Rattle.std.specs.Prelude.{◌≡◌, IfOk, None, length, map, true};
 ghost use Rattle.form_extraction.specs.Parts.{argument, on_parts, outcome_by};
-ghost use Rattle.form_parts.specs.Steps.{is_whole};
+ghost use Rattle.form_functions.specs.Whole.{is_whole};
 ghost use Rattle.form_table.specs.Table.{form_called};
 ghost use Rattle.formula_ast.specs.Functions.{Takes};
 ghost use Rattle.recalculation.specs.Looks.{all_looks};

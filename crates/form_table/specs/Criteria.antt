@@ -14,7 +14,8 @@ use Rattle.form_values.specs.declared.abs.Abs.{Abs}
 use Rattle.form_values.specs.declared.abs.Abs.TheVariants.{Known}
 use Rattle.form_values.specs.declared.abs.AbsArg.{AbsArg}
 use Rattle.form_values.specs.declared.abs.AbsArg.TheVariants.{One}
-use Rattle.form_table.specs.Wanted.{value_of, grid_of, entry}
+use Rattle.form_table.specs.Wanted.{value_of, grid_of}
+use Rattle.form_values.specs.Entries.{entry}
 use Rattle.form_table.specs.Items.{item_at, form_in, first_error}
 use Rattle.form_table.specs.Choosing.{place_of}
 use Rattle.form_table.specs.Lookups.{known_value, known_keys, error_of}

@@ -15,7 +15,9 @@ use Rattle.form_values.specs.declared.abs.Abs.{Abs}
 use Rattle.form_values.specs.declared.abs.Abs.TheVariants.{Known, Affine}
 use Rattle.form_values.specs.declared.abs.AbsArg.{AbsArg}
 use Rattle.form_values.specs.declared.abs.AbsArg.TheVariants.{One, Area}
-use Rattle.form_table.specs.Wanted.{Wanted, form, open_test, none, wanted, entry, elements_of}
+use Rattle.form_table.specs.Wanted.{Wanted, form, open_test, none, wanted}
+use Rattle.form_values.specs.Entries.{entry}
+use Rattle.form_values.specs.Meaning.{elements_of}
 
 -- ---- items
 -- what an element of an area is among the items; others are skipped

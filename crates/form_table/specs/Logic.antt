@@ -8,7 +8,7 @@ use Rattle.sheet_model.specs.Conversions.{logical_in}
 use Rattle.sheet_model.specs.declared.value.Value.TheVariants.{Logical, Empty, Error}
 use Rattle.sheet_funcs.specs.Items.{logical_at}
 use Rattle.sheet_funcs.specs.Information.{number_or_zero}
-pub use Rattle.affine_forms.specs.Relations.{reversed}
+use Rattle.affine_forms.specs.Relations.{reversed}
 use Rattle.form_values.specs.Trials.{Trial, given, undecided, fault, one}
 use Rattle.affine_forms.specs.declared.rel.Rel.TheVariants as rel
 use Rattle.form_values.specs.declared.abs.Abs.{Abs}

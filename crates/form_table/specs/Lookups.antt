@@ -23,7 +23,8 @@ use Rattle.form_values.specs.declared.abs.Abs.{Abs}
 use Rattle.form_values.specs.declared.abs.Abs.TheVariants.{Known}
 use Rattle.form_values.specs.declared.abs.AbsArg.{AbsArg}
 use Rattle.form_values.specs.declared.abs.AbsArg.TheVariants.{One}
-use Rattle.form_table.specs.Wanted.{Wanted, form, open_test, none, value_of, number_of, known_number, grid_of, is_known, value_in}
+use Rattle.form_table.specs.Wanted.{Wanted, form, open_test, none, value_of, number_of, known_number, grid_of}
+use Rattle.form_values.specs.Known.{is_known, value_in}
 
 -- ---- keys
 -- whether an element may be a key: an open one may, and of the known ones what is empty and what is an error isn't

@@ -20,7 +20,8 @@ use Rattle.form_values.specs.declared.abs.Abs.{Abs}
 use Rattle.form_values.specs.declared.abs.Abs.TheVariants.{Known, Affine, Test}
 use Rattle.form_values.specs.declared.abs.AbsArg.{AbsArg}
 use Rattle.form_values.specs.declared.abs.AbsArg.TheVariants.{One, Area}
-use Rattle.form_table.specs.Wanted.{entry, test, single, wanted, constant_of, on_form, on_forms, no_error}
+use Rattle.form_table.specs.Wanted.{single, wanted, constant_of, on_form, on_forms, no_error}
+use Rattle.form_values.specs.Entries.{entry, test}
 
 -- ---- arithmetic
 -- a form times a number

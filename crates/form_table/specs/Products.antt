@@ -15,7 +15,8 @@ use Rattle.form_values.specs.declared.abs.Abs.{Abs}
 use Rattle.form_values.specs.declared.abs.Abs.TheVariants.{Known, Affine}
 use Rattle.form_values.specs.declared.abs.AbsArg.{AbsArg}
 use Rattle.form_values.specs.declared.abs.AbsArg.TheVariants.{Area}
-use Rattle.form_table.specs.Wanted.{grid_of, entry}
+use Rattle.form_table.specs.Wanted.{grid_of}
+use Rattle.form_values.specs.Entries.{entry}
 use Rattle.form_table.specs.Operators.{times}
 use Rattle.form_table.specs.Items.{is_number}
 

@@ -13,7 +13,8 @@ use Rattle.form_values.specs.Trials.{Trial, given, made, fault, one}
 use Rattle.form_values.specs.declared.abs.Abs.TheVariants.{Known}
 use Rattle.form_values.specs.declared.abs.AbsArg.{AbsArg}
 use Rattle.form_values.specs.declared.abs.AbsArg.TheVariants.{One}
-use Rattle.form_table.specs.Wanted.{all_known, values_in, known_arg, grid_of}
+use Rattle.form_table.specs.Wanted.{grid_of}
+use Rattle.form_values.specs.Known.{all_known, values_in, known_arg}
 use Rattle.form_table.specs.Items.{sum_form, average_form, count_form, min_form, max_form}
 use Rattle.form_table.specs.Products.{sumproduct_form, mmult_form, transpose_form}
 use Rattle.form_table.specs.Rounding.{bent_form, mod_form, round_form, power_form}

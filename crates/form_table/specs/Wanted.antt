@@ -8,9 +8,6 @@ use Rattle.sheet_model.specs.declared.value.Value.TheVariants.{Error}
 use Rattle.affine_forms.specs.Forms.{AffineForm, constant_form, has_terms}
 use Rattle.form_values.specs.Grids.{Raster}
 use Rattle.form_values.specs.Trials.{Trial, undecided, fault}
-pub use Rattle.form_values.specs.Entries.{entry, number_of_form, test, test_of_form}
-pub use Rattle.form_values.specs.Known.{is_known, value_in, all_known, values_in, known_arg}
-pub use Rattle.form_values.specs.Meaning.{elements_of}
 use Rattle.form_values.specs.declared.abs.Abs.{Abs}
 use Rattle.form_values.specs.declared.abs.Abs.TheVariants.{Known, Affine, Test}
 use Rattle.form_values.specs.declared.abs.AbsArg.{AbsArg}

@@ -18,7 +18,8 @@ use Rattle.form_values.specs.Meaning.{IsOpen}
 use Rattle.form_values.specs.Refusals.{Bends, bends, jumps, middle, midpoint}
 use Rattle.form_values.specs.Trials.{Trial, Refusal, Breaks, Undecided, given, breaks, undecided, fault, made}
 use Rattle.form_values.specs.declared.abs.Abs.{Abs}
-use Rattle.form_table.specs.Wanted.{entry, constant_of, certain_by, no_error}
+use Rattle.form_table.specs.Wanted.{constant_of, certain_by, no_error}
+use Rattle.form_values.specs.Entries.{entry}
 use Rattle.form_table.specs.Operators.{by_constants, product_row, divided_by, quotient_row, zero_divisor}
 use Rattle.form_truth.proofs.Right.{IsRight}
 use Rattle.form_truth.proofs.Exact.{exact-made, exact-and_then}

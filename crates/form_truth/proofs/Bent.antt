@@ -19,12 +19,13 @@ use Rattle.sheet_model.specs.declared.grid.Arg.TheVariants as arg
 use Rattle.sheet_funcs.specs.Arguments.{answered, counted}
 use Rattle.sheet_funcs.specs.Rounding.{rounded, magnitude, abs_of, int_of, remainder, mod_of, power_of}
 use Rattle.affine_forms.specs.Forms.{AffineForm, IsForm, worth, has_terms}
-use Rattle.form_values.specs.Meaning.{arg_at, IsAbs, IsOpen}
+use Rattle.form_values.specs.Meaning.{arg_at, IsAbs, IsOpen, elements_of}
 use Rattle.form_values.specs.Refusals.{Bends, jumps, middle}
 use Rattle.form_values.specs.Trials.{breaks}
 use Rattle.form_values.specs.declared.abs.Abs.{Abs}
 use Rattle.form_values.specs.declared.abs.AbsArg.{AbsArg}
-use Rattle.form_table.specs.Wanted.{value_of, elements_of, all_known, constant_of, certain_by}
+use Rattle.form_table.specs.Wanted.{value_of, constant_of, certain_by}
+use Rattle.form_values.specs.Known.{all_known}
 use Rattle.form_table.specs.Operators.{zero_divisor, no_exponent, power_row}
 use Rattle.form_table.specs.Rounding.{bent_form, mod_form, power_form}
 use Rattle.form_truth.proofs.Right.{IsRightArg}

@@ -15,7 +15,7 @@ use Rattle.sheet_model.specs.declared.grid.Arg.TheVariants as arg
 use Rattle.sheet_funcs.specs.Arguments.{on_ok}
 use Rattle.sheet_funcs.specs.Rounding as numbers
 use Rattle.affine_forms.specs.Forms.{Assignment, AffineForm, IsForm, worth, has_terms}
-use Rattle.form_values.specs.Meaning.{abs_at, arg_at, IsAbs, IsOpen}
+use Rattle.form_values.specs.Meaning.{abs_at, arg_at, IsAbs, IsOpen, elements_of}
 use Rattle.form_values.specs.Refusals.{Bends, bends, middle, midpoint}
 use Rattle.form_values.specs.Trials.{Trial, breaks, one}
 use Rattle.form_values.specs.declared.abs.Abs.{Abs}
@@ -23,7 +23,8 @@ use Rattle.form_values.specs.declared.abs.Abs.TheVariants.{Known, Affine, Test}
 use Rattle.form_values.specs.declared.abs.AbsArg.{AbsArg}
 use Rattle.form_values.specs.declared.abs.AbsArg.TheVariants.{One, Area}
 use Rattle.form_table.specs.Wanted as wanted
-use Rattle.form_table.specs.Wanted.{Wanted, form, open_test, none, of_number, value_of, elements_of, is_known, all_known, on_form, on_forms}
+use Rattle.form_table.specs.Wanted.{Wanted, form, open_test, none, of_number, value_of, on_form, on_forms}
+use Rattle.form_values.specs.Known.{is_known, all_known}
 use Rattle.form_table.specs.Rounding.{bent_form}
 use Rattle.form_truth.proofs.Right.{IsRight, IsRightArg}
 use Rattle.form_truth.proofs.Arguments.{value_at, value_sound, argument_varies}

@@ -20,7 +20,8 @@ use Rattle.affine_forms.proofs.Exact.{exact-followed_by}
 use Rattle.affine_forms.proofs.Worths.{subtracted_worth, added_is_form, negated_is_form}
 use Rattle.affine_forms.proofs.Directions.{Moves, moves, moved, worth_moved, reached, reached_worth}
 use Rattle.affine_forms.proofs.Multiples.{multiple_true, multiple_false, Apart, forms_differ}
-use Rattle.form_values.specs.Meaning.{arg_at, IsAbs, IsOpen, holds}
+use Rattle.form_values.specs.Meaning.{arg_at, IsAbs, IsOpen}
+use Rattle.affine_forms.specs.Relations.{holds}
 use Rattle.form_values.specs.Refusals.{Bends, bends, SomeBends, Varies, middle, midpoint}
 use Rattle.form_values.specs.Trials.{Breaks, given, on_given, made}
 use Rattle.affine_forms.specs.declared.rel.Rel.{Rel}
@@ -30,6 +31,7 @@ use Rattle.form_values.specs.declared.abs.Abs.TheVariants.{Known, Affine, Test}
 use Rattle.form_values.specs.declared.abs.AbsArg.{AbsArg}
 use Rattle.form_values.specs.declared.abs.AbsArg.TheVariants.{One, Area}
 use Rattle.form_table.specs.Wanted as wanted
+use Rattle.form_values.specs.Meaning as meaning
 use Rattle.form_table.specs.Choosing.{same_arg, number_branch, if_multiple, differ_by_multiple, branch_where, chosen_by, of_branches, if_open, if_test}
 use Rattle.form_truth.proofs.Relations.{takes, holds_takes}
 use Rattle.form_truth.proofs.Right.{IsRightArg}
@@ -45,7 +47,7 @@ pub record IsBranch (a : AbsArg) (f : AffineForm) : Type 0 where
   pub form : IsForm f
   pub worth_is : (x : Assignment) → arg_at x a ≡ arg.One (Number (worth x f))
 
-branch_is : (a : AbsArg) → AllByRecursion IsAbs (wanted.elements_of a) → (f : AffineForm) → number_branch a ≡ Some f → IsBranch a f
+branch_is : (a : AbsArg) → AllByRecursion IsAbs (meaning.elements_of a) → (f : AffineForm) → number_branch a ≡ Some f → IsBranch a f
 branch_is (One (Known (Number y))) h f e = let s : constant_form y ≡ f = cc in subst (IsBranch (One (Known (Number y)))) s (record { form = record { rise = tt }; worth_is = λ x. ap (λ w. arg.One (Number w)) (sym (constant_worth x y)) })
 branch_is (One (Affine g)) h f e = let s : g ≡ f = cc in subst (IsBranch (One (Affine g))) s (record { form = h.0.0; worth_is = λ x. refl })
 branch_is (One (Known (Text t))) h f e = cc
@@ -228,7 +230,7 @@ terms_known f y h = by_terms f.terms h
 and_true : (b : Bool) → b ≡ false → (b && true) ≡ false
 and_true b e = ap (λ c. c && true) e
 
-other_forms : (a b : AbsArg) → AllByRecursion IsAbs (wanted.elements_of a) → AllByRecursion IsAbs (wanted.elements_of b) → (f g : AffineForm) → number_branch a ≡ Some f → number_branch b ≡ Some g
+other_forms : (a b : AbsArg) → AllByRecursion IsAbs (meaning.elements_of a) → AllByRecursion IsAbs (meaning.elements_of b) → (f g : AffineForm) → number_branch a ≡ Some f → number_branch b ≡ Some g
     → same_arg a b ≡ false → same_form f g ≡ false
 other_forms (One (Known (Number y))) (One (Known (Number z))) h k f g d e n =
     let p : constant_form y ≡ f = cc in
@@ -349,7 +351,7 @@ module _ (t : AffineForm) (o : IsOpen t) (a b : AbsArg) (f g : AffineForm) (p : 
   numbers_right args rel.Gt n = order_right args rel.Gt refl n
 
 module _ (t : AffineForm) (o : IsOpen t) (r : Rel) (test : AbsArg) (v : Varies (λ x. arg_at x test)) where
-  branches_right : (a b one other : AbsArg) → AllByRecursion IsAbs (wanted.elements_of a) → AllByRecursion IsAbs (wanted.elements_of b) → same_arg a b ≡ false
+  branches_right : (a b one other : AbsArg) → AllByRecursion IsAbs (meaning.elements_of a) → AllByRecursion IsAbs (meaning.elements_of b) → same_arg a b ≡ false
       → (c d : Option AffineForm) → number_branch a ≡ c → number_branch b ≡ d → IsRightArg (if_value t r a b) (test ∷ one ∷ other ∷ []) (exact (of_branches t r a b c d))
   branches_right a b one other h k n (Some f) (Some g) e s =
       numbers_right t o a b f g (branch_is a h f e) (branch_is b k g s) (test ∷ one ∷ other ∷ []) r (other_forms a b h k f g e s n)
@@ -360,7 +362,7 @@ module _ (t : AffineForm) (o : IsOpen t) (r : Rel) (test : AbsArg) (v : Varies (
   same_branches a b e x true = refl
   same_branches a b e x false = ap (arg_at x) (sym e)
 
-  open_right : (a b one other : AbsArg) → AllByRecursion IsAbs (wanted.elements_of a) → AllByRecursion IsAbs (wanted.elements_of b) → IsRightArg (if_value t r a b) (test ∷ one ∷ other ∷ []) (exact (if_open t r a b))
+  open_right : (a b one other : AbsArg) → AllByRecursion IsAbs (meaning.elements_of a) → AllByRecursion IsAbs (meaning.elements_of b) → IsRightArg (if_value t r a b) (test ∷ one ∷ other ∷ []) (exact (if_open t r a b))
   open_right a b one other h k = by_test (same_arg a b) refl
     where
       by_test : (c : Bool) → same_arg a b ≡ c → IsRightArg (if_value t r a b) (test ∷ one ∷ other ∷ []) (exact (if c then given a else of_branches t r a b (number_branch a) (number_branch b)))
@@ -368,16 +370,16 @@ module _ (t : AffineForm) (o : IsOpen t) (r : Rel) (test : AbsArg) (v : Varies (
       by_test false e = branches_right a b one other h k e (number_branch a) (number_branch b) refl refl
 
 -- grids of one element are single values
-pub single_sound : (a : AbsArg) → AllByRecursion IsAbs (wanted.elements_of a) → AllByRecursion IsAbs (wanted.elements_of (wanted.single a))
+pub single_sound : (a : AbsArg) → AllByRecursion IsAbs (meaning.elements_of a) → AllByRecursion IsAbs (meaning.elements_of (wanted.single a))
 single_sound (One a) h = h
 single_sound (Area g) h = by_items g.items refl
   where
-    by_items : (items : List Abs) → g.items ≡ items → AllByRecursion IsAbs (wanted.elements_of (wanted.one_of g items))
+    by_items : (items : List Abs) → g.items ≡ items → AllByRecursion IsAbs (meaning.elements_of (wanted.one_of g items))
     by_items [] e = h
     by_items (a ∷ []) e = subst (AllByRecursion IsAbs) e h
     by_items (a ∷ b ∷ items) e = h
 
-pub choice_right : (t : AffineForm) → IsOpen t → (r : Rel) (test one other : AbsArg) → Varies (λ x. arg_at x test) → AllByRecursion IsAbs (wanted.elements_of one) → AllByRecursion IsAbs (wanted.elements_of other)
+pub choice_right : (t : AffineForm) → IsOpen t → (r : Rel) (test one other : AbsArg) → Varies (λ x. arg_at x test) → AllByRecursion IsAbs (meaning.elements_of one) → AllByRecursion IsAbs (meaning.elements_of other)
     → IsRightArg (λ x. if holds r (worth x t) then single (arg_at x one) else single (arg_at x other)) (test ∷ one ∷ other ∷ []) (exact (if_test t r one other))
 choice_right t o r test one other v h k =
     subst (λ (value : Assignment → Arg). IsRightArg value (test ∷ one ∷ other ∷ []) (exact (if_test t r one other)))

@@ -12,13 +12,13 @@ use Rattle.sheet_funcs.specs.Arguments.{all_or_error, behind_first}
 use Rattle.sheet_funcs.specs.Items as values
 use Rattle.sheet_funcs.specs.Items.{number_at, numbers_of}
 use Rattle.affine_forms.specs.Forms.{Assignment, AffineForm, IsForm, worth}
-use Rattle.form_values.specs.Meaning.{abs_at, arg_at, IsAbs}
+use Rattle.form_values.specs.Meaning.{abs_at, arg_at, IsAbs, elements_of}
 use Rattle.form_values.specs.Refusals.{Varies}
 use Rattle.form_values.specs.declared.abs.Abs.{Abs}
 use Rattle.form_values.specs.declared.abs.Abs.TheVariants.{Known, Affine, Test}
 use Rattle.form_values.specs.declared.abs.AbsArg.{AbsArg}
 use Rattle.form_values.specs.declared.abs.AbsArg.TheVariants.{One, Area}
-use Rattle.form_table.specs.Wanted.{Wanted, form, open_test, none, wanted, of_number, elements_of}
+use Rattle.form_table.specs.Wanted.{Wanted, form, open_test, none, wanted, of_number}
 use Rattle.form_table.specs.Items.{item_at, items_in, first_error, has_open, first_open, form_in, forms_of}
 use Rattle.form_truth.proofs.Right.{ArgumentVaries}
 use Rattle.form_truth.proofs.Fitting.{Fits, is_none, is_form, is_open, fits, constant_worth, test_varies}

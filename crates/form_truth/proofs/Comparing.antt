@@ -16,12 +16,13 @@ use Rattle.sheet_model.specs.declared.value.Value.TheVariants.{Number, Text, Log
 use Rattle.affine_forms.specs.Forms.{Assignment, AffineForm, worth, constant_form}
 use Rattle.affine_forms.specs.Steps.{subtracted}
 use Rattle.affine_forms.proofs.Worths.{subtracted_worth}
-use Rattle.form_values.specs.Meaning.{abs_at, IsAbs, IsOpen, holds}
+use Rattle.form_values.specs.Meaning.{abs_at, IsAbs, IsOpen}
+use Rattle.affine_forms.specs.Relations.{holds}
 use Rattle.form_values.specs.Trials.{made}
 use Rattle.affine_forms.specs.declared.rel.Rel.{Rel}
 use Rattle.form_values.specs.declared.abs.Abs.{Abs}
 use Rattle.form_values.specs.declared.abs.Abs.TheVariants.{Known, Affine, Test}
-use Rattle.form_table.specs.Wanted.{test}
+use Rattle.form_values.specs.Entries.{test}
 use Rattle.form_table.specs.Operators.{relation_of, compared, joined}
 use Rattle.form_truth.proofs.Relations.{takes, holds_takes}
 use Rattle.form_truth.proofs.Right.{IsRight}

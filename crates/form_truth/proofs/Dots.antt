@@ -27,7 +27,8 @@ use Rattle.form_values.specs.declared.abs.Abs.{Abs}
 use Rattle.form_values.specs.declared.abs.Abs.TheVariants.{Known, Affine, Test}
 use Rattle.form_values.specs.declared.abs.AbsArg.{AbsArg}
 use Rattle.form_values.specs.declared.abs.AbsArg.TheVariants.{One, Area}
-use Rattle.form_table.specs.Wanted.{grid_of, entry, constant_of}
+use Rattle.form_table.specs.Wanted.{grid_of, constant_of}
+use Rattle.form_values.specs.Entries.{entry}
 use Rattle.form_table.specs.Operators.{times, by_constants}
 use Rattle.form_table.specs.Products.{factor, product_of, dot, error_among, or_fault, is_of_size, factors_at, dot_of_grids, sumproduct_form}
 use Rattle.form_truth.specs.Products.{FactorsBend}

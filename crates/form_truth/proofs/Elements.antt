@@ -21,7 +21,8 @@ use Rattle.form_values.specs.declared.abs.Abs.{Abs}
 use Rattle.form_values.specs.declared.abs.Abs.TheVariants.{Known, Affine, Test}
 use Rattle.form_values.specs.declared.abs.AbsArg.{AbsArg}
 use Rattle.form_values.specs.declared.abs.AbsArg.TheVariants.{One, Area}
-use Rattle.form_table.specs.Wanted.{Wanted, entry}
+use Rattle.form_table.specs.Wanted.{Wanted}
+use Rattle.form_values.specs.Entries.{entry}
 use Rattle.form_table.specs.Items.{item_at, form_in, first_error, has_open, on_items}
 use Rattle.form_table.specs.Criteria.{sum_of_elements}
 use Rattle.form_table.specs.Products.{or_fault}

@@ -11,7 +11,7 @@ use Rattle.affine_forms.specs.Forms.{Assignment}
 use Rattle.form_values.specs.Meaning.{abs_at}
 use Rattle.form_values.specs.declared.abs.Abs.{Abs}
 use Rattle.form_values.specs.declared.abs.Abs.TheVariants.{Known, Affine, Test}
-use Rattle.form_table.specs.Wanted.{is_known}
+use Rattle.form_values.specs.Known.{is_known}
 use Rattle.form_table.specs.Lookups.{front, ends_within, is_never_found}
 
 -- ---- what stands before the first value that passes a test

@@ -28,7 +28,8 @@ use Rattle.form_values.specs.declared.abs.Abs.{Abs}
 use Rattle.form_values.specs.declared.abs.Abs.TheVariants.{Known, Affine, Test}
 use Rattle.form_values.specs.declared.abs.AbsArg.{AbsArg}
 use Rattle.form_values.specs.declared.abs.AbsArg.TheVariants.{One, Area}
-use Rattle.form_table.specs.Wanted.{Wanted, form, open_test, none, value_of, number_of, known_number, grid_of, is_known}
+use Rattle.form_table.specs.Wanted.{Wanted, form, open_test, none, value_of, number_of, known_number, grid_of}
+use Rattle.form_values.specs.Known.{is_known}
 use Rattle.form_table.specs.Lookups.{may_be_key, known_value, known_keys, kinds_by, kinds_of, kinds_in, field_at, is_missing, by_record, in_field, open_field, by_field, record_form}
 use Rattle.form_table.specs.Products.{at, transposed}
 use Rattle.form_truth.specs.Rows.{ArgumentVaries}

@@ -9,13 +9,15 @@ use Rattle.sheet_model.specs.declared.value.Value.{Value}
 use Rattle.sheet_model.specs.declared.value.Value.TheVariants.{Number, Logical}
 use Rattle.affine_forms.specs.Forms.{Assignment, AffineForm, IsForm, worth, has_terms, are_some, constant_form}
 use Rattle.affine_forms.proofs.Directions.{moves, reached, reached_worth}
-use Rattle.form_values.specs.Meaning.{abs_at, holds, IsAbs, IsOpen}
+use Rattle.form_values.specs.Meaning.{abs_at, IsAbs, IsOpen}
+use Rattle.affine_forms.specs.Relations.{holds}
 use Rattle.form_values.specs.Refusals.{Varies}
 use Rattle.affine_forms.specs.declared.rel.Rel.{Rel}
 use Rattle.affine_forms.specs.declared.rel.Rel.TheVariants as rel
 use Rattle.form_values.specs.declared.abs.Abs.{Abs}
 use Rattle.form_values.specs.declared.abs.Abs.TheVariants.{Known, Affine, Test}
-use Rattle.form_table.specs.Wanted.{Wanted, form, open_test, none, wanted, of_number, entry, number_of_form, test, test_of_form, constant_of}
+use Rattle.form_table.specs.Wanted.{Wanted, form, open_test, none, wanted, of_number, constant_of}
+use Rattle.form_values.specs.Entries.{entry, number_of_form, test, test_of_form}
 
 -- ---- constants
 pub constant_worth : (x : Assignment) (c : ℚ) → worth x (constant_form c) ≡ c

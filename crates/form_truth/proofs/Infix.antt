@@ -11,7 +11,8 @@ use Rattle.form_values.specs.Meaning.{abs_at, IsAbs}
 use Rattle.form_values.specs.Trials.{made}
 use Rattle.form_values.specs.declared.abs.Abs.{Abs}
 use Rattle.form_values.specs.declared.abs.Abs.TheVariants.{Known, Affine, Test}
-use Rattle.form_table.specs.Wanted.{wanted, entry, no_error}
+use Rattle.form_table.specs.Wanted.{wanted, no_error}
+use Rattle.form_values.specs.Entries.{entry}
 use Rattle.form_table.specs.Operators.{infix_abs, infix_row, product_row, quotient_row, power_row, zero_divisor, no_exponent}
 use Rattle.form_truth.proofs.Right.{IsRight}
 use Rattle.form_truth.proofs.Exact.{exact-made}

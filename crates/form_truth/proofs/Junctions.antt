@@ -14,7 +14,8 @@ use Rattle.sheet_funcs.specs.Arguments.{on_ok, all_or_error, behind_first}
 use Rattle.sheet_funcs.specs.Items.{logical_at, logicals_in, logicals_of}
 use Rattle.sheet_funcs.specs.Logic.{and_of, or_of, of_some}
 use Rattle.affine_forms.specs.Forms.{Assignment, worth}
-use Rattle.form_values.specs.Meaning.{abs_at, arg_at, holds, IsAbs}
+use Rattle.form_values.specs.Meaning.{abs_at, arg_at, IsAbs, elements_of}
+use Rattle.affine_forms.specs.Relations.{holds}
 use Rattle.form_values.specs.Refusals.{Varies}
 use Rattle.form_values.specs.Trials.{one}
 use Rattle.affine_forms.specs.declared.rel.Rel.TheVariants as rel
@@ -22,7 +23,6 @@ use Rattle.form_values.specs.declared.abs.Abs.{Abs}
 use Rattle.form_values.specs.declared.abs.Abs.TheVariants.{Known, Affine, Test}
 use Rattle.form_values.specs.declared.abs.AbsArg.{AbsArg}
 use Rattle.form_values.specs.declared.abs.AbsArg.TheVariants.{One, Area}
-use Rattle.form_table.specs.Wanted.{elements_of}
 use Rattle.form_table.specs.Logic.{Truth, known, none, opened, of_logical, truth_of, element_truth, truths_in, truths_of, first_error, known_in, open_in, of_open, is_same, decided_by, of_truths, junction}
 use Rattle.form_truth.proofs.Right.{IsRightArg, ArgumentVaries}
 use Rattle.form_truth.proofs.Collecting.{AreSound}

@@ -10,7 +10,7 @@ use Rattle.form_values.specs.declared.abs.Abs.{Abs}
 use Rattle.form_values.specs.declared.abs.Abs.TheVariants.{Known, Affine, Test}
 use Rattle.form_values.specs.declared.abs.AbsArg.{AbsArg}
 use Rattle.form_values.specs.declared.abs.AbsArg.TheVariants.{One, Area}
-use Rattle.form_table.specs.Wanted.{is_known, value_in, all_known, values_in, known_arg}
+use Rattle.form_values.specs.Known.{is_known, value_in, all_known, values_in, known_arg}
 use Rattle.form_values.specs.Meaning.{IsSound}
 use Rattle.form_truth.proofs.Sameness.{both_true}
 

@@ -27,7 +27,8 @@ use Rattle.form_values.specs.declared.abs.Abs.TheVariants.{Known, Affine, Test}
 use Rattle.form_values.specs.declared.abs.AbsArg.{AbsArg}
 use Rattle.form_values.specs.declared.abs.AbsArg.TheVariants.{One, Area}
 use Rattle.form_table.specs.Wanted as wanted
-use Rattle.form_table.specs.Wanted.{entry}
+use Rattle.form_values.specs.Meaning as meaning
+use Rattle.form_values.specs.Entries.{entry}
 use Rattle.form_table.specs.Operators.{minus_abs, minus_form, percent_abs, percent_form, infix_abs, infix_form, on_each, on_pairs, grid_made, with_items}
 use Rattle.form_truth.proofs.Right.{IsRight, IsRightArg, ArgumentVaries}
 use Rattle.form_truth.proofs.Exact.{exact-made, exact-and_then}
@@ -51,22 +52,22 @@ one_same v w e = cc
 pub one_varies : (b : Abs) → Varies (λ x. abs_at x b) → Varies (λ x. arg_at x (One b))
 one_varies b v = record { one = v.one; other = v.other; differ = λ e. v.differ (one_same _ _ e) }
 
-element_varies : (a : AbsArg) (n : ℕ) (b : Abs) → slice_get (wanted.elements_of a) n ≡ Some b → Varies (λ x. abs_at x b) → Varies (λ x. arg_at x a)
+element_varies : (a : AbsArg) (n : ℕ) (b : Abs) → slice_get (meaning.elements_of a) n ≡ Some b → Varies (λ x. abs_at x b) → Varies (λ x. arg_at x a)
 element_varies (Area g) n b e v = grid_varies g record { place = n; element = b; is_there = e; so = v }
 element_varies (One c) zero b e v = let s : c ≡ b = cc in one_varies c (subst (λ c. Varies (λ x. abs_at x c)) (sym s) v)
 element_varies (One c) (suc n) b e v = cc
 
-single_elements : (a : AbsArg) → wanted.elements_of (wanted.single a) ≡ wanted.elements_of a
+single_elements : (a : AbsArg) → meaning.elements_of (wanted.single a) ≡ meaning.elements_of a
 single_elements (One a) = refl
 single_elements (Area g) = by_items g.items refl
   where
-    by_items : (items : List Abs) → g.items ≡ items → wanted.elements_of (wanted.one_of g items) ≡ g.items
+    by_items : (items : List Abs) → g.items ≡ items → meaning.elements_of (wanted.one_of g items) ≡ g.items
     by_items [] e = refl
     by_items (a ∷ []) e = sym e
     by_items (a ∷ b ∷ items) e = refl
 
 -- where an element varies of what is left of an argument of one element
-single_varies : (a : AbsArg) (n : ℕ) (b : Abs) → slice_get (wanted.elements_of (wanted.single a)) n ≡ Some b → Varies (λ x. abs_at x b) → Varies (λ x. arg_at x a)
+single_varies : (a : AbsArg) (n : ℕ) (b : Abs) → slice_get (meaning.elements_of (wanted.single a)) n ≡ Some b → Varies (λ x. abs_at x b) → Varies (λ x. arg_at x a)
 single_varies a n b e v = element_varies a n b (sym (ap (λ items. slice_get items n) (single_elements a)) ∙ e) v
 
 -- an element of sound ones is sound
@@ -174,7 +175,7 @@ minus_element args (Test f r) h k = k (test_varies f r h)
 -- ---- what is done to each element
 module _ (f : Abs → Trial Abs) (value : Value → Calculation Value)
     (right : (args : List AbsArg) (a : Abs) → IsAbs a → (Varies (λ x. abs_at x a) → ArgumentVaries arg_at args 0) → EachIsRight f (λ x a. exact (value (abs_at x a))) args a (exact (f a))) where
-  each_single : (a s : AbsArg) → AllByRecursion IsAbs (wanted.elements_of s) → ((n : ℕ) (b : Abs) → slice_get (wanted.elements_of s) n ≡ Some b → Varies (λ x. abs_at x b) → Varies (λ x. arg_at x a))
+  each_single : (a s : AbsArg) → AllByRecursion IsAbs (meaning.elements_of s) → ((n : ℕ) (b : Abs) → slice_get (meaning.elements_of s) n ≡ Some b → Varies (λ x. abs_at x b) → Varies (λ x. arg_at x a))
       → IsRightArg (λ x. exact (operators.on_each value (arg_at x s))) (a ∷ []) (exact (on_each f s))
   each_single a (One b) h v =
       single_right f (λ x a. exact (value (abs_at x a))) (a ∷ []) b (λ x. exact (operators.on_each value (arg_at x (One b)))) (λ x. exact-turned_into arg.One (value (abs_at x b)))
@@ -183,15 +184,15 @@ module _ (f : Abs → Trial Abs) (value : Value → Calculation Value)
       lifted_right f (λ x a. exact (value (abs_at x a))) (a ∷ []) g g.items (λ x. exact (operators.on_each value (arg_at x (Area g)))) (λ x. grid_exact g value (abs_at x) g.items)
       (λ n b s. right (a ∷ []) b (one_of_sound g.items n b h s) (λ w. record { argument = a; is_there = refl; varies = v n b s w }))
 
-  each_right : (a : AbsArg) → AllByRecursion IsAbs (wanted.elements_of a) → IsRightArg (λ x. exact (operators.on_each value (operators.single (arg_at x a)))) (a ∷ []) (exact (on_each f (wanted.single a)))
+  each_right : (a : AbsArg) → AllByRecursion IsAbs (meaning.elements_of a) → IsRightArg (λ x. exact (operators.on_each value (operators.single (arg_at x a)))) (a ∷ []) (exact (on_each f (wanted.single a)))
   each_right a h =
       subst (λ (v : Assignment → Arg). IsRightArg v (a ∷ []) (exact (on_each f (wanted.single a)))) (λ i x. exact (operators.on_each value (sym (single_at x a) i)))
       (each_single a (wanted.single a) (single_sound a h) (λ n b s w. single_varies a n b s w))
 
-pub percent_right : (a : AbsArg) → AllByRecursion IsAbs (wanted.elements_of a) → IsRightArg (λ x. exact (percent_of (arg_at x a))) (a ∷ []) (exact (percent_form a))
+pub percent_right : (a : AbsArg) → AllByRecursion IsAbs (meaning.elements_of a) → IsRightArg (λ x. exact (percent_of (arg_at x a))) (a ∷ []) (exact (percent_form a))
 percent_right = each_right percent_abs percent_value percent_element
 
-pub minus_right : (a : AbsArg) → AllByRecursion IsAbs (wanted.elements_of a) → IsRightArg (λ x. exact (minus_of (arg_at x a))) (a ∷ []) (exact (minus_form a))
+pub minus_right : (a : AbsArg) → AllByRecursion IsAbs (meaning.elements_of a) → IsRightArg (λ x. exact (minus_of (arg_at x a))) (a ∷ []) (exact (minus_form a))
 minus_right = each_right minus_abs minus_value minus_element
 
 -- ---- the infix operators
@@ -225,7 +226,7 @@ zip_get (a ∷ items) (b ∷ others) (suc n) p e = zip_get items others n p e
 module _ (o : Op) (one other : AbsArg) where
   -- an element varies in an argument
   abbrev Inside : AbsArg → AbsArg → Type 0
-  Inside a s = (n : ℕ) (b : Abs) → slice_get (wanted.elements_of s) n ≡ Some b → Varies (λ x. abs_at x b) → Varies (λ x. arg_at x a)
+  Inside a s = (n : ℕ) (b : Abs) → slice_get (meaning.elements_of s) n ≡ Some b → Varies (λ x. abs_at x b) → Varies (λ x. arg_at x a)
 
   areas_right : (g h : Raster) → AllByRecursion IsAbs g.items → AllByRecursion IsAbs h.items → Inside one (Area g) → Inside other (Area h) → (c : Bool)
       → IsRightArg (λ x. exact (if c then turned_into (operators.with_items (record { rows = g.rows; columns = g.columns; items = map (abs_at x) g.items })) (for_each (λ (p : Value × Value). infix_value o p.0 p.1) (zip (map (abs_at x) g.items) (map (abs_at x) h.items))) else done (arg.One (Error kind.Value))))
@@ -241,7 +242,7 @@ module _ (o : Op) (one other : AbsArg) where
       (infix_right power_is_right o p.0 p.1 (one_of_sound g.items n p.0 i s.0) (one_of_sound h.items n p.1 j s.1)))
   areas_right g h i j v w false = λ x. refl
 
-  pairs_right : (s t : AbsArg) → AllByRecursion IsAbs (wanted.elements_of s) → AllByRecursion IsAbs (wanted.elements_of t) → Inside one s → Inside other t
+  pairs_right : (s t : AbsArg) → AllByRecursion IsAbs (meaning.elements_of s) → AllByRecursion IsAbs (meaning.elements_of t) → Inside one s → Inside other t
       → IsRightArg (λ x. exact (operators.on_pairs (infix_value o) (arg_at x s) (arg_at x t))) (one ∷ other ∷ []) (exact (on_pairs (infix_abs o) s t))
   pairs_right (One a) (One b) i j v w =
       single_right (infix_abs o a) (λ x b. exact (infix_value o (abs_at x a) (abs_at x b))) (one ∷ other ∷ []) b _ (λ x. exact-turned_into arg.One (infix_value o (abs_at x a) (abs_at x b)))
@@ -258,7 +259,7 @@ module _ (o : Op) (one other : AbsArg) where
       (infix_right power_is_right o a b (one_of_sound g.items n a i e) j.0))
   pairs_right (Area g) (Area h) i j v w = areas_right g h i j v w ((g.rows == h.rows) && (g.columns == h.columns))
 
-pub lifted_infix_right : (o : Op) (a b : AbsArg) → AllByRecursion IsAbs (wanted.elements_of a) → AllByRecursion IsAbs (wanted.elements_of b)
+pub lifted_infix_right : (o : Op) (a b : AbsArg) → AllByRecursion IsAbs (meaning.elements_of a) → AllByRecursion IsAbs (meaning.elements_of b)
     → IsRightArg (λ x. exact (infix_of o (arg_at x a) (arg_at x b))) (a ∷ b ∷ []) (exact (infix_form o a b))
 lifted_infix_right o a b h k =
     subst (λ (value : Assignment → Arg). IsRightArg value (a ∷ b ∷ []) (exact (infix_form o a b))) (λ i x. exact (operators.on_pairs (infix_value o) (sym (single_at x a) i) (sym (single_at x b) i)))

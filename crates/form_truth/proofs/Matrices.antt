@@ -18,13 +18,14 @@ use Rattle.sheet_funcs.specs.Sums as sums
 use Rattle.affine_forms.specs.Forms.{Assignment, AffineForm, IsForm, worth, constant_form}
 use Rattle.affine_forms.proofs.Exact.{exact-followed_by, exact-turned_into}
 use Rattle.form_values.specs.Grids.{Raster}
-use Rattle.form_values.specs.Meaning.{abs_at, arg_at, IsAbs}
+use Rattle.form_values.specs.Meaning.{abs_at, arg_at, IsAbs, elements_of}
 use Rattle.form_values.specs.Refusals.{Bends, bends, jumps, middle}
 use Rattle.form_values.specs.Trials.{Trial, Refusal, Breaks, Undecided, given, on_given, and_then, one, fault, each_tried}
 use Rattle.form_values.specs.declared.abs.Abs.{Abs}
 use Rattle.form_values.specs.declared.abs.AbsArg.{AbsArg}
 use Rattle.form_values.specs.declared.abs.AbsArg.TheVariants.{One, Area}
-use Rattle.form_table.specs.Wanted.{elements_of, grid_of, entry}
+use Rattle.form_table.specs.Wanted.{grid_of}
+use Rattle.form_values.specs.Entries.{entry}
 use Rattle.form_table.specs.Items.{is_number}
 use Rattle.form_table.specs.Products.{factor, error_among, or_fault, at, product_at, of_forms, mmult_form}
 use Rattle.form_truth.specs.Products.{PairBends}

@@ -14,12 +14,12 @@ use Rattle.affine_forms.specs.Forms.{Assignment, AffineForm, worth}
 use Rattle.affine_forms.specs.Steps.{total, scaled}
 use Rattle.affine_forms.proofs.Exact.{exact-followed_by, exact-turned_into}
 use Rattle.affine_forms.proofs.Worths.{scaled_worth}
-use Rattle.form_values.specs.Meaning.{abs_at, arg_at}
+use Rattle.form_values.specs.Meaning.{abs_at, arg_at, elements_of}
 use Rattle.form_values.specs.declared.abs.Abs.{Abs}
 use Rattle.form_values.specs.declared.abs.Abs.TheVariants.{Known, Affine, Test}
 use Rattle.form_values.specs.declared.abs.AbsArg.{AbsArg}
 use Rattle.form_values.specs.declared.abs.AbsArg.TheVariants.{One, Area}
-use Rattle.form_table.specs.Wanted.{entry, elements_of}
+use Rattle.form_values.specs.Entries.{entry}
 use Rattle.form_table.specs.Items.{mean, average_form, count_form, is_number, forms_of}
 use Rattle.form_truth.proofs.Right.{IsRight, IsRightArg}
 use Rattle.form_truth.proofs.Exact.{exact-made}

@@ -12,7 +12,7 @@ use Rattle.fractions.proofs.Common.{by_common₂, zero_same, linear}
 use Rattle.fractions.proofs.Quote.{quotes, by_ring}
 use Rattle.sheet_model.specs.Tests.{number_cmp}
 use Rattle.affine_forms.specs.Forms.{Assignment, AffineForm, worth, sum_at}
-use Rattle.form_values.specs.Meaning.{holds}
+use Rattle.affine_forms.specs.Relations.{holds}
 use Rattle.form_values.specs.Refusals.{middle, midpoint}
 use Rattle.affine_forms.specs.declared.rel.Rel.TheVariants as rel
 use Rattle.form_truth.proofs.Relations.{takes, holds_takes}

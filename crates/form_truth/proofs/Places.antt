@@ -24,12 +24,13 @@ use Rattle.sheet_funcs.specs.Arguments.{answered, counted, on_ok}
 use Rattle.sheet_funcs.specs.Rounding as numbers
 use Rattle.sheet_funcs.specs.Rounding.{rounded, magnitude, half, is_place, rounded_half_up, rounded_at, round_of}
 use Rattle.affine_forms.specs.Forms.{Assignment, AffineForm, IsForm, worth, has_terms}
-use Rattle.form_values.specs.Meaning.{abs_at, arg_at, IsAbs, IsOpen}
+use Rattle.form_values.specs.Meaning.{abs_at, arg_at, IsAbs, IsOpen, elements_of}
 use Rattle.form_values.specs.Refusals.{Bends, jumps, middle}
 use Rattle.form_values.specs.Trials.{breaks, undecided}
 use Rattle.form_values.specs.declared.abs.Abs.{Abs}
 use Rattle.form_values.specs.declared.abs.AbsArg.{AbsArg}
-use Rattle.form_table.specs.Wanted.{value_of, elements_of, all_known, constant_of, certain_by}
+use Rattle.form_table.specs.Wanted.{value_of, constant_of, certain_by}
+use Rattle.form_values.specs.Known.{all_known}
 use Rattle.form_table.specs.Rounding.{no_places, round_row, round_form}
 use Rattle.form_truth.proofs.Right.{IsRight, IsRightArg, ArgumentVaries}
 use Rattle.form_truth.proofs.Fitting.{constant_is, open_is, at_value, at_value_worth, zero_is_not_one}

@@ -25,7 +25,8 @@ use Rattle.form_values.specs.Refusals.{Bends, bends, jumps, middle, midpoint}
 use Rattle.form_values.specs.Trials.{given, breaks}
 use Rattle.form_values.specs.declared.abs.Abs.{Abs}
 use Rattle.form_values.specs.declared.abs.Abs.TheVariants.{Known}
-use Rattle.form_table.specs.Wanted.{entry, constant_of, certain_by}
+use Rattle.form_table.specs.Wanted.{constant_of, certain_by}
+use Rattle.form_values.specs.Entries.{entry}
 use Rattle.form_table.specs.Operators.{raised_to, power_row, no_exponent}
 use Rattle.form_truth.proofs.Right.{IsRight}
 use Rattle.form_truth.proofs.Fitting.{entry_at, constant_is, open_is, at_value, at_value_worth}

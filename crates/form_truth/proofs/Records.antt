@@ -25,7 +25,8 @@ use Rattle.form_values.specs.Trials.{Trial, Refusal}
 use Rattle.form_values.specs.declared.abs.Abs.{Abs}
 use Rattle.form_values.specs.declared.abs.Abs.TheVariants.{Known, Affine, Test}
 use Rattle.form_values.specs.declared.abs.AbsArg.{AbsArg}
-use Rattle.form_table.specs.Wanted.{Wanted, form, open_test, none as no_number, known_number, is_known}
+use Rattle.form_table.specs.Wanted.{Wanted, form, open_test, none as no_number, known_number}
+use Rattle.form_values.specs.Known.{is_known}
 use Rattle.form_table.specs.Wanted as wanted
 use Rattle.form_table.specs.Lookups.{may_be_key, known_value, known_keys, kinds_by, kinds_of, kinds_in, from_one, field_at, is_never_found, is_missing, at_record, by_record, in_field, open_field, by_field, record_form}
 use Rattle.form_truth.specs.Picks.{read}

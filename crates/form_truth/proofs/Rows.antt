@@ -22,14 +22,16 @@ use Rattle.sheet_funcs.specs.Table.{called}
 use Rattle.affine_forms.specs.Forms.{Assignment, AffineForm, worth}
 use Rattle.affine_forms.specs.declared.rel.Rel.{Rel}
 use Rattle.affine_forms.specs.declared.rel.Rel.TheVariants as rel
-use Rattle.form_values.specs.Meaning.{abs_at, arg_at, holds, IsAbs, IsOpen, IsSound}
+use Rattle.form_values.specs.Meaning.{abs_at, arg_at, IsAbs, IsOpen, IsSound}
+use Rattle.affine_forms.specs.Relations.{holds}
 use Rattle.form_values.specs.Refusals.{Varies}
 use Rattle.form_values.specs.Trials.{Trial, Refusal, made}
 use Rattle.form_values.specs.declared.abs.Abs.{Abs}
 use Rattle.form_values.specs.declared.abs.Abs.TheVariants.{Known, Affine, Test}
 use Rattle.form_values.specs.declared.abs.AbsArg.{AbsArg}
 use Rattle.form_values.specs.declared.abs.AbsArg.TheVariants.{One, Area}
-use Rattle.form_table.specs.Wanted.{all_known, values_in, known_arg, value_of, grid_of}
+use Rattle.form_table.specs.Wanted.{value_of, grid_of}
+use Rattle.form_values.specs.Known.{all_known, values_in, known_arg}
 use Rattle.form_table.specs.Items.{count_form}
 use Rattle.form_table.specs.Logic.{not_form, n_form, isnumber_form, isblank_form}
 use Rattle.form_table.specs.Products.{transpose_form}

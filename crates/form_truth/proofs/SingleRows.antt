@@ -15,7 +15,8 @@ use Rattle.sheet_funcs.specs.Information.{n_of, isnumber_of, isblank_of, number_
 use Rattle.sheet_funcs.specs.Logic.{not_of}
 use Rattle.sheet_funcs.specs.Sums as sums
 use Rattle.affine_forms.specs.Forms.{Assignment, worth}
-use Rattle.form_values.specs.Meaning.{abs_at, arg_at, holds, IsAbs}
+use Rattle.form_values.specs.Meaning.{abs_at, arg_at, IsAbs, elements_of}
+use Rattle.affine_forms.specs.Relations.{holds, reversed}
 use Rattle.form_values.specs.Refusals.{Varies}
 use Rattle.form_values.specs.Trials.{one}
 use Rattle.affine_forms.specs.declared.rel.Rel.{Rel}
@@ -23,9 +24,9 @@ use Rattle.affine_forms.specs.declared.rel.Rel.TheVariants as rel
 use Rattle.form_values.specs.declared.abs.Abs.{Abs}
 use Rattle.form_values.specs.declared.abs.Abs.TheVariants.{Known, Affine, Test}
 use Rattle.form_values.specs.declared.abs.AbsArg.{AbsArg}
-use Rattle.form_table.specs.Wanted.{elements_of, value_of}
+use Rattle.form_table.specs.Wanted.{value_of}
 use Rattle.form_table.specs.Items.{is_number}
-use Rattle.form_table.specs.Logic.{not_form, not_abs, not_logical, reversed, n_form, n_abs, isnumber_form, isblank_form, is_blank}
+use Rattle.form_table.specs.Logic.{not_form, not_abs, not_logical, n_form, n_abs, isnumber_form, isblank_form, is_blank}
 use Rattle.form_truth.proofs.Right.{IsRightArg}
 use Rattle.form_truth.proofs.Arguments.{value_at, value_sound, argument_varies}
 use Rattle.form_truth.proofs.Fitting.{test_varies}

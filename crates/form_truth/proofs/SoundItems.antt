@@ -15,7 +15,8 @@ use Rattle.affine_forms.proofs.Worths.{scaled_is_form}
 use Rattle.form_values.specs.Meaning.{IsSound}
 use Rattle.form_values.specs.Trials.{Trial, Refusal, breaks, undecided, made, on_given, one}
 use Rattle.form_values.specs.declared.abs.AbsArg.{AbsArg}
-use Rattle.form_table.specs.Wanted.{entry, number_of, value_of, on_form, on_forms, single}
+use Rattle.form_table.specs.Wanted.{number_of, value_of, on_form, on_forms, single}
+use Rattle.form_values.specs.Entries.{entry}
 use Rattle.form_table.specs.Operators.{zero_divisor, no_exponent, power_row}
 use Rattle.form_table.specs.Items.{items_in, first_error, first_open, forms_of, on_items, of_items, sum_form, mean, average_form, count_form, extreme, extreme_of, min_form, max_form}
 use Rattle.form_table.specs.Rounding.{bent_form, mod_form, no_places, round_row, round_form, power_form}

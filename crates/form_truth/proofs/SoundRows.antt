@@ -12,13 +12,14 @@ use Rattle.sheet_funcs.specs.Products as products
 use Rattle.sheet_funcs.specs.Products.{places_of}
 use Rattle.affine_forms.specs.Forms.{AffineForm, IsForm}
 use Rattle.form_values.specs.Grids.{Raster}
-use Rattle.form_values.specs.Meaning.{IsAbs}
+use Rattle.form_values.specs.Meaning.{IsAbs, elements_of}
 use Rattle.form_values.specs.Trials.{Refusal, given, on_given, and_then, one, fault, each_tried}
 use Rattle.form_values.specs.declared.abs.Abs.{Abs}
 use Rattle.form_values.specs.declared.abs.Abs.TheVariants.{Known, Affine, Test}
 use Rattle.form_values.specs.declared.abs.AbsArg.{AbsArg}
 use Rattle.form_values.specs.declared.abs.AbsArg.TheVariants.{One, Area}
-use Rattle.form_table.specs.Wanted.{elements_of, value_of, grid_of, entry}
+use Rattle.form_table.specs.Wanted.{value_of, grid_of}
+use Rattle.form_values.specs.Entries.{entry}
 use Rattle.form_table.specs.Items.{is_number}
 use Rattle.form_table.specs.Logic.{Truth, known, none, opened, of_logical, truth_of, element_truth, truths_in, truths_of, first_error, known_in, open_in, of_open, is_same, decided_by, of_truths, junction, not_abs, not_logical, n_abs, not_form, n_form, isnumber_form, isblank_form}
 use Rattle.form_table.specs.Products.{dot, error_among, or_fault, is_of_size, factors_at, dot_of_grids, sumproduct_form, at, product_at, of_forms, mmult_form, transpose_form}

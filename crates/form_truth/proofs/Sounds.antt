@@ -25,7 +25,8 @@ use Rattle.form_values.specs.declared.abs.Abs.{Abs}
 use Rattle.form_values.specs.declared.abs.Abs.TheVariants.{Known, Affine, Test}
 use Rattle.form_values.specs.declared.abs.AbsArg.{AbsArg}
 use Rattle.form_values.specs.declared.abs.AbsArg.TheVariants.{One, Area}
-use Rattle.form_table.specs.Wanted.{Wanted, form, open_test, none, wanted, of_number, entry, number_of_form, test, test_of_form, constant_of, certain_by, known_number, unless, on_form, on_forms, no_error, single, one_of}
+use Rattle.form_table.specs.Wanted.{Wanted, form, open_test, none, wanted, of_number, constant_of, certain_by, known_number, unless, on_form, on_forms, no_error, single, one_of}
+use Rattle.form_values.specs.Entries.{entry, number_of_form, test, test_of_form}
 use Rattle.form_table.specs.Operators.{by_constants, times, product_row, divided_by, quotient_row, zero_divisor, raised_to, power_row, no_exponent, joined, relation_of, compared, infix_row, infix_abs, minus_abs, percent_abs, with_items, grid_made, on_each, on_pairs, infix_form, minus_form, percent_form}
 use Rattle.form_truth.proofs.Right.{GivesSound}
 use Rattle.form_truth.proofs.Exact.{exact-made, exact-and_then}

@@ -21,7 +21,7 @@ use Rattle.form_values.specs.Trials.{Trial, Refusal, Breaks, Undecided, made, on
 use Rattle.form_values.specs.declared.abs.Abs.{Abs}
 use Rattle.form_values.specs.declared.abs.AbsArg.{AbsArg}
 use Rattle.form_values.specs.declared.abs.AbsArg.TheVariants.{One}
-use Rattle.form_table.specs.Wanted.{entry}
+use Rattle.form_values.specs.Entries.{entry}
 use Rattle.form_table.specs.Items.{items_in, first_error, first_open, forms_of, of_items, on_items, sum_form}
 use Rattle.form_truth.proofs.Right.{IsRight, IsRightArg, ArgumentVaries}
 use Rattle.form_truth.proofs.Exact.{exact-made, exact-and_then}

@@ -11,12 +11,12 @@ use Rattle.sheet_funcs.specs.Products as products
 use Rattle.sheet_funcs.specs.Products.{transpose_of, places_of}
 use Rattle.affine_forms.specs.Forms.{Assignment}
 use Rattle.form_values.specs.Grids.{Raster}
-use Rattle.form_values.specs.Meaning.{abs_at, arg_at, IsAbs}
+use Rattle.form_values.specs.Meaning.{abs_at, arg_at, IsAbs, elements_of}
 use Rattle.form_values.specs.declared.abs.Abs.{Abs}
 use Rattle.form_values.specs.declared.abs.Abs.TheVariants.{Known}
 use Rattle.form_values.specs.declared.abs.AbsArg.{AbsArg}
 use Rattle.form_values.specs.declared.abs.AbsArg.TheVariants.{One, Area}
-use Rattle.form_table.specs.Wanted.{elements_of, grid_of}
+use Rattle.form_table.specs.Wanted.{grid_of}
 use Rattle.form_table.specs.Products.{transpose_form, at}
 use Rattle.form_truth.proofs.Right.{IsRightArg}
 

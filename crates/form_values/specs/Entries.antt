@@ -3,7 +3,7 @@ use Rattle.std.specs.Prelude.{Bool, true, false}
 use Rattle.sheet_model.specs.declared.value.Value.TheVariants.{Number, Logical}
 use Rattle.affine_forms.specs.Forms.{AffineForm, has_terms}
 use Rattle.affine_forms.specs.declared.rel.Rel.{Rel}
-use Rattle.form_values.specs.Meaning.{holds}
+use Rattle.affine_forms.specs.Relations.{holds}
 use Rattle.form_values.specs.declared.abs.Abs.{Abs}
 use Rattle.form_values.specs.declared.abs.Abs.TheVariants.{Known, Affine, Test}
 

@@ -1,13 +1,13 @@
 -- What a value is worth at an assignment while decisions are open (Chvatal, Linear Programming, chapter 1: an assignment gives each
 -- decision a number; OpenDocument 1.2 part 2, section 4: values).
-use Rattle.std.specs.Prelude.{IsTrue, Bool, List, [], ◌∷◌, map, ⊤}
+use Rattle.std.specs.Prelude.{IsTrue, List, [], ◌∷◌, map, ⊤}
 use Rattle.std.specs.List.{AllByRecursion}
 use Rattle.sheet_model.specs.declared.value.Value.{Value}
 use Rattle.sheet_model.specs.declared.value.Value.TheVariants.{Number, Logical}
 use Rattle.sheet_model.specs.declared.grid.Arg.{Arg}
 use Rattle.sheet_model.specs.declared.grid.Arg.TheVariants as arg
 use Rattle.affine_forms.specs.Forms.{Assignment, AffineForm, IsForm, worth, has_terms}
-pub use Rattle.affine_forms.specs.Relations.{holds}
+use Rattle.affine_forms.specs.Relations.{holds}
 use Rattle.form_values.specs.declared.abs.Abs.{Abs}
 use Rattle.form_values.specs.declared.abs.Abs.TheVariants.{Known, Affine, Test}
 use Rattle.form_values.specs.declared.abs.AbsArg.{AbsArg}
