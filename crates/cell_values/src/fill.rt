@@ -97,7 +97,7 @@ fn kept_looks(alloc: Global, part: &Part, keeps_looks: bool) -> Result<Vec<Cell>
     ensures { IfOk result (λ looks. looks.items ≡ kept_looks keeps_looks part.now.looks) }
 {
     if keeps_looks {
-        return part.looks(alloc);
+        return part.looks().cells(alloc);
     }
     Ok(Vec::new(alloc))
 }
@@ -110,6 +110,6 @@ fn is_wide(alloc: Global, values: &Values, part: &Part) -> Result<bool, Memory>
     if part.outcome().is_some() {
         return Ok(false);
     }
-    let looks = part.looks(alloc)?;
+    let looks = part.looks().cells(alloc)?;
     Ok(values.all_known(&looks))
 }

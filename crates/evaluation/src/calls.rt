@@ -78,7 +78,7 @@ fn rows_part(alloc: Global, args: &[Part]) -> Result<Part, Memory>
         return whole_part(alloc, Func::Rows, args);
     };
     match &part.reference {
-        Some(areas) => Ok(Part::plain(alloc, number(areas.grid(alloc)?.rows()))),
+        Some(referred) => Ok(Part::plain(alloc, number(referred.grid(alloc)?.rows()))),
         None => whole_part(alloc, Func::Rows, args),
     }
 }
@@ -96,7 +96,7 @@ fn columns_part(alloc: Global, args: &[Part]) -> Result<Part, Memory>
         return whole_part(alloc, Func::Columns, args);
     };
     match &part.reference {
-        Some(areas) => Ok(Part::plain(alloc, number(areas.grid(alloc)?.cols()))),
+        Some(referred) => Ok(Part::plain(alloc, number(referred.grid(alloc)?.cols()))),
         None => whole_part(alloc, Func::Columns, args),
     }
 }

@@ -16,4 +16,5 @@ mod values;
 
 pub use cells::Cells;
 pub use formula::evaluate;
+pub use looked::Looks;
 pub use part::Part;

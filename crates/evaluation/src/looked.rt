@@ -18,7 +18,7 @@ pub(crate) enum Looked {
 
 /// The cells at which a part of a formula looks, in their order. Those of an area are listed only where they are asked for.
 #[derive(Drop)]
-pub(crate) struct Looks {
+pub struct Looks {
     list: Vec<Looked>,
 }
 
@@ -58,7 +58,7 @@ impl Looks {
     }
 
     /// The cells one by one.
-    pub(crate) fn cells(&self, alloc: Global) -> Result<Vec<Cell>, Memory>
+    pub fn cells(&self, alloc: Global) -> Result<Vec<Cell>, Memory>
         ensures { IfOk result (λ cells. cells.items ≡ self.now) }
     {
         listed(alloc, &self.list)

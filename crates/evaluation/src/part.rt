@@ -5,7 +5,6 @@ ghost use Rattle.evaluation.specs.Composed.{plain};
 
 use crate::looked::Looks;
 use crate::referred::Referred;
-use cell_refs::Cell;
 use frac128::Frac;
 use sheet_model::{Arg, Memory, Value};
 use std::alloc::Global;
@@ -32,10 +31,10 @@ impl Model for Part {
 
 impl Part {
     /// The cells at which it looks, in their order.
-    pub fn looks(&self, alloc: Global) -> Result<Vec<Cell>, Memory>
-        ensures { IfOk result (λ looks. looks.items ≡ self.now.looks) }
+    pub fn looks(&self) -> &Looks
+        ensures { result.now ≡ self.now.looks }
     {
-        self.looks.cells(alloc)
+        &self.looks
     }
 
     /// Its value on narrow numbers.
