@@ -35,7 +35,10 @@ fn cut(alloc: Global, text: &[u8]) -> Result<Vec<Token>, LexFault>
     requires { length text.now ≤ TEXT_BYTES + 1 }
     ensures { LexAnswers text.now result }
 {
-    let mut tokens = Vec::new(alloc);
+    // (no text has more tokens than bytes)
+    let Ok(mut tokens) = Vec::with_capacity(alloc, text.len()) else {
+        return Err(LexFault::Memory);
+    };
     let mut at = 0;
     while at < text.len() {
         if is_blank(text[at]) {

@@ -10,10 +10,10 @@ loop-at-preserved-then-is_blank c =
       blank_passes c.args.text.now c.loop-at.tokens.items c.loop-at.at i.1 i.2 c.loop-at-test.true (sym c.if-is_blank.ensures),
     )
 
-pub returns-in_default : goal.returns-in_default
-returns-in_default c =
+pub returns-in_default-front : goal.returns-in_default-front
+returns-in_default-front c =
     let i = c.loop-at.invariant in
-    stuck c.args.text.now c.loop-at.tokens.items c.loop-at.at i.1 i.2 c.loop-at-test.true (sym c.if-is_blank.ensures) (rw whole_rest at c.in_default.ensures.front)
+    stuck c.args.text.now c.loop-at.tokens.items c.loop-at.at i.1 i.2 c.loop-at-test.true (sym c.if-is_blank.ensures) (rw whole_rest at c.in_default-front.ensures.front)
 
 pub loop-at-preserved : goal.loop-at-preserved
 loop-at-preserved c =
