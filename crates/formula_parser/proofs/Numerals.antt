@@ -1,5 +1,5 @@
 -- What the reading of a numeral says of its tree.
-use Rattle.std.proofs.Common.{◌≡◌, ℕ, ◌<◌, ◌^◌, Bool, true, false, cond, List, Option, Some, None, refl, sym, ap, ◌∙◌, arith}
+use Rattle.std.proofs.Common.{◌≡◌, ℕ, Bool, true, false, cond, List, Option, Some, None, refl, sym, ap, ◌∙◌}
 use Rattle.std.specs.Option.{option_map}
 use Rattle.fractions.specs.Rational.{ℚ, neg_ℚ}
 use Rattle.cell_refs.specs.declared.span.Span.{Span}

@@ -11,15 +11,15 @@ use Rattle.formula_ast.specs.Tree.{Tree, span_of}
 use Rattle.formula_grammar.specs.declared.symbol.Sign.{Sign}
 use Rattle.formula_grammar.specs.declared.symbol.Symbol.{Symbol}
 use Rattle.formula_grammar.specs.Symbols.{Setting, from_to}
-use Rattle.formula_grammar.specs.Parts.{Prefix, prefix_of}
-use Rattle.formula_grammar.specs.Reading.{close_at, operator_at}
+use Rattle.formula_grammar.specs.Parts.{Prefix, operator_of, prefix_of}
+use Rattle.formula_grammar.specs.Reading.{close_at}
 use Rattle.formula_grammar.proofs.Sound.{close_is}
 use Rattle.formula_grammar.proofs.Turns.{some_is}
 use Rattle.formula_parser.specs.declared.branch.Branch.{Branch}
 use Rattle.formula_parser.specs.declared.branch.Part.{Part}
 use Rattle.formula_parser.specs.declared.stop.Stop.{Stop}
 use Rattle.formula_parser.specs.Built.{built, prefixed_by}
-use Rattle.formula_parser.specs.Given.{next_operator, next_where}
+use Rattle.formula_parser.specs.Given.{any_operator, next_where}
 use Rattle.formula_parser.specs.Placed.{AreBefore, AreSymbols, InOrder, IsBetween, IsInFront, IsInText, IsPlaced}
 
 -- ---- symbols in order
@@ -44,9 +44,9 @@ pub first_behind : (s : Symbol) (rest ss : List Symbol) (from : ℕ) → ss ≡ 
 first_behind s rest ss from is order = subst (InOrder from) is order
 
 -- the operator or the sign in front
-pub operator_first : (level : ℕ) (ss : List Symbol) (op : Op) (after : List Symbol) → next_operator level ss ≡ Some (op, after) → (s : Symbol) × (ss ≡ s ∷ after)
-operator_first level [] op after e = absurd cc
-operator_first level (s ∷ ss) op after e = by_case (operator_at level s) e
+pub operator_first : (ss : List Symbol) (op : Op) (after : List Symbol) → any_operator ss ≡ Some (op, after) → (s : Symbol) × (ss ≡ s ∷ after)
+operator_first [] op after e = absurd cc
+operator_first (s ∷ ss) op after e = by_case (operator_of s.sign) e
   where
     by_case : (o : Option Op) → option_map_or {U = Option (Op × List Symbol)} (λ op. Some (op, ss)) o None ≡ Some (op, after) → (t : Symbol) × (s ∷ ss ≡ t ∷ after)
     by_case None e = absurd cc

@@ -1,21 +1,22 @@
 -- The steps of the code, over plain variables.
-use Rattle.std.proofs.Common.{is_some, ◌≡◌, ℕ, zero, suc, ◌+◌, ◌-◌, ◌<◌, ◌≤◌, Bool, true, false, cond, List, [], ◌∷◌, ◌++◌, length, drop, take, get_or, add-one, Option, Some, None, refl, sym, ap, ◌∙◌, arith}
+use Rattle.std.proofs.Common.{is_some, ◌⊎◌, inl, inr, ◌≡◌, ℕ, zero, suc, ◌+◌, ◌-◌, ◌<◌, ◌≤◌, Bool, true, false, cond, List, [], ◌∷◌, ◌++◌, length, drop, take, get_or, add-one, Option, Some, None, eqb, eq-eqb, refl, sym, ap, ◌∙◌, arith}
+use Rattle.std.proofs.lemmas.Bool.Decides.{eqb_tells}
 use Rattle.std.proofs.lemmas.Grind.{common_steps}
 use Rattle.std.specs.Option.{option_map_or, option_and_then}
 use Rattle.cell_refs.specs.declared.op.Op.{Op}
 use Rattle.formula_grammar.specs.declared.symbol.Symbol.{Symbol}
 use Rattle.formula_grammar.specs.Symbols.{Setting}
-use Rattle.formula_grammar.specs.Parts.{Prefix, prefix_of, is_percent, is_separator}
+use Rattle.formula_grammar.specs.Parts.{Prefix, level_of, operator_of, prefix_of, is_percent, is_separator}
 use Rattle.formula_grammar.specs.Making.{Making, Shows}
 use Rattle.formula_grammar.specs.Loops.{Found, Reader, Turn, Stop as Stopped, Go, go_on, all_turns}
-use Rattle.formula_grammar.specs.Reading.{operator_at, infix_turn, level_at, percent_turn, signed_at, hundredths_at, arg_at, arg_turn, args_at, primary_at, formula_at, close_at, parens_at}
+use Rattle.formula_grammar.specs.Reading.{at_level, operator_at, infix_turn, level_at, percent_turn, signed_at, hundredths_at, arg_at, arg_turn, args_at, primary_at, formula_at, close_at, parens_at}
 use Rattle.formula_grammar.proofs.Turns.{some_is, all_stop, all_fail, all_go}
 use Rattle.formula_grammar.proofs.Sound.{formula_sound}
 use Rattle.formula_grammar.proofs.Complete.{infix_takes, percent_takes, args_take, base, base_sound}
 use Rattle.formula_parser.specs.declared.stop.Stop.{Stop}
 use Rattle.formula_parser.specs.declared.stop.Stop.TheVariants as stops
 use Rattle.formula_parser.specs.Built.{prefixed_by}
-use Rattle.formula_parser.specs.Given.{Fails, next_where, next_operator, prefix_count}
+use Rattle.formula_parser.specs.Given.{Fails, any_operator, next_where, next_operator, prefix_count}
 
 -- what fails at first fails as a whole
 pub fails_first : {A B : Type 0} (e : Stop) (o : Option A) (f : A → Option B) → Fails e o → Fails e (option_and_then f o)
@@ -59,30 +60,50 @@ module _ (M : Making) (operand : Reader M.Made) (level : ℕ) (x : M.Made) where
       by_case None e = absurd cc
       by_case (Some p) e = ap (λ (f : Op × List Symbol). go_on (M.joined f.0 x) (operand f.1)) (some_is (p, ss) (op, after) e)
 
+-- numbers that differ are not equal
+other_than : (a b : ℕ) → (a ≡ b → ⊥) → eqb a b ≡ false
+other_than a b h = grind (arith, eqb_tells a b)
+
+-- the operator in front is one of its level
+pub operator_here : (ss : List Symbol) (op : Op) (after : List Symbol) → any_operator ss ≡ Some (op, after) → next_operator (level_of op) ss ≡ Some (op, after)
+operator_here [] op after e = absurd cc
+operator_here (s ∷ ss) op after e = by_case (operator_of s.sign) e
+  where
+    by_case : (o : Option Op) → option_map_or {U = Option (Op × List Symbol)} (λ op. Some (op, ss)) o None ≡ Some (op, after)
+        → option_map_or {U = Option (Op × List Symbol)} (λ op. Some (op, ss)) (option_and_then (at_level (level_of op)) o) None ≡ Some (op, after)
+    by_case None e = absurd cc
+    by_case (Some p) e =
+        let same : p ≡ op = ap (λ (f : Op × List Symbol). f.0) (some_is (p, ss) (op, after) e) in
+        ap (λ b. option_map_or {U = Option (Op × List Symbol)} (λ op. Some (op, ss)) (cond b (Some p) None) None) (eq-eqb (level_of p) (level_of op) (ap level_of same)) ∙ e
+
+-- it is none of another level
+operator_elsewhere : (ss : List Symbol) (op : Op) (after : List Symbol) → any_operator ss ≡ Some (op, after) → (level : ℕ) → (level_of op ≡ level → ⊥) → next_operator level ss ≡ None
+operator_elsewhere [] op after e level other = absurd cc
+operator_elsewhere (s ∷ ss) op after e level other = by_case (operator_of s.sign) e
+  where
+    by_case : (o : Option Op) → option_map_or {U = Option (Op × List Symbol)} (λ op. Some (op, ss)) o None ≡ Some (op, after)
+        → option_map_or {U = Option (Op × List Symbol)} (λ op. Some (op, ss)) (option_and_then (at_level level) o) None ≡ None
+    by_case None e = absurd cc
+    by_case (Some p) e =
+        let same : p ≡ op = ap (λ (f : Op × List Symbol). f.0) (some_is (p, ss) (op, after) e) in
+        ap (λ b. option_map_or {U = Option (Op × List Symbol)} (λ op. Some (op, ss)) (cond b (Some p) None) None) (other_than (level_of p) level (λ k. other (sym (ap level_of same) ∙ k)))
+
+-- where no operator is in front, there is none of any level
+pub operator_nowhere : (ss : List Symbol) → any_operator ss ≡ None → (level : ℕ) → next_operator level ss ≡ None
+operator_nowhere [] e level = refl
+operator_nowhere (s ∷ ss) e level = by_case (operator_of s.sign) e
+  where
+    by_case : (o : Option Op) → option_map_or {U = Option (Op × List Symbol)} (λ op. Some (op, ss)) o None ≡ None
+        → option_map_or {U = Option (Op × List Symbol)} (λ op. Some (op, ss)) (option_and_then (at_level level) o) None ≡ None
+    by_case None e = refl
+    by_case (Some p) e = absurd cc
+
 -- a level is read from the one below
 level_from : (M : Making) (base : Reader M.Made) (at n : ℕ) (ss : List Symbol) → at ≡ suc n → level_at M base at ss ≡ option_and_then (λ (x : M.Made × List Symbol). all_turns (infix_turn M (level_at M base n) at) x.0 x.1) (level_at M base n ss)
 unfolding level_at
 level_from M base at n ss e = rw e refl
 
--- the lowest level
-pub level_zero : (M : Making) (base : Reader M.Made) (at : ℕ) (ss : List Symbol) → at ≡ 0 → level_at M base at ss ≡ base ss
-unfolding level_at
-level_zero M base at ss e = rw e refl
-
-module _ (S : Setting) (M : Making) (W : Shows S M) (depth at : ℕ) (not_zero : at ≡ 0 → ⊥) where
-  -- a level that is not the lowest is above one
-  above : at ≡ suc (at - 1)
-  above = omega arith
-
-  -- the first operand fails
-  pub level_fails_first : (e : Stop) (ss : List Symbol) → Fails e (level_at M (base S M W depth) (at - 1) ss) → Fails e (level_at M (base S M W depth) at ss)
-  level_fails_first e ss h = rw (level_from M (base S M W depth) at (at - 1) ss above) (fails_first e (level_at M (base S M W depth) (at - 1) ss) (λ x. all_turns (infix_turn M (level_at M (base S M W depth) (at - 1)) at) x.0 x.1) h)
-
-  -- the loop begins with the first operand
-  pub level_begins : (ss : List Symbol) (x : M.Made) (rest : List Symbol) → level_at M (base S M W depth) (at - 1) ss ≡ Some (x, rest)
-      → all_turns (infix_turn M (level_at M (base S M W depth) (at - 1)) at) x rest ≡ level_at M (base S M W depth) at ss
-  level_begins ss x rest h = sym (level_from M (base S M W depth) at (at - 1) ss above ∙ ap (option_and_then (λ (x : M.Made × List Symbol). all_turns (infix_turn M (level_at M (base S M W depth) (at - 1)) at) x.0 x.1)) h)
-
+module _ (S : Setting) (M : Making) (W : Shows S M) (depth at : ℕ) where
   module _ (x : M.Made) (ss : List Symbol) (op : Op) (after : List Symbol) (next : next_operator at ss ≡ Some (op, after)) where
     -- another operand fails
     pub level_fails : (e : Stop) (total : Found M.Made) → Fails e (level_at M (base S M W depth) (at - 1) after) → all_turns (infix_turn M (level_at M (base S M W depth) (at - 1)) at) x ss ≡ total → Fails e total
@@ -143,9 +164,106 @@ percent_goes S M W x z ss s after total e k so_far = ap (λ p. all_turns (percen
 pub percent_done : (M : Making) (x : M.Made) (ss : List Symbol) (total : Found M.Made) → next_where is_percent ss ≡ None → all_turns (percent_turn M) x ss ≡ total → total ≡ Some (x, ss)
 percent_done M x ss total e = loop_done (percent_turn M) x ss total (percent_none M x ss e)
 
--- no operator is left
-pub level_done : (M : Making) (operand : Reader M.Made) (at : ℕ) (x : M.Made) (ss : List Symbol) (total : Found M.Made) → next_operator at ss ≡ None → all_turns (infix_turn M operand at) x ss ≡ total → total ≡ Some (x, ss)
-level_done M operand at x ss total e = loop_done (infix_turn M operand at) x ss total (infix_none M operand at x ss e)
+-- ---- levels
+
+-- at the same number
+moved : {A : Type 0} (f : ℕ → A) (m n : ℕ) → m ≡ n → f m ≡ f n
+moved f m n e = ap f e
+
+-- what is read one after the other
+and_then_joined : {A B C : Type 0} (o : Option A) (f : A → Option B) (g : B → Option C) → option_and_then g (option_and_then f o) ≡ option_and_then (λ x. option_and_then g (f x)) o
+and_then_joined None f g = refl
+and_then_joined (Some x) f g = refl
+
+and_then_some : {A B : Type 0} (o : Option (A × B)) → option_and_then (λ x. Some (x.0, x.1)) o ≡ o
+and_then_some None = refl
+and_then_some (Some x) = refl
+
+-- all turns of so many levels, from one on
+abbrev pub climb : (M : Making) → Reader M.Made → ℕ → ℕ → M.Made → List Symbol → Found M.Made
+climb M base zero least x ss = Some (x, ss)
+climb M base (suc more) least x ss = option_and_then (λ (y : M.Made × List Symbol). climb M base more (suc least) y.0 y.1) (all_turns (infix_turn M (level_at M base (least - 1)) least) x ss)
+
+module _ (M : Making) (base : Reader M.Made) where
+  -- the levels above one, one after the other, are the highest of them
+  climb_from : (more n : ℕ) (ss : List Symbol) → option_and_then (λ (x : M.Made × List Symbol). climb M base more (suc n) x.0 x.1) (level_at M base n ss) ≡ level_at M base (n + more) ss
+  climb_from zero n ss = and_then_some (level_at M base n ss) ∙ moved (λ m. level_at M base m ss) n (n + 0) (omega arith)
+  climb_from (suc more) n ss =
+      moved (λ m. option_and_then (λ (x : M.Made × List Symbol). option_and_then (λ (y : M.Made × List Symbol). climb M base more (suc (suc n)) y.0 y.1) (all_turns (infix_turn M (level_at M base m) (suc n)) x.0 x.1)) (level_at M base n ss)) (suc n - 1) n (omega arith)
+      ∙ sym (and_then_joined (level_at M base n ss) (λ (x : M.Made × List Symbol). all_turns (infix_turn M (level_at M base n) (suc n)) x.0 x.1) (λ (y : M.Made × List Symbol). climb M base more (suc (suc n)) y.0 y.1))
+      ∙ ap (option_and_then (λ (y : M.Made × List Symbol). climb M base more (suc (suc n)) y.0 y.1)) (sym (level_from M base (suc n) n ss refl))
+      ∙ climb_from more (suc n) ss
+      ∙ moved (λ m. level_at M base m ss) (suc n + more) (n + suc more) (omega arith)
+
+  -- all levels are read from the lowest on
+  climb_all : (at : ℕ) (ss : List Symbol) → level_at M base at ss ≡ option_and_then (λ (x : M.Made × List Symbol). climb M base at 1 x.0 x.1) (base ss)
+  unfolding level_at
+  climb_all at ss = moved (λ m. level_at M base m ss) at (0 + at) (omega arith) ∙ sym (climb_from at 0 ss)
+
+  -- the first operand fails
+  pub level_fails_first : (e : Stop) (at : ℕ) (ss : List Symbol) → Fails e (base ss) → Fails e (level_at M base at ss)
+  level_fails_first e at ss h = rw (climb_all at ss) (fails_first e (base ss) (λ x. climb M base at 1 x.0 x.1) h)
+
+  -- the loop begins with the first operand
+  pub level_begins : (at : ℕ) (ss : List Symbol) (x : M.Made) (rest : List Symbol) → base ss ≡ Some (x, rest) → climb M base (at + 1 - 1) 1 x rest ≡ level_at M base at ss
+  level_begins at ss x rest h = moved (λ n. climb M base n 1 x rest) (at + 1 - 1) at (omega arith) ∙ sym (climb_all at ss ∙ ap (option_and_then (λ (x : M.Made × List Symbol). climb M base at 1 x.0 x.1)) h)
+
+  module _ (x : M.Made) (ss : List Symbol) where
+    -- a level without an operator in front is done
+    climb_next : (more least : ℕ) → next_operator least ss ≡ None → climb M base (suc more) least x ss ≡ climb M base more (suc least) x ss
+    climb_next more least e = ap (option_and_then (λ (y : M.Made × List Symbol). climb M base more (suc least) y.0 y.1)) (all_stop (infix_turn M (level_at M base (least - 1)) least) x ss (infix_none M (level_at M base (least - 1)) least x ss e))
+
+    -- so are more of them
+    climb_on : (gap more least : ℕ) → ((k : ℕ) → least ≤ k → k < least + gap → next_operator k ss ≡ None) → climb M base (gap + more) least x ss ≡ climb M base more (least + gap) x ss
+    climb_on zero more least none = moved (λ n. climb M base n least x ss) (0 + more) more (omega arith) ∙ moved (λ n. climb M base more n x ss) least (least + 0) (omega arith)
+    climb_on (suc gap) more least none =
+        moved (λ n. climb M base n least x ss) (suc gap + more) (suc (gap + more)) (omega arith)
+        ∙ climb_next (gap + more) least (none least (omega arith) (omega arith))
+        ∙ climb_on gap more (suc least) (λ k low high. none k (omega arith) (omega arith))
+        ∙ moved (λ n. climb M base more n x ss) (suc least + gap) (least + suc gap) (omega arith)
+
+    -- no operator of the levels is left
+    pub climb_done : (at least : ℕ) (total : Found M.Made) → ((k : ℕ) → least ≤ k → k ≤ at → next_operator k ss ≡ None) → climb M base (at + 1 - least) least x ss ≡ total → total ≡ Some (x, ss)
+    climb_done at least total none so_far = sym so_far ∙ moved (λ n. climb M base n least x ss) (at + 1 - least) (at + 1 - least + 0) (omega arith) ∙ climb_on (at + 1 - least) 0 least (λ k low high. none k low (omega arith))
+
+    -- the operator in front is of none of them
+    pub climb_stops : (at least found : ℕ) (op : Op) (after : List Symbol) (total : Found M.Made) → any_operator ss ≡ Some (op, after) → found ≡ level_of op → (found < least) ⊎ ((least ≤ found) × (at < found))
+        → climb M base (at + 1 - least) least x ss ≡ total → total ≡ Some (x, ss)
+    climb_stops at least found op after total e is outside =
+        climb_done at least total (λ k low high. operator_elsewhere ss op after e k (λ same. elim outside [ inl w ↦ omega arith | inr w ↦ omega arith ]))
+
+    -- an operator of a level above the first is read after those below it
+    climb_to : (at least found : ℕ) (op : Op) (after : List Symbol) → any_operator ss ≡ Some (op, after) → found ≡ level_of op → least ≤ found → found ≤ at → climb M base (at + 1 - least) least x ss ≡ climb M base (suc (at - found)) found x ss
+    climb_to at least found op after e is low high =
+        moved (λ n. climb M base n least x ss) (at + 1 - least) (found - least + suc (at - found)) (omega arith)
+        ∙ climb_on (found - least) (suc (at - found)) least (λ k above below. operator_elsewhere ss op after e k (λ same. absurd (omega arith)))
+        ∙ moved (λ n. climb M base (suc (at - found)) n x ss) (least + (found - least)) found (omega arith)
+
+-- the loop of levels at an operator
+module _ (S : Setting) (M : Making) (W : Shows S M) (depth at least found : ℕ) (x : M.Made) (ss : List Symbol) (op : Op) (after : List Symbol) (next : any_operator ss ≡ Some (op, after)) (is : found ≡ level_of op) (low : least ≤ found) (high : found ≤ at) where
+  -- an operator of that level is in front
+  front : next_operator found ss ≡ Some (op, after)
+  front = ap (λ n. next_operator n ss) is ∙ operator_here ss op after next
+
+  -- another operand fails
+  pub climb_fails : (e : Stop) (total : Found M.Made) → Fails e (level_at M (base S M W depth) (found - 1) after) → climb M (base S M W depth) (at + 1 - least) least x ss ≡ total → Fails e total
+  climb_fails stops.Memory total h so_far = tt
+  climb_fails stops.Syntax total h so_far =
+      sym so_far ∙ climb_to M (base S M W depth) x ss at least found op after next is low high
+      ∙ ap (option_and_then (λ (y : M.Made × List Symbol). climb M (base S M W depth) (at - found) (suc found) y.0 y.1)) (level_fails S M W depth found x ss op after front stops.Syntax (all_turns (infix_turn M (level_at M (base S M W depth) (found - 1)) found) x ss) h refl)
+
+  -- a turn leaves fewer symbols
+  pub climb_less : (y : M.Made) (rest : List Symbol) → level_at M (base S M W depth) (found - 1) after ≡ Some (y, rest) → length rest < length ss
+  climb_less y rest h = level_less S M W depth found x ss op after front y rest h
+
+  -- the loop goes on with both joined, from that level on
+  pub climb_goes : (y z : M.Made) (rest : List Symbol) (total : Found M.Made) → level_at M (base S M W depth) (found - 1) after ≡ Some (y, rest) → z ≡ M.joined op x y
+      → climb M (base S M W depth) (at + 1 - least) least x ss ≡ total → climb M (base S M W depth) (at + 1 - found) found z rest ≡ total
+  climb_goes y z rest total h k so_far =
+      moved (λ n. climb M (base S M W depth) n found z rest) (at + 1 - found) (suc (at - found)) (omega arith)
+      ∙ ap (option_and_then (λ (y : M.Made × List Symbol). climb M (base S M W depth) (at - found) (suc found) y.0 y.1)) (level_goes S M W depth found x ss op after front y z rest (all_turns (infix_turn M (level_at M (base S M W depth) (found - 1)) found) x ss) h k refl)
+      ∙ sym (climb_to M (base S M W depth) x ss at least found op after next is low high)
+      ∙ so_far
 
 -- ---- arguments
 

@@ -5,7 +5,7 @@ use Rattle.cell_refs.specs.declared.op.Op.{Op}
 use Rattle.formula_grammar.specs.declared.symbol.Sign.{Sign}
 use Rattle.formula_grammar.specs.declared.symbol.Symbol.{Symbol}
 use Rattle.formula_grammar.specs.Symbols.{Setting}
-use Rattle.formula_grammar.specs.Parts.{prefix_of}
+use Rattle.formula_grammar.specs.Parts.{operator_of, prefix_of}
 use Rattle.formula_grammar.specs.Loops.{Reader}
 use Rattle.formula_grammar.specs.Reading.{operator_at, formula_at, primary_at, hundredths_at}
 use Rattle.formula_parser.specs.declared.branch.Part.{Part}
@@ -33,6 +33,11 @@ pub record StartsWith (test : Sign → Bool) (symbols rest : List Symbol) : Type
   pub first : Symbol
   pub front : symbols ≡ first ∷ rest
   pub passes : test first.sign ≡ true
+
+-- the operator in front, and one of a level
+abbrev pub any_operator : List Symbol → Option (Op × List Symbol)
+any_operator [] = None
+any_operator (s ∷ ss) = option_map_or (λ op. Some (op, ss)) (operator_of s.sign) None
 
 abbrev pub next_operator : ℕ → List Symbol → Option (Op × List Symbol)
 next_operator level [] = None

@@ -11,7 +11,8 @@ use crate::call::call_of_name;
 use crate::leaf::leaf;
 use crate::setting::Setting;
 use crate::signs::{
-    ends_arg, next_close, next_operator, next_percent, next_separator, prefix_count, starts_close,
+    ends_arg, level_of, next_close, next_operator, next_percent, next_separator, prefix_count,
+    starts_close,
 };
 use crate::stop::Stop;
 use cell_refs::Span;
@@ -48,6 +49,8 @@ pub fn formula<'a>(alloc: Global, setting: &Setting, depth: u8, symbols: &'a [Sy
 }
 
 // Operands joined by the infix operators of a level, or of tighter ones. The lowest level has none.
+//
+// The levels are taken from the tightest on, and those below `least` are done.
 #[cycle(reading)]
 fn level<'a>(alloc: Global, setting: &Setting, depth: u8, at: u8, symbols: &'a [Symbol]) -> Read<'a>
     requires { AreSymbols setting.now.text.now symbols.now }
@@ -56,14 +59,17 @@ fn level<'a>(alloc: Global, setting: &Setting, depth: u8, at: u8, symbols: &'a [
     ensures placed { IfOk result (λ x. IsInFront symbols.now x.0 x.1.now) }
     ensures rest { IfOk result (λ x. AreSymbols setting.now.text.now x.1.now) }
 {
-    if at == 0 {
-        return percents(alloc, setting, depth, symbols);
-    }
-    let (mut left, mut rest) = level(alloc, setting, depth, at - 1, symbols)?;
-    while let Some((op, after)) = next_operator(at, rest) {
-        let (right, others) = level(alloc, setting, depth, at - 1, after)?;
+    let (mut left, mut rest) = percents(alloc, setting, depth, symbols)?;
+    let mut least = 1;
+    while let Some((op, after)) = next_operator(rest) {
+        let found = level_of(op);
+        if found < least || at < found {
+            return Ok((left, rest));
+        }
+        let (right, others) = level(alloc, setting, depth, found - 1, after)?;
         left = Part::infix(alloc, op, left, right)?;
         rest = others;
+        least = found;
     }
     Ok((left, rest))
 }

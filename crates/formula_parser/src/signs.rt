@@ -2,8 +2,8 @@
 ghost use Rattle.std.specs.Prelude.{◌≡◌, ◌≤◌, length, is_some};
 ghost use Rattle.std.specs.Option.{option_map};
 ghost use Rattle.formula_grammar.specs.Parts.{prefix_of, operator_of, level_of, is_percent, is_separator, is_close};
-ghost use Rattle.formula_grammar.specs.Reading.{operator_at, ends_arg, starts_close};
-ghost use Rattle.formula_parser.specs.Given.{next_where, next_operator, prefix_count};
+ghost use Rattle.formula_grammar.specs.Reading.{ends_arg, starts_close};
+ghost use Rattle.formula_parser.specs.Given.{any_operator, next_where, prefix_count};
 
 use cell_refs::Op;
 use formula_grammar::{Sign, Symbol};
@@ -29,8 +29,8 @@ fn operator_of(sign: Sign) -> Option<Op>
     }
 }
 
-// How loosely an operator binds: 1 for powers up to 5 for comparisons.
-fn level_of(op: Op) -> u8
+/// How loosely an operator binds: 1 for powers up to 5 for comparisons.
+pub fn level_of(op: Op) -> u8
     ensures { result ≡ level_of op }
 {
     match op {
@@ -44,21 +44,15 @@ fn level_of(op: Op) -> u8
     }
 }
 
-/// The operator of that level at the front, and the symbols after it.
-pub fn next_operator(level: u8, symbols: &[Symbol]) -> Option<(Op, &[Symbol])>
-    ensures { option_map (λ x. (x.0, x.1.now)) result ≡ next_operator level symbols.now }
+/// The operator in front, and the symbols after it.
+pub fn next_operator(symbols: &[Symbol]) -> Option<(Op, &[Symbol])>
+    ensures { option_map (λ x. (x.0, x.1.now)) result ≡ any_operator symbols.now }
 {
     match symbols {
         [] => None,
         [symbol, rest @ ..] => match operator_of(symbol.sign) {
             None => None,
-            Some(op) => {
-                if level_of(op) == level {
-                    Some((op, rest))
-                } else {
-                    None
-                }
-            }
+            Some(op) => Some((op, rest)),
         },
     }
 }

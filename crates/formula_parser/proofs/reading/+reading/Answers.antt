@@ -1,5 +1,5 @@
 -- Each loop reads a part and its place, one after the other.
-use Rattle.std.proofs.Common.{◌≡◌, [], ◌∷◌, ◌++◌, ◌-◌, drop, sym, ap, subst, ◌∙◌, arith}
+use Rattle.std.proofs.Common.{◌≡◌, [], ◌∷◌, ◌++◌, drop, sym, ap, subst, ◌∙◌, arith}
 use Rattle.std.proofs.lemmas.Result.{err_from_is_err_and}
 use Rattle.formula_grammar.specs.declared.symbol.Sign.TheVariants as sign
 use Rattle.formula_grammar.specs.declared.symbol.Symbol.{Symbol}
@@ -12,7 +12,7 @@ use Rattle.formula_parser.specs.Settings.{seen}
 use Rattle.formula_parser.specs.declared.branch.Part.{Part}
 use Rattle.formula_parser.proofs.Building.{built_shows as shows}
 use Rattle.formula_parser.proofs.Order.{behind_close, call_forward, call_front, call_within, closed_front, closed_order, enclosed_front, first_behind, first_is, head_behind, head_is, joined_front, joined_order, more_before, operator_first, others_are, prefix_front, prefix_order, sign_first, drops_are, tail_are, tail_order, word_front}
-use Rattle.formula_parser.proofs.Steps.{level_zero, level_fails_first, level_begins, level_fails, level_less, level_goes, level_done, hundredths_fails, hundredths_begins, percent_goes, percent_done, args_fails_first, args_begins, args_done, args_fails, args_less, args_goes, signed_step, signed_front, whole_rest, signed_fails, primary_none, parens_gives}
+use Rattle.formula_parser.proofs.Steps.{level_fails_first, level_begins, climb_fails, climb_less, climb_goes, climb_done, climb_stops, operator_nowhere, hundredths_fails, hundredths_begins, percent_goes, percent_done, args_fails_first, args_begins, args_done, args_fails, args_less, args_goes, signed_step, signed_front, whole_rest, signed_fails, primary_none, parens_gives}
 use Rattle.formula_parser.proofs.reading.+reading.Goals as goal
 
 -- any symbol
@@ -88,47 +88,51 @@ pub call-returns-clause-rest : goal.call-returns-clause-rest
 call-returns-clause-rest t c =
     others_are c.args.setting.now.text.now c.in_ok-last.last c.in_ok-last.after.now c.in_ok-args.rest.now (behind_close c.in_ok-args.rest.now c.in_ok-last.last c.in_ok-last.after.now c.in_ok-last.ensures) c.in_ok-args.ensures.rest
 
-pub level-returns-then-at-eq0-clause-gives : goal.level-returns-then-at-eq0-clause-gives
-level-returns-then-at-eq0-clause-gives t c = rw (level_zero (built (seen c.args.setting.now)) (hundredths (seen c.args.setting.now) c.args.depth) c.args.at c.args.symbols.now c.if-at-eq0.true) c.percents.ensures.gives
-
 pub level-returns-in_err-left-clause-gives : goal.level-returns-in_err-left-clause-gives
 level-returns-in_err-left-clause-gives t c =
     let p = err_from_is_err_and c.from_residual.result c.from_residual.ensures.1 in
-    rw (p.1, p.2) (level_fails_first (seen c.args.setting.now) (built (seen c.args.setting.now)) (shows (seen c.args.setting.now)) c.args.depth c.args.at c.if-at-eq0.false c.in_err-left.field-0.0 c.args.symbols.now c.in_err-left.ensures.gives)
+    rw (p.1, p.2) (level_fails_first (built (seen c.args.setting.now)) (hundredths (seen c.args.setting.now) c.args.depth) c.in_err-left.field-0.0 c.args.at c.args.symbols.now c.in_err-left.ensures.gives)
 
 pub level-loop-op-init : goal.level-loop-op-init
 level-loop-op-init t c = record {
-  so_far = level_begins (seen c.args.setting.now) (built (seen c.args.setting.now)) (shows (seen c.args.setting.now)) c.args.depth c.args.at c.if-at-eq0.false c.args.symbols.now c.in_ok-left.left c.in_ok-left.rest.now c.in_ok-left.ensures.gives;
+  some = omega arith;
+  so_far = level_begins (built (seen c.args.setting.now)) (hundredths (seen c.args.setting.now) c.args.depth) c.args.at c.args.symbols.now c.in_ok-left.left c.in_ok-left.rest.now c.in_ok-left.ensures.gives;
   front = c.in_ok-left.ensures.placed;
   symbols = c.in_ok-left.ensures.rest;
 }
 
-pub level-level-requires-in-Some : goal.level-level-requires-in-Some
-level-level-requires-in-Some t c =
-    let first = operator_first c.args.at c.loop-op.rest.now c.in-Some.op c.in-Some.after.now (sym c.in-Some.ensures) in
+pub level-returns-then-found-least-clause-gives : goal.level-returns-then-found-least-clause-gives
+level-returns-then-found-least-clause-gives t c =
+    climb_stops (built (seen c.args.setting.now)) (hundredths (seen c.args.setting.now) c.args.depth) c.loop-op.left c.loop-op.rest.now c.args.at c.loop-op.least c.level_of-found.result c.in-Some.op c.in-Some.after.now (level_at (built (seen c.args.setting.now)) (hundredths (seen c.args.setting.now) c.args.depth) c.args.at c.args.symbols.now)
+    (sym c.in-Some.ensures) c.level_of-found.ensures c.then-found-least.either c.loop-op.invariant.so_far
+
+pub level-level-requires : goal.level-level-requires
+level-level-requires t c =
+    let first = operator_first c.loop-op.rest.now c.in-Some.op c.in-Some.after.now (sym c.in-Some.ensures) in
     (omega arith, others_are c.args.setting.now.text.now first.0 c.in-Some.after.now c.loop-op.rest.now first.1 c.loop-op.invariant.symbols)
 
 pub level-returns-in_err-right-clause-gives : goal.level-returns-in_err-right-clause-gives
 level-returns-in_err-right-clause-gives t c =
     let p = err_from_is_err_and c.from_residual-in_err-right.result c.from_residual-in_err-right.ensures.1 in
-    rw (p.1, p.2) (level_fails (seen c.args.setting.now) (built (seen c.args.setting.now)) (shows (seen c.args.setting.now)) c.args.depth c.args.at c.if-at-eq0.false c.loop-op.left c.loop-op.rest.now c.in-Some.op c.in-Some.after.now (sym c.in-Some.ensures) c.in_err-right.field-0.0
+    rw (p.1, p.2) (climb_fails (seen c.args.setting.now) (built (seen c.args.setting.now)) (shows (seen c.args.setting.now)) c.args.depth c.args.at c.loop-op.least c.level_of-found.result c.loop-op.left c.loop-op.rest.now c.in-Some.op c.in-Some.after.now (sym c.in-Some.ensures) c.level_of-found.ensures (omega arith) (omega arith) c.in_err-right.field-0.0
     (level_at (built (seen c.args.setting.now)) (hundredths (seen c.args.setting.now) c.args.depth) c.args.at c.args.symbols.now) c.in_err-right.ensures.gives c.loop-op.invariant.so_far)
 
 pub level-infix-requires-clause-order : goal.level-infix-requires-clause-order
 level-infix-requires-clause-order t c =
-    let first = operator_first c.args.at c.loop-op.rest.now c.in-Some.op c.in-Some.after.now (sym c.in-Some.ensures) in
+    let first = operator_first c.loop-op.rest.now c.in-Some.op c.in-Some.after.now (sym c.in-Some.ensures) in
     joined_order c.args.setting.now.text.now c.args.symbols.now c.loop-op.left c.loop-op.rest.now c.loop-op.invariant.front c.loop-op.invariant.symbols first.0 c.in-Some.after.now first.1 c.in_ok-right.right c.in_ok-right.others.now c.in_ok-right.ensures.placed c.requires.1
 
 pub level-loop-op-smaller : goal.level-loop-op-smaller
 level-loop-op-smaller t c =
-    level_less (seen c.args.setting.now) (built (seen c.args.setting.now)) (shows (seen c.args.setting.now)) c.args.depth c.args.at c.if-at-eq0.false c.loop-op.left c.loop-op.rest.now c.in-Some.op c.in-Some.after.now (sym c.in-Some.ensures) c.in_ok-right.right c.in_ok-right.others.now c.in_ok-right.ensures.gives
+    climb_less (seen c.args.setting.now) (built (seen c.args.setting.now)) (shows (seen c.args.setting.now)) c.args.depth c.args.at c.loop-op.least c.level_of-found.result c.loop-op.left c.loop-op.rest.now c.in-Some.op c.in-Some.after.now (sym c.in-Some.ensures) c.level_of-found.ensures (omega arith) (omega arith) c.in_ok-right.right c.in_ok-right.others.now c.in_ok-right.ensures.gives
 
 pub level-loop-op-preserved : goal.level-loop-op-preserved
 level-loop-op-preserved t c =
-    let first = operator_first c.args.at c.loop-op.rest.now c.in-Some.op c.in-Some.after.now (sym c.in-Some.ensures) in
+    let first = operator_first c.loop-op.rest.now c.in-Some.op c.in-Some.after.now (sym c.in-Some.ensures) in
     let made = c.in_ok-left-2.ensures.made (seen c.args.setting.now) in record {
+      some = omega arith;
       so_far =
-          level_goes (seen c.args.setting.now) (built (seen c.args.setting.now)) (shows (seen c.args.setting.now)) c.args.depth c.args.at c.if-at-eq0.false c.loop-op.left c.loop-op.rest.now c.in-Some.op c.in-Some.after.now (sym c.in-Some.ensures) c.in_ok-right.right c.in_ok-left-2.left c.in_ok-right.others.now
+          climb_goes (seen c.args.setting.now) (built (seen c.args.setting.now)) (shows (seen c.args.setting.now)) c.args.depth c.args.at c.loop-op.least c.level_of-found.result c.loop-op.left c.loop-op.rest.now c.in-Some.op c.in-Some.after.now (sym c.in-Some.ensures) c.level_of-found.ensures (omega arith) (omega arith) c.in_ok-right.right c.in_ok-left-2.left c.in_ok-right.others.now
           (level_at (built (seen c.args.setting.now)) (hundredths (seen c.args.setting.now) c.args.depth) c.args.at c.args.symbols.now) c.in_ok-right.ensures.gives made c.loop-op.invariant.so_far;
       front =
           joined_front c.args.setting.now.text.now c.args.symbols.now c.loop-op.left c.loop-op.rest.now c.loop-op.invariant.front c.loop-op.invariant.symbols first.0 c.in-Some.after.now first.1 c.in_ok-right.right c.in_ok-right.others.now c.in_ok-right.ensures.placed c.requires.1
@@ -138,8 +142,8 @@ level-loop-op-preserved t c =
 
 pub level-returns-clause-gives : goal.level-returns-clause-gives
 level-returns-clause-gives t c =
-    level_done (built (seen c.args.setting.now)) (level_at (built (seen c.args.setting.now)) (hundredths (seen c.args.setting.now) c.args.depth) (c.args.at - 1)) c.args.at c.loop-op.left c.loop-op.rest.now (level_at (built (seen c.args.setting.now)) (hundredths (seen c.args.setting.now) c.args.depth) c.args.at c.args.symbols.now)
-    (sym c.in_default.ensures) c.loop-op.invariant.so_far
+    climb_done (built (seen c.args.setting.now)) (hundredths (seen c.args.setting.now) c.args.depth) c.loop-op.left c.loop-op.rest.now c.args.at c.loop-op.least (level_at (built (seen c.args.setting.now)) (hundredths (seen c.args.setting.now) c.args.depth) c.args.at c.args.symbols.now)
+    (λ k low high. operator_nowhere c.loop-op.rest.now (sym c.in_default.ensures) k) c.loop-op.invariant.so_far
 
 pub parens-in_parentheses-requires-clause-behind : goal.parens-in_parentheses-requires-clause-behind
 parens-in_parentheses-requires-clause-behind t c =

@@ -1,11 +1,12 @@
 -- The turns from here give what all turns give, and what is read so far stands in front of the rest.
 use Rattle.std.proofs.Common.{◌≡◌, ◌+◌, ◌-◌, ◌*◌, ◌≤◌, length, drop, Some}
 use Rattle.formula_grammar.specs.Loops.{all_turns}
-use Rattle.formula_grammar.specs.Reading.{level_at, signed_at, args_at, infix_turn, percent_turn, arg_turn}
+use Rattle.formula_grammar.specs.Reading.{level_at, signed_at, args_at, percent_turn, arg_turn}
 use Rattle.formula_parser.specs.Built.{built}
 use Rattle.formula_parser.specs.Given.{prefix_count, formulas, primaries, hundredths}
 use Rattle.formula_parser.specs.Placed.{AreBefore, AreSymbols, IsInFront}
 use Rattle.formula_parser.specs.Settings.{seen}
+use Rattle.formula_parser.proofs.Steps.{climb}
 use Rattle.formula_parser.proofs.reading.+reading.Given as goal
 
 abbrev pub decreases-formula : goal.decreases-formula
@@ -64,7 +65,8 @@ decreases-percents-loop-sign l = length l.rest
 
 abbrev pub invariant-level-loop-op : goal.invariant-level-loop-op
 invariant-level-loop-op l = record {
-  so_far : all_turns (infix_turn (built (seen l.setting)) (level_at (built (seen l.setting)) (hundredths (seen l.setting) l.depth) (l.at - 1)) l.at) l.left l.rest
+  some : 1 ≤ l.least;
+  so_far : climb (built (seen l.setting)) (hundredths (seen l.setting) l.depth) (l.at + 1 - l.least) l.least l.left l.rest
       ≡ level_at (built (seen l.setting)) (hundredths (seen l.setting) l.depth) l.at l.symbols;
   front : IsInFront l.symbols l.left l.rest;
   symbols : AreSymbols l.setting.text.now l.rest;
