@@ -1,10 +1,11 @@
 -- What texts say, by their trees as they are spelled.
-use Rattle.std.proofs.Common.{◌≡◌, ◌≢◌, ℕ, true, false, List, [], Option, Some, None, sym, ap, ◌∙◌}
+use Rattle.std.proofs.Common.{◌≡◌, ◌≢◌, ℕ, true, false, List, [], Option, Some, None, refl, sym, ap, ◌∙◌}
 use Rattle.std.specs.Prelude.{if◌then◌else◌}
 use Rattle.std.specs.Option.{option_and_then, option_map_or}
 use Rattle.std.specs.Global.{Box}
 use Rattle.cell_refs.specs.declared.cell.Cell.{Cell}
 use Rattle.cell_refs.specs.declared.cell.SheetId.{SheetId}
+use Rattle.formula_ast.specs.Sound.{IsSound}
 use Rattle.formula_ast.specs.Tree.{Tree}
 use Rattle.formula_parser.specs.TextTrees.{tree_in}
 use Rattle.frac128.specs.NumeralReading.{reading}
@@ -12,10 +13,11 @@ use Rattle.recalculation.specs.Entries.{Formula, Malformed}
 use Rattle.workbook.specs.declared.held.Said.{Said}
 use Rattle.workbook.specs.declared.held.Said.TheVariants as variant
 use Rattle.workbook.specs.Held.{IsHeld, IsSoundly, SaysSpelled, entry_of}
-use Rattle.workbook.specs.Kinds.{meant, number_or_other, says, with_names}
+use Rattle.workbook.specs.Kinds.{formula_tree, meant, number_or_other, says, with_names}
 use Rattle.workbook.specs.Listed.{IsListed}
 use Rattle.workbook.specs.State.{Name, is_formula_text}
-use Rattle.workbook.specs.Uses.{is_wanted, some_use}
+use Rattle.workbook.specs.Uses.{is_plain, is_wanted, some_use}
+use Rattle.workbook.proofs.PlainTrees.{plain_stays, plain_unused}
 use Rattle.workbook.proofs.UsedNames.{agree}
 
 module _ (sheets : List (List ℕ)) (names : List Name) (home : SheetId) (cell : Cell) (text : List ℕ) (said : Said) where
@@ -64,6 +66,17 @@ module _ (sheets : List (List ℕ)) (names : List Name) (home : SheetId) (cell :
             ∙ ap (λ o. option_map_or Formula o Malformed) (agree (meant sheets ns cell.sheet.0) (meant sheets others cell.sheet.0) (is_wanted None) (λ q h. absurd (let k : true ≡ false = h in cc)) t none)
             ∙ sym (says_tree (Some t) e others);
       }
+
+-- the tree of a formula in which neither names nor unknown functions stand
+pub tree_itself : (sheets : List (List ℕ)) (names : List Name) (home : ℕ) (text : List ℕ) (t : Tree) → tree_in (record { text = text; home = home; sheets = sheets }) ≡ Some t → is_plain t ≡ true
+    → Some t ≡ formula_tree sheets names home text
+tree_itself sheets names home text t e plain = let look = meant sheets names home in sym (ap (option_and_then (with_names look)) e ∙ plain_stays look t plain)
+
+-- what its text says
+pub says_itself : (sheets : List (List ℕ)) (names : List Name) (home : SheetId) (cell : Cell) (text : List ℕ) (t : Tree) → home ≡ cell.sheet → is_formula_text text ≡ true
+    → tree_in (record { text = text; home = home.0; sheets = sheets }) ≡ Some t → is_plain t ≡ true → IsSound t → SaysSpelled sheets names cell text (None, variant.Formula t)
+says_itself sheets names home cell text t is begins e plain sound =
+    says_nameless sheets names home cell text (variant.Formula t) is begins t e (Some t) (sym (plain_stays (meant sheets names home.0) t plain)) refl sound (plain_unused (is_wanted None) t plain)
 
 -- what is held of a cell with its text
 pub held_is : (sheets : List (List ℕ)) (names : List Name) (cell : Cell) (text : List ℕ) (p : Option (Box Tree) × Said) → IsListed sheets cell → text ≢ [] → SaysSpelled sheets names cell text p

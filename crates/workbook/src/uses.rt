@@ -1,7 +1,7 @@
 // The names in formulas.
 ghost use Rattle.std.specs.Prelude.{◌≡◌, option_map};
 ghost use Rattle.formula_ast.specs.Tree.{trees};
-ghost use Rattle.workbook.specs.Uses.{any_use, is_wanted, some_use};
+ghost use Rattle.workbook.specs.Uses.{any_use, are_plain, is_plain, is_wanted, some_use};
 
 use formula_ast::{Expr, Node};
 
@@ -43,4 +43,34 @@ fn is_wanted(wanted: Option<&str>, name: &str) -> bool
         Some(wanted) => name.eq_ignore_ascii_case(wanted),
         None => true,
     }
+}
+
+/// Whether neither a name nor a call of a function that there isn't stands in a formula.
+#[cycle(plain)]
+pub(crate) fn is_plain(expr: &Expr) -> bool
+    ensures { result ≡ is_plain expr.now }
+{
+    match &expr.node {
+        Node::Name(_) => false,
+        Node::Unknown(_, _) => false,
+        Node::Call(_, args) => are_plain(args),
+        Node::Plus(of) => is_plain(of),
+        Node::Minus(of) => is_plain(of),
+        Node::Percent(of) => is_plain(of),
+        Node::Infix(_, left, right) => is_plain(left) && is_plain(right),
+        _ => true,
+    }
+}
+
+// The same of some parts.
+#[cycle(plain)]
+fn are_plain(exprs: &[Expr]) -> bool
+    ensures { result ≡ are_plain (trees exprs.now) }
+{
+    for expr in exprs {
+        if !is_plain(expr) {
+            return false;
+        }
+    }
+    true
 }
