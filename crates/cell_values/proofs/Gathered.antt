@@ -1,5 +1,5 @@
 -- Cells gathered one by one.
-use Rattle.std.proofs.Common.{◌≡◌, Bool, true, false, cond, List, Option, Some, None, refl, sym, ap, ◌∙◌}
+use Rattle.std.proofs.Common.{◌≡◌, Bool, true, false, cond, List, [], ◌∷◌, Option, Some, None, refl, sym, ap, ◌∙◌}
 use Rattle.std.specs.Prelude.{is_some}
 use Rattle.std.specs.BTreeMap.{is_at}
 use Rattle.std.specs.FinMap.{contains_key}
@@ -12,11 +12,17 @@ use Rattle.dep_table.proofs.OpenLaws.{is_past}
 use Rattle.recalculation.specs.Entries.{Book, Entry, entry}
 use Rattle.recalculation.proofs.Circles.{entry_there}
 use Rattle.sheet_model.specs.declared.value.Value.TheVariants as value
-use Rattle.workbook.specs.Contents.{IsLast, IsNext, IsPast}
+use Rattle.workbook.specs.declared.text_cell.TextCell.{TextCell}
+use Rattle.workbook.specs.Contents.{IsLast, IsNext, IsPast, kind_of}
+use Rattle.workbook.specs.Kinds.{book_of}
+use Rattle.workbook.specs.State.{State}
+use Rattle.workbook.specs.TextCells.{AreTextCells, IsRead, cells_in}
+use Rattle.workbook.proofs.TextCells.{IsChain, are_chain}
 use Rattle.cell_values.specs.declared.rows.Row.{Row}
 use Rattle.cell_values.specs.declared.values.Values.{Values}
-use Rattle.cell_values.specs.Rows.{row_at, seen_by, seen_in}
+use Rattle.cell_values.specs.Rows.{row_at, seen_by, seen_in, seen_of}
 use Rattle.cell_values.specs.Values.{HasSeen, IsTable, value_at}
+use Rattle.cell_values.proofs.Saying.{seen_as}
 
 -- what is seen of the cells up to one is there, and nothing else
 pub record HasUpTo (book : Book) (rows : List (Cell × Row)) (after : Option Cell) (t : Values) : Type 0 where
@@ -84,3 +90,31 @@ all_seen book rows after t has last q = by (is_past after q) refl
     by : (b : Bool) → is_past after q ≡ b → value_at t q ≡ seen_in book rows q
     by false h = has.before q h
     by true h = has.behind q h ∙ sym (seen_empty book rows q (λ text. last q text (is_past_of after q h)))
+
+-- ---- cells that are listed
+-- what is seen of the cells before those of a list is there, and nothing else
+abbrev pub HasCome : State → List (Cell × Row) → List TextCell → Values → Type 0
+HasCome state rows left t = (after : Option Cell) × HasUpTo (book_of state) rows after t × IsChain state.contents after (cells_in left)
+
+pub at_first : (state : State) (rows : List (Cell × Row)) (found : List TextCell) (t : Values) → AreTextCells state.contents (cells_in found) → IsTable t
+    → ((q : Cell) → value_at t q ≡ Some value.Empty) → HasCome state rows found t
+at_first state rows found t are table empty = (None, none_yet (book_of state) rows t table empty, are_chain state.contents (cells_in found) are)
+
+-- what is seen of a cell that is read
+seen_read : (state : State) (rows : List (Cell × Row)) (e : TextCell) → IsRead state e → seen_of e.kind e.text.now (row_at rows e.cell) ≡ seen_in (book_of state) rows e.cell
+seen_read state rows e read =
+    ap (λ k. seen_of k e.text.now (row_at rows e.cell)) read.kind
+    ∙ ap (λ t. seen_of (kind_of (entry (book_of state) e.cell)) t (row_at rows e.cell)) read.text ∙ seen_as state e.cell (row_at rows e.cell)
+
+pub with_cell : (state : State) (rows : List (Cell × Row)) (e : TextCell) (left : List TextCell) (t new : Values) → IsRead state e → HasCome state rows (e ∷ left) t
+    → IsTable new → ((q : Cell) → value_at new q ≡ cond (is_at (cell_cmp e.cell) q) (seen_of e.kind e.text.now (row_at rows e.cell)) (value_at t q))
+    → HasCome state rows left new
+with_cell state rows e left t new read has table put = (
+  Some e.cell,
+  up_to_next (book_of state) rows has.0 e.cell t new has.1 has.2.0 table
+      (λ q. put q ∙ ap (λ v. cond (is_at (cell_cmp e.cell) q) v (value_at t q)) (seen_read state rows e read)),
+  has.2.1,
+)
+
+pub all_come : (state : State) (rows : List (Cell × Row)) (t : Values) → HasCome state rows [] t → HasSeen (book_of state) rows t
+all_come state rows t has = all_seen (book_of state) rows has.0 t has.1 has.2

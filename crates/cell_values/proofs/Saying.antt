@@ -1,5 +1,5 @@
 -- What is seen of a cell, by the kind of its text.
-use Rattle.std.proofs.Common.{◌≡◌, ℕ, Bool, true, false, if◌then◌else◌, List, [], Option, Some, None, refl, ap}
+use Rattle.std.proofs.Common.{◌≡◌, ℕ, Bool, true, false, if◌then◌else◌, List, [], Option, Some, None, refl, ap, sym}
 use Rattle.std.specs.Prelude.{is_some, unwrap_or}
 use Rattle.std.specs.Option.{option_map, option_map_or}
 use Rattle.std.specs.FinMap.{get}
@@ -14,12 +14,13 @@ use Rattle.sheet_model.specs.declared.value.Value.TheVariants as value
 use Rattle.sheet_funcs.specs.Numerals.{narrow_value}
 use Rattle.recalculation.specs.Entries.{Entry, Constant, Formula, Malformed, entry}
 use Rattle.recalculation.specs.Walks.{is_formula}
+use Rattle.workbook.specs.declared.kind.Kind.{Kind}
 use Rattle.workbook.specs.declared.kind.Kind.TheVariants as kind
 use Rattle.workbook.specs.Contents.{content_of, kind_of, tree_of}
 use Rattle.workbook.specs.Kinds.{book_of, formula_tree, logical_or_text, number_or_other, says}
 use Rattle.workbook.specs.State.{Name, State, is_formula_text}
 use Rattle.cell_values.specs.declared.rows.Row.{Row}
-use Rattle.cell_values.specs.Rows.{seen_by, value_in}
+use Rattle.cell_values.specs.Rows.{seen_by, seen_of, value_in}
 
 -- ---- constants
 pub seen_empty : (e : Option Entry) (row : Option Row) → kind_of e ≡ kind.Empty → seen_by e row ≡ Some value.Empty
@@ -119,6 +120,18 @@ seen_plain s a row = by (get s.contents a)
     by : (o : Option (List ℕ)) → kind_of (option_map (says s.sheets s.names a) o) ≡ kind.Plain → seen_by (option_map (says s.sheets s.names a) o) row ≡ Some (value.Text (unwrap_or o []))
     by None h = absurd cc
     by (Some text) h = ap (λ e. seen_by (Some e) row) (plain_says s.sheets s.names a text h)
+
+-- what is seen by the kind of a cell's text
+pub seen_as : (s : State) (a : Cell) (row : Option Row) → seen_of (kind_of (entry (book_of s) a)) (content_of s.contents a) row ≡ seen_by (entry (book_of s) a) row
+seen_as s a row = by (kind_of (entry (book_of s) a)) refl
+  where
+    by : (k : Kind) → kind_of (entry (book_of s) a) ≡ k → seen_of k (content_of s.contents a) row ≡ seen_by (entry (book_of s) a) row
+    by kind.Empty h = sym (seen_empty (entry (book_of s) a) row h)
+    by (kind.Number x) h = sym (seen_number (entry (book_of s) a) row x h)
+    by (kind.Logical b) h = sym (seen_logical (entry (book_of s) a) row b h)
+    by kind.Plain h = sym (seen_plain s a row h)
+    by kind.Formula h = sym (seen_formula (entry (book_of s) a) row h)
+    by kind.Malformed h = sym (seen_malformed (entry (book_of s) a) row h)
 
 -- ---- trees
 pub tree_entry : (e : Option Entry) (t : Tree) → Some t ≡ tree_of e → e ≡ Some (Formula t)

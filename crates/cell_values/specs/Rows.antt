@@ -5,15 +5,17 @@ use Rattle.std.specs.List.{list_any}
 use Rattle.std.specs.FinMap.{contains_key}
 use Rattle.std.specs.Map.{lookup}
 use Rattle.cell_refs.specs.declared.cell.Cell.{Cell}
-use Rattle.cell_refs.specs.declared.error_kind.ErrorKind.TheVariants as kind
+use Rattle.cell_refs.specs.declared.error_kind.ErrorKind.TheVariants as error
 use Rattle.cell_refs.specs.Cells.{cell_cmp}
 use Rattle.formula_ast.specs.Tree.{Tree}
 use Rattle.sheet_model.specs.declared.value.Value.{Value}
-use Rattle.sheet_model.specs.declared.value.Value.TheVariants.{Empty, Error}
+use Rattle.sheet_model.specs.declared.value.Value.TheVariants.{Empty, Error, Logical, Number, Text}
 use Rattle.recalculation.specs.Entries.{Book, Entry, Constant, Formula, Malformed, entry, no_overriding}
 use Rattle.recalculation.specs.Evaluation.{cell_value}
 use Rattle.recalculation.specs.Looking.{looked_at, outcome_of}
 use Rattle.recalculation.specs.Narrow.{known, is_wide, entry_is_wide, LooksAt}
+use Rattle.workbook.specs.declared.kind.Kind.{Kind}
+use Rattle.workbook.specs.declared.kind.Kind.TheVariants as kind
 use Rattle.cell_values.specs.declared.rows.Row.{Row}
 
 -- the row of a cell
@@ -47,10 +49,19 @@ abbrev pub seen_by : Option Entry → Option Row → Option Value
 seen_by None row = Some Empty
 seen_by (Some (Constant v)) row = Some v
 seen_by (Some (Formula t)) row = value_in row
-seen_by (Some Malformed) row = Some (Error kind.Malformed)
+seen_by (Some Malformed) row = Some (Error error.Malformed)
 
 abbrev pub seen_in : Book → List (Cell × Row) → Cell → Option Value
 seen_in book rows a = seen_by (entry book a) (row_at rows a)
+
+-- the same by the kind of the text
+abbrev pub seen_of : Kind → List ℕ → Option Row → Option Value
+seen_of kind.Empty text row = Some Empty
+seen_of (kind.Number x) text row = Some (Number x)
+seen_of (kind.Logical b) text row = Some (Logical b)
+seen_of kind.Plain text row = Some (Text text)
+seen_of kind.Formula text row = value_in row
+seen_of kind.Malformed text row = Some (Error error.Malformed)
 
 -- how many cells are in the rows' lists
 abbrev pub looks_in : List (Cell × Row) → ℕ

@@ -1,6 +1,6 @@
 // What is known of the cells of a workbook before its formulas are filled in.
 ghost use Rattle.std.specs.Prelude.{◌≡◌, IfOk};
-ghost use Rattle.cell_values.specs.Rows.{row_at, seen_in, value_in};
+ghost use Rattle.cell_values.specs.Rows.{row_at, seen_of, value_in};
 ghost use Rattle.cell_values.specs.Values.{HasSeen, IsTable, known_value};
 ghost use Rattle.workbook.specs.Kinds.{book_of};
 
@@ -21,30 +21,31 @@ pub(crate) fn gather<'a>(
     ensures table { IfOk result IsTable }
     ensures seen { IfOk result (HasSeen (book_of book.now) rows.now.entries) }
 {
-    let mut values = Values::new(alloc)?;
-    let mut after = None;
-    while let Some(cell) = book.next_cell(after) {
-        values.put(cell, known_of(alloc, book, rows, cell)?)?;
-        after = Some(cell);
+    let cells = book.text_cells(alloc)?;
+    let mut values = Values::new(alloc, cells.len())?;
+    for found in &cells {
+        let known = known_of(alloc, found.kind, found.text, rows, found.cell)?;
+        values.put(found.cell, known)?;
     }
     Ok(values)
 }
 
-/// What is known of a cell.
+/// What is known of a cell, by the kind of its text.
 pub(crate) fn known_of<'a>(
     alloc: Global,
-    book: &'a Workbook,
+    kind: Kind,
+    text: &'a str,
     rows: &BTreeMap<Cell, Row>,
     cell: Cell,
 ) -> Result<Known<'a>, Memory>
     ensures { IfOk result (λ known. known_value known
-        ≡ seen_in (book_of book.now) rows.now.entries cell) }
+        ≡ seen_of kind text.now (row_at rows.now.entries cell)) }
 {
-    match book.kind(cell) {
+    match kind {
         Kind::Empty => Ok(Known::Value(Value::Empty)),
         Kind::Number(number) => Ok(Known::Value(Value::Number(number))),
         Kind::Logical(holds) => Ok(Known::Value(Value::Logical(holds))),
-        Kind::Plain => Ok(Known::Text(book.content(cell))),
+        Kind::Plain => Ok(Known::Text(text)),
         Kind::Formula => known_in_rows(alloc, rows, cell),
         Kind::Malformed => Ok(Known::Value(Value::Error(ErrorKind::Malformed))),
     }

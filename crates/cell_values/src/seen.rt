@@ -3,10 +3,12 @@ ghost use Rattle.std.specs.Prelude.{◌≡◌, IfOk, IfSome, length, option_map}
 ghost use Rattle.cell_refs.specs.Areas.{cells_of};
 ghost use Rattle.recalculation.specs.Looks.{elements};
 ghost use Rattle.cell_values.specs.Rows.{seen_in};
+ghost use Rattle.cell_values.specs.Values.{known_value};
 ghost use Rattle.workbook.specs.Kinds.{book_of};
 
 use crate::gather::known_of;
 use crate::rows::Row;
+use crate::values::Known;
 use cell_refs::{Area, Cell};
 use evaluation::Cells;
 use sheet_model::{Memory, Value};
@@ -21,6 +23,17 @@ pub(crate) struct Seen<'a> {
     pub(crate) rows: &'a BTreeMap<Cell, Row>,
 }
 
+impl<'a> Seen<'a> {
+    // What is known of a cell.
+    fn known(&self, alloc: Global, cell: Cell) -> Result<Known<'a>, Memory>
+        ensures { IfOk result (λ known. known_value known
+            ≡ seen_in (book_of self.now.book.now) self.now.rows.now.entries cell) }
+    {
+        let kind = self.book.kind(cell);
+        known_of(alloc, kind, self.book.content(cell), self.rows, cell)
+    }
+}
+
 impl Cells for Seen<'_> {
     ghost known = { λ s. seen_in (book_of s.book.now) s.rows.now.entries };
 
@@ -28,7 +41,7 @@ impl Cells for Seen<'_> {
         ensures { IfOk result (λ value. value
             ≡ seen_in (book_of self.now.book.now) self.now.rows.now.entries cell) }
     {
-        known_of(alloc, self.book, self.rows, cell)?.into_value(alloc)
+        self.known(alloc, cell)?.into_value(alloc)
     }
 
     fn values(&self, alloc: Global, area: &Area) -> Result<Option<Vec<Value>>, Memory>
@@ -40,7 +53,7 @@ impl Cells for Seen<'_> {
     {
         let mut values = Vec::new(alloc);
         for place in 0..area.len() {
-            let known = known_of(alloc, self.book, self.rows, area.at(place))?;
+            let known = self.known(alloc, area.at(place))?;
             let Some(value) = known.into_value(alloc)? else {
                 return Ok(None);
             };

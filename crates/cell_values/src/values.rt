@@ -48,13 +48,14 @@ pub(crate) struct Values<'a> {
 }
 
 impl<'a> Values<'a> {
-    /// All cells are empty.
-    pub(crate) fn new(alloc: Global) -> Result<Values<'a>, Memory>
+    /// All cells are empty; there is room for what is known of some.
+    pub(crate) fn new(alloc: Global, count: usize) -> Result<Values<'a>, Memory>
         ensures table { IfOk result IsTable }
         ensures empty { IfOk result (λ values. (q : Cell) → value_at values q ≡ Some Empty) }
     {
         let mut known = Vec::new(alloc);
         known.push(Known::Value(Value::Empty))?;
+        known.reserve(count)?;
         Ok(Values {
             places: Places::new(alloc),
             known,

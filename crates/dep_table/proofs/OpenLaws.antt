@@ -12,10 +12,16 @@ use Rattle.cell_refs.specs.Areas.{Area}
 use Rattle.cell_refs.specs.declared.cell.Cell.{Cell}
 use Rattle.cell_refs.specs.Cells.{cell_cmp}
 use Rattle.cell_refs.proofs.Order.{cells_total, exact_cells}
-use Rattle.recalculation.specs.Entries.{Book, Entry, entry}
+use Rattle.formula_ast.specs.Measures.{references_of}
+use Rattle.recalculation.specs.Entries.{Book, Entry, Constant, Formula as FormulaEntry, Malformed, entry}
 use Rattle.recalculation.proofs.Circles.{entry_there, found_text}
 use Rattle.recalculation.proofs.Lists.{both}
-use Rattle.workbook.specs.Contents.{IsLast, IsNext, IsPast}
+use Rattle.workbook.specs.declared.text_cell.TextCell.{TextCell}
+use Rattle.workbook.specs.Contents.{IsLast, IsNext, IsPast, tree_of}
+use Rattle.workbook.specs.Kinds.{book_of}
+use Rattle.workbook.specs.State.{State}
+use Rattle.workbook.specs.TextCells.{AreTextCells, IsRead, cells_in}
+use Rattle.workbook.proofs.TextCells.{IsChain, are_chain}
 use Rattle.dep_table.specs.declared.formulas.Formula.{Formula}
 use Rattle.dep_table.specs.Formulas.{AreSorted, pair_of, references_in, with_areas}
 use Rattle.dep_table.proofs.Orderings.{is_less, refused}
@@ -171,6 +177,40 @@ all_gathered book after formulas u last a =
 pub are_sorted : (book : Book) (after : Option Cell) (formulas : List Formula) → ArePairsUpTo book after (map pair_of formulas) → AreSorted formulas
 are_sorted book after formulas u i j f g h x y =
     u.sorted i j (pair_of f) (pair_of g) h (slice_get-map pair_of formulas i ∙ ap (option_map pair_of) x) (slice_get-map pair_of formulas j ∙ ap (option_map pair_of) y)
+
+-- ---- cells that are listed
+-- the formulas of the cells before those of a list
+abbrev pub HasCome : State → List TextCell → Pairs → Type 0
+HasCome state left es = (after : Option Cell) × ArePairsUpTo (book_of state) after es × IsChain state.contents after (cells_in left)
+
+pub at_first : (state : State) (found : List TextCell) → AreTextCells state.contents (cells_in found) → HasCome state found []
+at_first state found are = (None, none_yet (book_of state), are_chain state.contents (cells_in found) are)
+
+mapped_twice : {A B C : Type 0} (g : B → C) (f : A → B) (o : Option A) → option_map g (option_map f o) ≡ option_map (λ a. g (f a)) o
+mapped_twice g f None = refl
+mapped_twice g f (Some a) = refl
+
+-- what a formula's tree says
+said_by : (e : Option Entry) → option_map references_of (tree_of e) ≡ areas_said e
+said_by None = refl
+said_by (Some (Constant v)) = refl
+said_by (Some (FormulaEntry t)) = refl
+said_by (Some Malformed) = refl
+
+pub with_cell : (state : State) (e : TextCell) (left : List TextCell) (es fs : Pairs) → IsRead state e → HasCome state (e ∷ left) es
+    → fs ≡ with_areas es e.cell (option_map (λ t. references_of t.now) e.tree) → HasCome state left fs
+with_cell state e left es fs read has same = (
+  Some e.cell,
+  with_next (book_of state) has.0 e.cell es fs has.1 has.2.0
+      (same ∙ ap (with_areas es e.cell) (sym (mapped_twice references_of (λ t. t.now) e.tree) ∙ ap (option_map references_of) read.tree ∙ said_by (entry (book_of state) e.cell))),
+  has.2.1,
+)
+
+pub all_come : (state : State) (formulas : List Formula) → HasCome state [] (map pair_of formulas) → AreReferencesOf (references_in formulas) (book_of state)
+all_come state formulas has = all_gathered (book_of state) has.0 formulas has.1 has.2
+
+pub sorted_come : (state : State) (left : List TextCell) (formulas : List Formula) → HasCome state left (map pair_of formulas) → AreSorted formulas
+sorted_come state left formulas has = are_sorted (book_of state) has.0 formulas has.1
 
 -- ---- fewer cells are left
 -- how many cells pass a test

@@ -1,12 +1,13 @@
 // Reading the formulas of a workbook.
-ghost use Rattle.std.specs.Prelude.{◌≡◌, IfOk, map};
-ghost use Rattle.recalculation.specs.Entries.{entry};
+ghost use Rattle.std.specs.Prelude.{◌≡◌, IfOk, map, option_map};
+ghost use Rattle.formula_ast.specs.Measures.{references_of};
 ghost use Rattle.workbook.specs.Kinds.{book_of};
 ghost use Rattle.dep_table.specs.Formulas.{AreSorted, pair_of, references_in, with_areas};
-ghost use Rattle.dep_table.specs.References.{AreReferencesOf, areas_said};
+ghost use Rattle.dep_table.specs.References.{AreReferencesOf};
 
 use crate::formulas::Formula;
 use cell_refs::Cell;
+use formula_ast::Expr;
 use sheet_model::Memory;
 use std::alloc::Global;
 use workbook::Workbook;
@@ -17,21 +18,20 @@ pub(crate) fn formulas_of(alloc: Global, book: &Workbook) -> Result<Vec<Formula>
     ensures all { IfOk result (λ v. AreReferencesOf (references_in v.items) (book_of book.now)) }
 {
     let mut formulas = Vec::new(alloc);
-    let mut after = None;
-    while let Some(cell) = book.next_cell(after) {
-        add_formula(&mut formulas, book, cell)?;
-        after = Some(cell);
+    let cells = book.text_cells(alloc)?;
+    for found in &cells {
+        add_formula(&mut formulas, found.cell, found.tree)?;
     }
     Ok(formulas)
 }
 
-// Adds the formula of a cell, where the cell has one.
-fn add_formula(formulas: &mut Vec<Formula>, book: &Workbook, cell: Cell) -> Result<(), Memory>
+// Adds the formula of a cell, where the cell has a tree.
+fn add_formula(formulas: &mut Vec<Formula>, cell: Cell, tree: Option<&Expr>) -> Result<(), Memory>
     ensures { IfOk result (λ _. map pair_of formulas.new.items
         ≡ with_areas (map pair_of formulas.old.items) cell
-        (areas_said (entry (book_of book.now) cell))) }
+        (option_map (λ t. references_of t.now) tree.entry)) }
 {
-    let Some(tree) = book.tree(cell) else {
+    let Some(tree) = tree else {
         return Ok(());
     };
     let Ok(areas) = tree.references(*formulas.allocator()) else {

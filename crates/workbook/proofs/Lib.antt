@@ -13,6 +13,7 @@ pub mod NextCells
 pub mod Widths
 pub mod OneWay
 pub mod ListedCells
+pub mod TextCells
 pub mod Severally
 pub mod Room
 pub mod NameEdits

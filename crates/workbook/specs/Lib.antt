@@ -24,3 +24,4 @@ pub mod Renamed
 pub mod EditedNames
 pub mod Changed
 pub mod Known
+pub mod TextCells

@@ -7,7 +7,7 @@ ghost use Rattle.workbook.specs.Contents.{kind_of, tree_of};
 ghost use Rattle.workbook.specs.Held.{entry_of, held_at};
 ghost use Rattle.workbook.specs.Renamed.{is_malformed, resaid, said_at};
 
-use crate::Kind;
+use crate::{Kind, TextCell};
 use cell_refs::Cell;
 use formula_ast::Expr;
 use frac128::Frac;
@@ -65,6 +65,22 @@ impl Held {
         match &self.said {
             Said::Formula(tree) => Some(tree),
             _ => None,
+        }
+    }
+
+    /// What is read of the cell.
+    pub(crate) fn read(&self, cell: Cell) -> TextCell<'_>
+        ensures cell { result.cell ≡ cell }
+        ensures text { result.text.now ≡ self.now.text }
+        ensures kind { result.kind ≡ kind_of (Some (entry_of self.now.text self.now.said)) }
+        ensures tree { option_map (λ t. t.now) result.tree
+            ≡ tree_of (Some (entry_of self.now.text self.now.said)) }
+    {
+        TextCell {
+            cell,
+            text: self.text.as_str(),
+            kind: self.kind(),
+            tree: self.tree(),
         }
     }
 }

@@ -1,13 +1,16 @@
 // What is read of a workbook.
-ghost use Rattle.std.specs.Prelude.{◌≡◌, MatchOption, None, Some, option_map};
+ghost use Rattle.std.specs.Prelude.{◌≡◌, All, IfOk, MatchOption, None, Some, option_map};
 ghost use Rattle.recalculation.specs.Entries.{entry};
 ghost use Rattle.workbook.specs.Contents.{IsLast, IsNext, content_of, kind_of, tree_of};
 ghost use Rattle.workbook.specs.Kinds.{book_of};
 ghost use Rattle.workbook.specs.State.{text_count, text_of};
+ghost use Rattle.workbook.specs.TextCells.{AreTextCells, IsRead, cells_in};
 
-use crate::{Kind, Workbook};
+use crate::{Kind, TextCell, Workbook};
 use cell_refs::{Cell, SheetId, SheetNames};
 use formula_ast::Expr;
+use memory::Memory;
+use std::alloc::Global;
 use std::ops::Bound;
 
 impl Workbook {
@@ -61,6 +64,15 @@ impl Workbook {
         ensures { result ≡ text_count self.now.contents }
     {
         self.cells.len()
+    }
+
+    /// The cells with a text, by sheet, row and column.
+    pub fn text_cells(&self, alloc: Global) -> Result<Vec<TextCell<'_>>, Memory>
+        ensures listed { IfOk result (λ v. AreTextCells self.now.contents (cells_in v.items)) }
+        ensures read { IfOk result (λ v. All (IsRead self.now) v.items) }
+    {
+        let cells = self.cells.iter().map(|(cell, held)| held.read(*cell));
+        Ok(cells.collect(alloc)?)
     }
 
     /// The next cell with a text, by sheet, row and column: the first of all, or the first behind a cell.
