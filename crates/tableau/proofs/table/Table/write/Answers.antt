@@ -1,9 +1,9 @@
-use Rattle.std.proofs.Common.{ℕ, List, Result, Ok, Err, MatchResult, subst, sym, ap, length, take, drop, arith, ◌≡◌, ◌∙◌, ◌++◌}
-use Rattle.std.proofs.Math.Seq.{take-append_seam}
+use Rattle.std.proofs.Common.{ℕ, List, Result, Ok, Err, MatchResult, subst, ap, length, arith, ◌∙◌}
 use Rattle.fractions.specs.Rational.{ℚ}
 use Rattle.dictionaries.specs.Narrow.{AreNarrow, IsNarrowSubstituted}
 use Rattle.tableau.specs.Written.{IsWritten, AreWritten}
 use Rattle.tableau.specs.Table.{Numbers, IsTableWritten, IsNarrowTable}
+use Rattle.tableau.proofs.WrittenBack.{written_back}
 use Rattle.tableau.proofs.table.Table.write.Goals as goal
 
 -- where the rows and the objective are written, the table is written if the auxiliary objective is
@@ -15,11 +15,6 @@ all_written : {T E : Type 0} (t : Numbers) (leaving k : ℕ) (by : List ℚ) (in
 all_written t leaving k by into (Ok x) rows objective auxiliary =
     (record { rows = rows.0; objective = objective.0; auxiliary = auxiliary.0 }, record { rows = rows.1; objective = objective.1; auxiliary = auxiliary.1 })
 all_written t leaving k by into (Err e) rows objective auxiliary = λ narrow. auxiliary narrow.auxiliary
-
--- a list that is written back over one as long
-written_back : (xs new : List (List ℚ)) (n : ℕ) → length new ≡ length xs → n ≡ length xs → new ≡ take n (new ++ drop (length new) xs)
-written_back xs new n same all =
-    subst (λ m. new ≡ take m (new ++ drop (length new) xs)) (same ∙ sym all) (sym (take-append_seam new _))
 
 pub returns-clause-made : goal.returns-clause-made
 returns-clause-made c =
