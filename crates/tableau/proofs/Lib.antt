@@ -4,3 +4,4 @@ pub mod Zeros
 pub mod Units
 pub mod Below
 pub mod Pivoted
+pub mod WrittenBack
