@@ -86,7 +86,7 @@ module _ (f g : Cell → Option Abs) where
 
   size_alike : (count : Source → ℕ) (ps : List Part) → AllByRecursion (OfPart Same) ps → calls.size_of count f ps ≡ calls.size_of count g ps
   size_alike count [] h = refl
-  size_alike count (p ∷ []) h = ap (λ (on : (Source → Outcome) → Outcome). on (λ src. Rattle.form_extraction.specs.Parts.Gives (Rattle.form_values.specs.declared.abs.AbsArg.TheVariants.One (Rattle.form_values.specs.declared.abs.Abs.TheVariants.Known (Rattle.sheet_model.specs.declared.value.Value.TheVariants.Number (Rattle.fractions.specs.Whole.whole_ℚ (Rattle.std.specs.Prelude.pos (count src)))))))) (on_alike p h.0)
+  size_alike count (p ∷ []) h = ap (λ (on : (Source → Outcome) → Outcome). on (λ src. Rattle.form_extraction.specs.declared.forms.Outcome.TheVariants.Gives (Rattle.form_values.specs.declared.abs.AbsArg.TheVariants.One (Rattle.form_values.specs.declared.abs.Abs.TheVariants.Known (Rattle.sheet_model.specs.declared.value.Value.TheVariants.Number (Rattle.fractions.specs.Whole.whole_ℚ (Rattle.std.specs.Prelude.pos (count src)))))))) (on_alike p h.0)
   size_alike count (p ∷ q ∷ ps) h = refl
 
   outcome_alike : (s : Span) (fn : Func) (ps : List Part) → AllByRecursion (OfPart Same) ps → call_outcome f s fn ps ≡ call_outcome g s fn ps
