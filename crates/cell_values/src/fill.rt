@@ -1,6 +1,5 @@
 // Filling rows.
-ghost use Rattle.std.specs.Prelude.{◌≡◌, ◌&&◌, IfOk, OnOk, Some, false, true, is_none, option_map, slice_get, ℕ};
-ghost use Rattle.std.specs.FinSet as set;
+ghost use Rattle.std.specs.Prelude.{◌≡◌, ◌&&◌, IfOk, OnOk, Some, false, true, is_none, slice_get, ℕ};
 ghost use Rattle.cell_refs.specs.declared.cell.Cell.{Cell};
 ghost use Rattle.dep_table.specs.Order.{IsOrder};
 ghost use Rattle.recalculation.specs.Entries.{entry, nothing};
@@ -13,11 +12,10 @@ ghost use Rattle.workbook.specs.Kinds.{book_of};
 use crate::gather::{gather, known_in};
 use crate::rows::{Row, put};
 use crate::values::Values;
-use cell_refs::{Cell, ErrorKind};
-use dep_table::CellSet;
+use cell_refs::Cell;
 use evaluation::{Part, evaluate};
 use formula_ast::Expr;
-use sheet_model::{Memory, Value};
+use sheet_model::Memory;
 use std::alloc::Global;
 use std::collections::BTreeMap;
 use workbook::Workbook;

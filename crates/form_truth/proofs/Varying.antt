@@ -5,7 +5,7 @@ use Rattle.sheet_model.specs.declared.value.Value.{Value}
 use Rattle.sheet_funcs.specs.Arguments.{value_of, only_of}
 use Rattle.sheet_funcs.specs.Arguments as functions
 use Rattle.affine_forms.specs.Forms.{Assignment}
-use Rattle.form_values.specs.Meaning.{abs_at, arg_at, IsAbs, elements_of}
+use Rattle.form_values.specs.Meaning.{abs_at, arg_at, IsAbs}
 use Rattle.form_values.specs.Refusals.{Varies}
 use Rattle.form_values.specs.declared.abs.Abs.{Abs}
 use Rattle.form_values.specs.declared.abs.Abs.TheVariants.{Known, Affine, Test}

@@ -35,7 +35,7 @@ fn cut(alloc: Global, text: &[u8]) -> Result<Vec<Token>, LexFault>
     requires { length text.now ≤ TEXT_BYTES + 1 }
     ensures { LexAnswers text.now result }
 {
-    // (no text has more tokens than bytes)
+    // No text has more tokens than bytes.
     let Ok(mut tokens) = Vec::with_capacity(alloc, text.len()) else {
         return Err(LexFault::Memory);
     };
