@@ -16,7 +16,7 @@ use Rattle.workbook.specs.declared.text_cell.TextCell.{TextCell}
 use Rattle.workbook.specs.Contents.{IsLast, IsNext, IsPast, kind_of}
 use Rattle.workbook.specs.Kinds.{book_of}
 use Rattle.workbook.specs.State.{State}
-use Rattle.workbook.specs.TextCells.{AreTextCells, IsRead, cells_in}
+use Rattle.workbook.specs.TextCells.{AreTextCells, IsRead, listed_cells}
 use Rattle.workbook.proofs.TextCells.{IsChain, are_chain}
 use Rattle.cell_values.specs.declared.rows.Row.{Row}
 use Rattle.cell_values.specs.declared.values.Values.{Values}
@@ -94,11 +94,11 @@ all_seen book rows after t has last q = by (is_past after q) refl
 -- ---- cells that are listed
 -- what is seen of the cells before those of a list is there, and nothing else
 abbrev pub HasCome : State → List (Cell × Row) → List TextCell → Values → Type 0
-HasCome state rows left t = (after : Option Cell) × HasUpTo (book_of state) rows after t × IsChain state.contents after (cells_in left)
+HasCome state rows left t = (after : Option Cell) × HasUpTo (book_of state) rows after t × IsChain state.contents after (listed_cells left)
 
-pub at_first : (state : State) (rows : List (Cell × Row)) (found : List TextCell) (t : Values) → AreTextCells state.contents (cells_in found) → IsTable t
+pub at_first : (state : State) (rows : List (Cell × Row)) (found : List TextCell) (t : Values) → AreTextCells state.contents (listed_cells found) → IsTable t
     → ((q : Cell) → value_at t q ≡ Some value.Empty) → HasCome state rows found t
-at_first state rows found t are table empty = (None, none_yet (book_of state) rows t table empty, are_chain state.contents (cells_in found) are)
+at_first state rows found t are table empty = (None, none_yet (book_of state) rows t table empty, are_chain state.contents (listed_cells found) are)
 
 -- what is seen of a cell that is read
 seen_read : (state : State) (rows : List (Cell × Row)) (e : TextCell) → IsRead state e → seen_of e.kind e.text.now (row_at rows e.cell) ≡ seen_in (book_of state) rows e.cell

@@ -54,7 +54,7 @@ seen_by (Some Malformed) row = Some (Error error.Malformed)
 abbrev pub seen_in : Book → List (Cell × Row) → Cell → Option Value
 seen_in book rows a = seen_by (entry book a) (row_at rows a)
 
--- the same by the kind of the text
+-- what is seen of a cell by the kind and the text that are read of it
 abbrev pub seen_of : Kind → List ℕ → Option Row → Option Value
 seen_of kind.Empty text row = Some Empty
 seen_of (kind.Number x) text row = Some (Number x)

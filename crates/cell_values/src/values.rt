@@ -48,7 +48,7 @@ pub(crate) struct Values<'a> {
 }
 
 impl<'a> Values<'a> {
-    /// All cells are empty; there is room for what is known of some.
+    /// All cells are empty; there is room for what is known of so many.
     pub(crate) fn new(alloc: Global, count: usize) -> Result<Values<'a>, Memory>
         ensures table { IfOk result IsTable }
         ensures empty { IfOk result (λ values. (q : Cell) → value_at values q ≡ Some Empty) }

@@ -20,7 +20,7 @@ use Rattle.workbook.specs.declared.text_cell.TextCell.{TextCell}
 use Rattle.workbook.specs.Contents.{IsLast, IsNext, IsPast, tree_of}
 use Rattle.workbook.specs.Kinds.{book_of}
 use Rattle.workbook.specs.State.{State}
-use Rattle.workbook.specs.TextCells.{AreTextCells, IsRead, cells_in}
+use Rattle.workbook.specs.TextCells.{AreTextCells, IsRead, listed_cells}
 use Rattle.workbook.proofs.TextCells.{IsChain, are_chain}
 use Rattle.dep_table.specs.declared.formulas.Formula.{Formula}
 use Rattle.dep_table.specs.Formulas.{AreSorted, pair_of, references_in, with_areas}
@@ -181,10 +181,10 @@ are_sorted book after formulas u i j f g h x y =
 -- ---- cells that are listed
 -- the formulas of the cells before those of a list
 abbrev pub HasCome : State → List TextCell → Pairs → Type 0
-HasCome state left es = (after : Option Cell) × ArePairsUpTo (book_of state) after es × IsChain state.contents after (cells_in left)
+HasCome state left es = (after : Option Cell) × ArePairsUpTo (book_of state) after es × IsChain state.contents after (listed_cells left)
 
-pub at_first : (state : State) (found : List TextCell) → AreTextCells state.contents (cells_in found) → HasCome state found []
-at_first state found are = (None, none_yet (book_of state), are_chain state.contents (cells_in found) are)
+pub at_first : (state : State) (found : List TextCell) → AreTextCells state.contents (listed_cells found) → HasCome state found []
+at_first state found are = (None, none_yet (book_of state), are_chain state.contents (listed_cells found) are)
 
 mapped_twice : {A B C : Type 0} (g : B → C) (f : A → B) (o : Option A) → option_map g (option_map f o) ≡ option_map (λ a. g (f a)) o
 mapped_twice g f None = refl

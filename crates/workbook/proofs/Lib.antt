@@ -18,7 +18,7 @@ pub mod Severally
 pub mod Room
 pub mod NameEdits
 pub mod UsedNames
-pub mod PlainTrees
+pub mod NamelessTrees
 pub mod NewMeanings
 pub mod Changes
 pub mod Covered

@@ -1,5 +1,5 @@
 -- How many texts and formulas there are after some are put.
-use Rattle.std.proofs.Common.{◌≡◌, ◌+◌, ◌<◌, ◌≤◌, ◌∙◌, ℕ, Bool, true, false, cond, List, [], ◌∷◌, Option, Some, None, length, map, get_or, refl, sym, ap, subst, arith, eq-eqb}
+use Rattle.std.proofs.Common.{◌≡◌, ◌+◌, ◌≤◌, ◌∙◌, ℕ, Bool, true, false, cond, List, [], ◌∷◌, Option, Some, map, get_or, refl, sym, ap, subst, arith, eq-eqb}
 use Rattle.std.specs.Prelude.{◌||◌, ◌&&◌, ◌==◌, All, if◌then◌else◌, nat_le, nat_lt, not, unwrap_or, is_some, zip}
 use Rattle.std.specs.FinMap.{contains_key, get, get-insert, insert}
 use Rattle.std.specs.List.{IsDistinct}

@@ -16,8 +16,8 @@ use Rattle.workbook.specs.Held.{IsHeld, IsSoundly, SaysSpelled, entry_of}
 use Rattle.workbook.specs.Kinds.{formula_tree, meant, number_or_other, says, with_names}
 use Rattle.workbook.specs.Listed.{IsListed}
 use Rattle.workbook.specs.State.{Name, is_formula_text}
-use Rattle.workbook.specs.Uses.{is_plain, is_wanted, some_use}
-use Rattle.workbook.proofs.PlainTrees.{plain_stays, plain_unused}
+use Rattle.workbook.specs.Uses.{names_nothing, is_wanted, some_use}
+use Rattle.workbook.proofs.NamelessTrees.{nameless_stays, nameless_unused}
 use Rattle.workbook.proofs.UsedNames.{agree}
 
 module _ (sheets : List (List ℕ)) (names : List Name) (home : SheetId) (cell : Cell) (text : List ℕ) (said : Said) where
@@ -68,15 +68,15 @@ module _ (sheets : List (List ℕ)) (names : List Name) (home : SheetId) (cell :
       }
 
 -- the tree of a formula in which neither names nor unknown functions stand
-pub tree_itself : (sheets : List (List ℕ)) (names : List Name) (home : ℕ) (text : List ℕ) (t : Tree) → tree_in (record { text = text; home = home; sheets = sheets }) ≡ Some t → is_plain t ≡ true
+pub tree_itself : (sheets : List (List ℕ)) (names : List Name) (home : ℕ) (text : List ℕ) (t : Tree) → tree_in (record { text = text; home = home; sheets = sheets }) ≡ Some t → names_nothing t ≡ true
     → Some t ≡ formula_tree sheets names home text
-tree_itself sheets names home text t e plain = let look = meant sheets names home in sym (ap (option_and_then (with_names look)) e ∙ plain_stays look t plain)
+tree_itself sheets names home text t e nothing = let look = meant sheets names home in sym (ap (option_and_then (with_names look)) e ∙ nameless_stays look t nothing)
 
 -- what its text says
-pub says_itself : (sheets : List (List ℕ)) (names : List Name) (home : SheetId) (cell : Cell) (text : List ℕ) (t : Tree) → home ≡ cell.sheet → is_formula_text text ≡ true
-    → tree_in (record { text = text; home = home.0; sheets = sheets }) ≡ Some t → is_plain t ≡ true → IsSound t → SaysSpelled sheets names cell text (None, variant.Formula t)
-says_itself sheets names home cell text t is begins e plain sound =
-    says_nameless sheets names home cell text (variant.Formula t) is begins t e (Some t) (sym (plain_stays (meant sheets names home.0) t plain)) refl sound (plain_unused (is_wanted None) t plain)
+pub says_itself : (sheets : List (List ℕ)) (names : List Name) (home : SheetId) (cell : Cell) (text : List ℕ) (t : Tree) (said : Said) → home ≡ cell.sheet → is_formula_text text ≡ true
+    → tree_in (record { text = text; home = home.0; sheets = sheets }) ≡ Some t → names_nothing t ≡ true → entry_of text said ≡ Formula t → IsSoundly said → SaysSpelled sheets names cell text (None, said)
+says_itself sheets names home cell text t said is begins e nothing agrees sound =
+    says_nameless sheets names home cell text said is begins t e (Some t) (sym (nameless_stays (meant sheets names home.0) t nothing)) agrees sound (nameless_unused (is_wanted None) t nothing)
 
 -- what is held of a cell with its text
 pub held_is : (sheets : List (List ℕ)) (names : List Name) (cell : Cell) (text : List ℕ) (p : Option (Box Tree) × Said) → IsListed sheets cell → text ≢ [] → SaysSpelled sheets names cell text p

@@ -21,7 +21,7 @@ use Rattle.workbook.specs.Contents.{IsLast, IsNext, IsPast, content_of, kind_of,
 use Rattle.workbook.specs.Held.{IsKept, contents_of, entry_of, held_at}
 use Rattle.workbook.specs.Kinds.{book_of}
 use Rattle.workbook.specs.State.{Name}
-use Rattle.workbook.specs.TextCells.{AreTextCells, IsRead, cells_in}
+use Rattle.workbook.specs.TextCells.{AreTextCells, IsRead, listed_cells}
 use Rattle.workbook.proofs.Keeping.{HeldCells, content_held, entry_held, has_text, says_held, text_held, the_state}
 
 -- what is read of a cell
@@ -39,7 +39,7 @@ with_first P x xs here there zero d l = here
 with_first P x xs here there (suc k) d l = there k d (omega (arith, l))
 
 -- the cells that are read are those that are held
-same_cells : (es : HeldCells) (found : List TextCell) → map read_of found ≡ map read_held es → cells_in found ≡ keys_of es
+same_cells : (es : HeldCells) (found : List TextCell) → map read_of found ≡ map read_held es → listed_cells found ≡ keys_of es
 same_cells es found same = sym (map-map (λ (r : Read). r.0) read_of found) ∙ ap (map (λ (r : Read). r.0)) same ∙ map-map (λ (r : Read). r.0) read_held es
 
 is_listed : (es : HeldCells) (q : Cell) → Contains (keys_of es) q ↔ (contains_key (contents_of es) q ≡ true)
@@ -49,7 +49,7 @@ is_listed es q = (
 )
 
 pub are_text_cells : (es : HeldCells) (found : List TextCell) → IsStrictlySortedBy cell_cmp (keys_of es) → map read_of found ≡ map read_held es
-    → AreTextCells (contents_of es) (cells_in found)
+    → AreTextCells (contents_of es) (listed_cells found)
 are_text_cells es found sorted same = subst (AreTextCells (contents_of es)) (sym (same_cells es found same)) (record { sorted = sorted; all = is_listed es })
 
 -- ---- cells that come one after another

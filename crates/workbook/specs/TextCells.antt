@@ -16,8 +16,8 @@ pub record IsRead (state : State) (e : TextCell) : Type 0 where
   pub kind : e.kind ≡ kind_of (entry (book_of state) e.cell)
   pub tree : option_map (λ t. t.now) e.tree ≡ tree_of (entry (book_of state) e.cell)
 
-abbrev pub cells_in : List TextCell → List Cell
-cells_in es = map (λ (e : TextCell). e.cell) es
+abbrev pub listed_cells : List TextCell → List Cell
+listed_cells es = map (λ (e : TextCell). e.cell) es
 
 -- those cells are listed that have a text, by sheet, row and column
 pub record AreTextCells (contents : Contents) (cells : List Cell) : Type 0 where

@@ -21,19 +21,19 @@ abbrev mutual
 
 abbrev mutual
   -- neither a name nor a call of a function that there isn't stands in a tree
-  pub is_plain : Tree → Bool
-  is_plain (tree.Name at name) = false
-  is_plain (tree.Unknown at name args) = false
-  is_plain (tree.Call at func args) = are_plain args
-  is_plain (tree.Plus at x) = is_plain x
-  is_plain (tree.Minus at x) = is_plain x
-  is_plain (tree.Percent at x) = is_plain x
-  is_plain (tree.Infix at op x y) = is_plain x && is_plain y
-  is_plain t = true
+  pub names_nothing : Tree → Bool
+  names_nothing (tree.Name at name) = false
+  names_nothing (tree.Unknown at name args) = false
+  names_nothing (tree.Call at func args) = name_nothing args
+  names_nothing (tree.Plus at x) = names_nothing x
+  names_nothing (tree.Minus at x) = names_nothing x
+  names_nothing (tree.Percent at x) = names_nothing x
+  names_nothing (tree.Infix at op x y) = names_nothing x && names_nothing y
+  names_nothing t = true
 
-  pub are_plain : Trees → Bool
-  are_plain none = true
-  are_plain (more t ts) = is_plain t && are_plain ts
+  pub name_nothing : Trees → Bool
+  name_nothing none = true
+  name_nothing (more t ts) = names_nothing t && name_nothing ts
 
 -- the name for which is looked, or any
 abbrev pub is_wanted : Option (List ℕ) → List ℕ → Bool

@@ -14,7 +14,7 @@ ghost use Rattle.workbook.specs.Scoped.{IsShort};
 use crate::held::{Held, Said};
 use crate::named::Scope;
 use crate::naming::with_names;
-use crate::uses::{is_plain, uses};
+use crate::uses::{names_nothing, uses};
 use crate::words::{is_formula, logical};
 use cell_refs::Cell;
 use formula_ast::Expr;
@@ -84,9 +84,8 @@ fn formula(
         Err(ParseFault::Memory) => return Err(Memory),
         Err(_) => return Ok((None, Said::Malformed)),
     };
-    if is_plain(&expr) {
-        expr.soundness();
-        return Ok((None, Said::Formula(expr)));
+    if names_nothing(&expr) {
+        return Ok((None, said_of(Some(expr))));
     }
     let said = said_of(with_names(alloc, scope, &expr)?);
     if uses(&expr, None) {
@@ -122,7 +121,7 @@ pub(crate) fn tree(alloc: Global, scope: &Scope, text: &str) -> Result<Option<Ex
         Err(ParseFault::Memory) => return Err(Memory),
         Err(_) => return Ok(None),
     };
-    if is_plain(&expr) {
+    if names_nothing(&expr) {
         return Ok(Some(expr));
     }
     with_names(alloc, scope, &expr)

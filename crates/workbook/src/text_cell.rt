@@ -10,6 +10,6 @@ pub struct TextCell<'a> {
     pub cell: Cell,
     pub text: &'a str,
     pub kind: Kind,
-    /// The tree of a formula, with what names stand for in their places.
+    /// The tree of a formula, with what names stand for in their places; none of what is no formula.
     pub tree: Option<&'a Expr>,
 }

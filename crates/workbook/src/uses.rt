@@ -1,7 +1,7 @@
 // The names in formulas.
 ghost use Rattle.std.specs.Prelude.{◌≡◌, option_map};
 ghost use Rattle.formula_ast.specs.Tree.{trees};
-ghost use Rattle.workbook.specs.Uses.{any_use, are_plain, is_plain, is_wanted, some_use};
+ghost use Rattle.workbook.specs.Uses.{any_use, name_nothing, names_nothing, is_wanted, some_use};
 
 use formula_ast::{Expr, Node};
 
@@ -46,29 +46,29 @@ fn is_wanted(wanted: Option<&str>, name: &str) -> bool
 }
 
 /// Whether neither a name nor a call of a function that there isn't stands in a formula.
-#[cycle(plain)]
-pub(crate) fn is_plain(expr: &Expr) -> bool
-    ensures { result ≡ is_plain expr.now }
+#[cycle(naming_nothing)]
+pub(crate) fn names_nothing(expr: &Expr) -> bool
+    ensures { result ≡ names_nothing expr.now }
 {
     match &expr.node {
         Node::Name(_) => false,
         Node::Unknown(_, _) => false,
-        Node::Call(_, args) => are_plain(args),
-        Node::Plus(of) => is_plain(of),
-        Node::Minus(of) => is_plain(of),
-        Node::Percent(of) => is_plain(of),
-        Node::Infix(_, left, right) => is_plain(left) && is_plain(right),
+        Node::Call(_, args) => name_nothing(args),
+        Node::Plus(of) => names_nothing(of),
+        Node::Minus(of) => names_nothing(of),
+        Node::Percent(of) => names_nothing(of),
+        Node::Infix(_, left, right) => names_nothing(left) && names_nothing(right),
         _ => true,
     }
 }
 
 // The same of some parts.
-#[cycle(plain)]
-fn are_plain(exprs: &[Expr]) -> bool
-    ensures { result ≡ are_plain (trees exprs.now) }
+#[cycle(naming_nothing)]
+fn name_nothing(exprs: &[Expr]) -> bool
+    ensures { result ≡ name_nothing (trees exprs.now) }
 {
     for expr in exprs {
-        if !is_plain(expr) {
+        if !names_nothing(expr) {
             return false;
         }
     }

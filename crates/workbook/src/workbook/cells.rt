@@ -4,7 +4,7 @@ ghost use Rattle.recalculation.specs.Entries.{entry};
 ghost use Rattle.workbook.specs.Contents.{IsLast, IsNext, content_of, kind_of, tree_of};
 ghost use Rattle.workbook.specs.Kinds.{book_of};
 ghost use Rattle.workbook.specs.State.{text_count, text_of};
-ghost use Rattle.workbook.specs.TextCells.{AreTextCells, IsRead, cells_in};
+ghost use Rattle.workbook.specs.TextCells.{AreTextCells, IsRead, listed_cells};
 
 use crate::{Kind, TextCell, Workbook};
 use cell_refs::{Cell, SheetId, SheetNames};
@@ -66,9 +66,9 @@ impl Workbook {
         self.cells.len()
     }
 
-    /// The cells with a text, by sheet, row and column.
+    /// The cells with a text, by sheet, row and column, each with its text, its kind and its tree.
     pub fn text_cells(&self, alloc: Global) -> Result<Vec<TextCell<'_>>, Memory>
-        ensures listed { IfOk result (λ v. AreTextCells self.now.contents (cells_in v.items)) }
+        ensures listed { IfOk result (λ v. AreTextCells self.now.contents (listed_cells v.items)) }
         ensures read { IfOk result (λ v. All (IsRead self.now) v.items) }
     {
         let cells = self.cells.iter().map(|(cell, held)| held.read(*cell));

@@ -4,7 +4,7 @@ use Rattle.std.specs.BTreeMap.{is_at}
 use Rattle.std.specs.Prelude.{All}
 use Rattle.cell_refs.specs.Cells.{cell_cmp}
 use Rattle.workbook.specs.declared.text_cell.TextCell.{TextCell}
-use Rattle.workbook.specs.TextCells.{AreTextCells, IsRead, cells_in}
+use Rattle.workbook.specs.TextCells.{AreTextCells, IsRead, listed_cells}
 use Rattle.cell_values.specs.Values.{value_at}
 use Rattle.cell_values.proofs.Gathered.{HasCome, all_come, at_first, with_cell}
 use Rattle.cell_values.proofs.gather.gather.Goals as goal
@@ -12,7 +12,7 @@ use Rattle.cell_values.proofs.gather.gather.Goals as goal
 pub loop-found-init : goal.loop-found-init
 loop-found-init c =
     at_first c.args.book.now c.args.rows.now.entries c.deref-found-items.result.now c.in_ok-values.values
-    (subst (λ xs. AreTextCells c.args.book.now.contents (cells_in xs)) (sym c.deref-found-items.ensures.value) c.in_ok-cells.ensures.listed)
+    (subst (λ xs. AreTextCells c.args.book.now.contents (listed_cells xs)) (sym c.deref-found-items.ensures.value) c.in_ok-cells.ensures.listed)
     c.in_ok-values.ensures.table c.in_ok-values.ensures.empty
 
 pub put-requires : goal.put-requires

@@ -2,14 +2,14 @@ use Rattle.std.proofs.Common.{◌≡◌, ◌∙◌, ◌+◌, ◌∷◌, ap, drop
 use Rattle.std.proofs.lemmas.List.{drop_all, drop_more}
 use Rattle.std.specs.Prelude.{All}
 use Rattle.workbook.specs.declared.text_cell.TextCell.{TextCell}
-use Rattle.workbook.specs.TextCells.{AreTextCells, IsRead, cells_in}
+use Rattle.workbook.specs.TextCells.{AreTextCells, IsRead, listed_cells}
 use Rattle.dep_table.specs.Formulas.{pair_of}
 use Rattle.dep_table.proofs.OpenLaws.{HasCome, all_come, at_first, sorted_come, with_cell}
 use Rattle.dep_table.proofs.open.formulas_of.Goals as goal
 
 pub loop-found-init : goal.loop-found-init
 loop-found-init c =
-    let listed = subst (λ xs. AreTextCells c.args.book.now.contents (cells_in xs)) (sym c.deref-found-items.ensures.value) c.in_ok-cells.ensures.listed in
+    let listed = subst (λ xs. AreTextCells c.args.book.now.contents (listed_cells xs)) (sym c.deref-found-items.ensures.value) c.in_ok-cells.ensures.listed in
     subst (λ es. HasCome c.args.book.now c.deref-found-items.result.now (map pair_of es)) (sym c.new-formulas.ensures.items)
     (at_first c.args.book.now c.deref-found-items.result.now listed)
 

@@ -3,10 +3,10 @@ use Rattle.workbook.specs.Known.{names_in}
 use Rattle.workbook.proofs.Spelled.{says_itself, says_nameless}
 use Rattle.workbook.proofs.say.formula.Goals as goal
 
-pub returns-then-is_plain : goal.returns-then-is_plain
-returns-then-is_plain c =
-    says_itself c.args.scope.now.sheets.now (names_in c.args.scope.now) c.args.scope.now.home c.args.cell c.args.text.now c.in-Ok.expr c.requires.home c.requires.begins
-    c.in-Ok.ensures.tree (sym c.is_plain.ensures ∙ c.if-is_plain.true) c.soundness.ensures
+pub returns-then-names_nothing : goal.returns-then-names_nothing
+returns-then-names_nothing c =
+    says_itself c.args.scope.now.sheets.now (names_in c.args.scope.now) c.args.scope.now.home c.args.cell c.args.text.now c.in-Ok.expr c.said_of.result c.requires.home c.requires.begins
+    c.in-Ok.ensures.tree (sym c.names_nothing.ensures ∙ c.if-names_nothing.true) (c.said_of.ensures.agrees c.args.text.now) c.said_of.ensures.sound
 
 pub returns : goal.returns
 returns c =

@@ -2,7 +2,7 @@ use Rattle.std.proofs.Common.{◌≡◌, Ok, map, rules, subst}
 use Rattle.std.proofs.lemmas.Iterator.{YieldsList-from_map_by}
 use Rattle.std.proofs.lemmas.Iterator.Consumers.{YieldsList-at, YieldsList-from_rest, map_from_collect}
 use Rattle.std.specs.Prelude.{All}
-use Rattle.workbook.specs.TextCells.{AreTextCells, IsRead, cells_in}
+use Rattle.workbook.specs.TextCells.{AreTextCells, IsRead, listed_cells}
 use Rattle.workbook.proofs.TextCells.{all_read, are_text_cells, read_held, read_of}
 use Rattle.workbook.proofs.workbook.Workbook.text_cells.Goals as goal
 
@@ -14,7 +14,7 @@ same c =
 
 pub returns-clause-listed : goal.returns-clause-listed
 returns-clause-listed c =
-    subst (λ s. AreTextCells s.contents (cells_in c.in_ok-collect.field-0.items)) c.self.view_is
+    subst (λ s. AreTextCells s.contents (listed_cells c.in_ok-collect.field-0.items)) c.self.view_is
     (are_text_cells c.self.inside.cells.entries c.in_ok-collect.field-0.items c.iter.ensures.ordered (same c))
 
 pub returns-clause-read : goal.returns-clause-read
