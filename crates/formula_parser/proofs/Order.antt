@@ -19,7 +19,7 @@ use Rattle.formula_parser.specs.declared.branch.Branch.{Branch}
 use Rattle.formula_parser.specs.declared.branch.Part.{Part}
 use Rattle.formula_parser.specs.declared.stop.Stop.{Stop}
 use Rattle.formula_parser.specs.Built.{built, prefixed_by}
-use Rattle.formula_parser.specs.Given.{any_operator, next_where}
+use Rattle.formula_parser.specs.Given.{next_operator, next_where}
 use Rattle.formula_parser.specs.Placed.{AreBefore, AreSymbols, InOrder, IsBetween, IsInFront, IsInText, IsPlaced}
 
 -- ---- symbols in order
@@ -44,7 +44,7 @@ pub first_behind : (s : Symbol) (rest ss : List Symbol) (from : ℕ) → ss ≡ 
 first_behind s rest ss from is order = subst (InOrder from) is order
 
 -- the operator or the sign in front
-pub operator_first : (ss : List Symbol) (op : Op) (after : List Symbol) → any_operator ss ≡ Some (op, after) → (s : Symbol) × (ss ≡ s ∷ after)
+pub operator_first : (ss : List Symbol) (op : Op) (after : List Symbol) → next_operator ss ≡ Some (op, after) → (s : Symbol) × (ss ≡ s ∷ after)
 operator_first [] op after e = absurd cc
 operator_first (s ∷ ss) op after e = by_case (operator_of s.sign) e
   where

@@ -1,5 +1,5 @@
 -- The steps of the code, over plain variables.
-use Rattle.std.proofs.Common.{is_some, ◌⊎◌, inl, inr, ◌≡◌, ℕ, zero, suc, ◌+◌, ◌-◌, ◌<◌, ◌≤◌, Bool, true, false, cond, List, [], ◌∷◌, ◌++◌, length, drop, take, get_or, add-one, Option, Some, None, eqb, eq-eqb, refl, sym, ap, ◌∙◌, arith}
+use Rattle.std.proofs.Common.{is_some, ◌≡◌, ℕ, zero, suc, ◌+◌, ◌-◌, ◌<◌, ◌≤◌, Bool, true, false, cond, List, [], ◌∷◌, ◌++◌, length, drop, take, get_or, add-one, Option, Some, None, eqb, eq-eqb, refl, sym, ap, ◌∙◌, arith}
 use Rattle.std.proofs.lemmas.Bool.Decides.{eqb_tells}
 use Rattle.std.proofs.lemmas.Grind.{common_steps}
 use Rattle.std.specs.Option.{option_map_or, option_and_then}
@@ -16,7 +16,7 @@ use Rattle.formula_grammar.proofs.Complete.{infix_takes, percent_takes, args_tak
 use Rattle.formula_parser.specs.declared.stop.Stop.{Stop}
 use Rattle.formula_parser.specs.declared.stop.Stop.TheVariants as stops
 use Rattle.formula_parser.specs.Built.{prefixed_by}
-use Rattle.formula_parser.specs.Given.{Fails, any_operator, next_where, next_operator, prefix_count}
+use Rattle.formula_parser.specs.Given.{Fails, IsLooser, next_operator, next_where, prefix_count}
 
 -- what fails at first fails as a whole
 pub fails_first : {A B : Type 0} (e : Stop) (o : Option A) (f : A → Option B) → Fails e o → Fails e (option_and_then f o)
@@ -41,9 +41,14 @@ loop_done turn x ss total h k = sym k ∙ all_stop turn x ss h
 
 -- ---- infix operators
 
+-- the operator in front, if it is one of a level
+abbrev pub operator_of_level : ℕ → List Symbol → Option (Op × List Symbol)
+operator_of_level level [] = None
+operator_of_level level (s ∷ ss) = option_map_or (λ op. Some (op, ss)) (operator_at level s) None
+
 module _ (M : Making) (operand : Reader M.Made) (level : ℕ) (x : M.Made) where
   -- no operator follows
-  infix_none : (ss : List Symbol) → next_operator level ss ≡ None → infix_turn M operand level x ss ≡ Stopped
+  infix_none : (ss : List Symbol) → operator_of_level level ss ≡ None → infix_turn M operand level x ss ≡ Stopped
   infix_none [] e = refl
   infix_none (s ∷ ss) e = by_case (operator_at level s) e
     where
@@ -52,7 +57,7 @@ module _ (M : Making) (operand : Reader M.Made) (level : ℕ) (x : M.Made) where
       by_case (Some op) e = absurd cc
 
   -- an operator follows
-  infix_some : (ss : List Symbol) (op : Op) (after : List Symbol) → next_operator level ss ≡ Some (op, after) → infix_turn M operand level x ss ≡ go_on (M.joined op x) (operand after)
+  infix_some : (ss : List Symbol) (op : Op) (after : List Symbol) → operator_of_level level ss ≡ Some (op, after) → infix_turn M operand level x ss ≡ go_on (M.joined op x) (operand after)
   infix_some [] op after e = absurd cc
   infix_some (s ∷ ss) op after e = by_case (operator_at level s) e
     where
@@ -65,7 +70,7 @@ other_than : (a b : ℕ) → (a ≡ b → ⊥) → eqb a b ≡ false
 other_than a b h = grind (arith, eqb_tells a b)
 
 -- the operator in front is one of its level
-pub operator_here : (ss : List Symbol) (op : Op) (after : List Symbol) → any_operator ss ≡ Some (op, after) → next_operator (level_of op) ss ≡ Some (op, after)
+pub operator_here : (ss : List Symbol) (op : Op) (after : List Symbol) → next_operator ss ≡ Some (op, after) → operator_of_level (level_of op) ss ≡ Some (op, after)
 operator_here [] op after e = absurd cc
 operator_here (s ∷ ss) op after e = by_case (operator_of s.sign) e
   where
@@ -77,7 +82,7 @@ operator_here (s ∷ ss) op after e = by_case (operator_of s.sign) e
         ap (λ b. option_map_or {U = Option (Op × List Symbol)} (λ op. Some (op, ss)) (cond b (Some p) None) None) (eq-eqb (level_of p) (level_of op) (ap level_of same)) ∙ e
 
 -- it is none of another level
-operator_elsewhere : (ss : List Symbol) (op : Op) (after : List Symbol) → any_operator ss ≡ Some (op, after) → (level : ℕ) → (level_of op ≡ level → ⊥) → next_operator level ss ≡ None
+operator_elsewhere : (ss : List Symbol) (op : Op) (after : List Symbol) → next_operator ss ≡ Some (op, after) → (level : ℕ) → (level_of op ≡ level → ⊥) → operator_of_level level ss ≡ None
 operator_elsewhere [] op after e level other = absurd cc
 operator_elsewhere (s ∷ ss) op after e level other = by_case (operator_of s.sign) e
   where
@@ -89,7 +94,7 @@ operator_elsewhere (s ∷ ss) op after e level other = by_case (operator_of s.si
         ap (λ b. option_map_or {U = Option (Op × List Symbol)} (λ op. Some (op, ss)) (cond b (Some p) None) None) (other_than (level_of p) level (λ k. other (sym (ap level_of same) ∙ k)))
 
 -- where no operator is in front, there is none of any level
-pub operator_nowhere : (ss : List Symbol) → any_operator ss ≡ None → (level : ℕ) → next_operator level ss ≡ None
+operator_nowhere : (ss : List Symbol) → next_operator ss ≡ None → (level : ℕ) → operator_of_level level ss ≡ None
 operator_nowhere [] e level = refl
 operator_nowhere (s ∷ ss) e level = by_case (operator_of s.sign) e
   where
@@ -98,13 +103,35 @@ operator_nowhere (s ∷ ss) e level = by_case (operator_of s.sign) e
     by_case None e = refl
     by_case (Some p) e = absurd cc
 
+-- each operator is of a level
+pub level_some : (op : Op) → 1 ≤ level_of op
+level_some op = grind (arith, common_steps)
+
+-- the operator in front is looser than a level
+pub looser_here : (level : ℕ) (ss : List Symbol) (op : Op) (after : List Symbol) → next_operator ss ≡ Some (op, after) → level < level_of op → IsLooser level ss
+looser_here level ss op after e h p others k = grind (arith, common_steps)
+
+-- so it is where there is none
+pub looser_nowhere : (level : ℕ) (ss : List Symbol) → next_operator ss ≡ None → IsLooser level ss
+looser_nowhere level ss e p others k = absurd cc
+
+-- there is then none of that level, nor of one below it
+looser_none : (level : ℕ) (ss : List Symbol) → IsLooser level ss → (k : ℕ) → k ≤ level → operator_of_level k ss ≡ None
+looser_none level ss looser k le = by_case (next_operator ss) refl
+  where
+    by_case : (o : Option (Op × List Symbol)) → next_operator ss ≡ o → operator_of_level k ss ≡ None
+    by_case None e = operator_nowhere ss e k
+    by_case (Some x) e =
+        let h : level < level_of x.0 = looser x.0 x.1 e in
+        operator_elsewhere ss x.0 x.1 e k (λ same. absurd (omega arith))
+
 -- a level is read from the one below
 level_from : (M : Making) (base : Reader M.Made) (at n : ℕ) (ss : List Symbol) → at ≡ suc n → level_at M base at ss ≡ option_and_then (λ (x : M.Made × List Symbol). all_turns (infix_turn M (level_at M base n) at) x.0 x.1) (level_at M base n ss)
 unfolding level_at
 level_from M base at n ss e = rw e refl
 
 module _ (S : Setting) (M : Making) (W : Shows S M) (depth at : ℕ) where
-  module _ (x : M.Made) (ss : List Symbol) (op : Op) (after : List Symbol) (next : next_operator at ss ≡ Some (op, after)) where
+  module _ (x : M.Made) (ss : List Symbol) (op : Op) (after : List Symbol) (next : operator_of_level at ss ≡ Some (op, after)) where
     -- another operand fails
     pub level_fails : (e : Stop) (total : Found M.Made) → Fails e (level_at M (base S M W depth) (at - 1) after) → all_turns (infix_turn M (level_at M (base S M W depth) (at - 1)) at) x ss ≡ total → Fails e total
     level_fails = loop_fails (infix_turn M (level_at M (base S M W depth) (at - 1)) at) x ss (M.joined op x) (level_at M (base S M W depth) (at - 1) after) (infix_some M (level_at M (base S M W depth) (at - 1)) at x ss op after next)
@@ -205,16 +232,16 @@ module _ (M : Making) (base : Reader M.Made) where
   level_fails_first e at ss h = rw (climb_all at ss) (fails_first e (base ss) (λ x. climb M base at 1 x.0 x.1) h)
 
   -- the loop begins with the first operand
-  pub level_begins : (at : ℕ) (ss : List Symbol) (x : M.Made) (rest : List Symbol) → base ss ≡ Some (x, rest) → climb M base (at + 1 - 1) 1 x rest ≡ level_at M base at ss
-  level_begins at ss x rest h = moved (λ n. climb M base n 1 x rest) (at + 1 - 1) at (omega arith) ∙ sym (climb_all at ss ∙ ap (option_and_then (λ (x : M.Made × List Symbol). climb M base at 1 x.0 x.1)) h)
+  pub level_begins : (at : ℕ) (ss : List Symbol) (x : M.Made) (rest : List Symbol) → base ss ≡ Some (x, rest) → climb M base at 1 x rest ≡ level_at M base at ss
+  level_begins at ss x rest h = sym (climb_all at ss ∙ ap (option_and_then (λ (x : M.Made × List Symbol). climb M base at 1 x.0 x.1)) h)
 
   module _ (x : M.Made) (ss : List Symbol) where
     -- a level without an operator in front is done
-    climb_next : (more least : ℕ) → next_operator least ss ≡ None → climb M base (suc more) least x ss ≡ climb M base more (suc least) x ss
+    climb_next : (more least : ℕ) → operator_of_level least ss ≡ None → climb M base (suc more) least x ss ≡ climb M base more (suc least) x ss
     climb_next more least e = ap (option_and_then (λ (y : M.Made × List Symbol). climb M base more (suc least) y.0 y.1)) (all_stop (infix_turn M (level_at M base (least - 1)) least) x ss (infix_none M (level_at M base (least - 1)) least x ss e))
 
     -- so are more of them
-    climb_on : (gap more least : ℕ) → ((k : ℕ) → least ≤ k → k < least + gap → next_operator k ss ≡ None) → climb M base (gap + more) least x ss ≡ climb M base more (least + gap) x ss
+    climb_on : (gap more least : ℕ) → ((k : ℕ) → least ≤ k → k < least + gap → operator_of_level k ss ≡ None) → climb M base (gap + more) least x ss ≡ climb M base more (least + gap) x ss
     climb_on zero more least none = moved (λ n. climb M base n least x ss) (0 + more) more (omega arith) ∙ moved (λ n. climb M base more n x ss) least (least + 0) (omega arith)
     climb_on (suc gap) more least none =
         moved (λ n. climb M base n least x ss) (suc gap + more) (suc (gap + more)) (omega arith)
@@ -222,47 +249,48 @@ module _ (M : Making) (base : Reader M.Made) where
         ∙ climb_on gap more (suc least) (λ k low high. none k (omega arith) (omega arith))
         ∙ moved (λ n. climb M base more n x ss) (suc least + gap) (least + suc gap) (omega arith)
 
-    -- no operator of the levels is left
-    pub climb_done : (at least : ℕ) (total : Found M.Made) → ((k : ℕ) → least ≤ k → k ≤ at → next_operator k ss ≡ None) → climb M base (at + 1 - least) least x ss ≡ total → total ≡ Some (x, ss)
-    climb_done at least total none so_far = sym so_far ∙ moved (λ n. climb M base n least x ss) (at + 1 - least) (at + 1 - least + 0) (omega arith) ∙ climb_on (at + 1 - least) 0 least (λ k low high. none k low (omega arith))
+    -- a looser operator in front is of none of them
+    pub climb_done : (at : ℕ) (total : Found M.Made) → IsLooser at ss → climb M base at 1 x ss ≡ total → total ≡ Some (x, ss)
+    climb_done at total looser so_far = sym so_far ∙ moved (λ n. climb M base n 1 x ss) at (at + 0) (omega arith) ∙ climb_on at 0 1 (λ k low high. looser_none at ss looser k (omega arith))
 
-    -- the operator in front is of none of them
-    pub climb_stops : (at least found : ℕ) (op : Op) (after : List Symbol) (total : Found M.Made) → any_operator ss ≡ Some (op, after) → found ≡ level_of op → (found < least) ⊎ ((least ≤ found) × (at < found))
-        → climb M base (at + 1 - least) least x ss ≡ total → total ≡ Some (x, ss)
-    climb_stops at least found op after total e is outside =
-        climb_done at least total (λ k low high. operator_elsewhere ss op after e k (λ same. elim outside [ inl w ↦ omega arith | inr w ↦ omega arith ]))
-
-    -- an operator of a level above the first is read after those below it
-    climb_to : (at least found : ℕ) (op : Op) (after : List Symbol) → any_operator ss ≡ Some (op, after) → found ≡ level_of op → least ≤ found → found ≤ at → climb M base (at + 1 - least) least x ss ≡ climb M base (suc (at - found)) found x ss
-    climb_to at least found op after e is low high =
-        moved (λ n. climb M base n least x ss) (at + 1 - least) (found - least + suc (at - found)) (omega arith)
-        ∙ climb_on (found - least) (suc (at - found)) least (λ k above below. operator_elsewhere ss op after e k (λ same. absurd (omega arith)))
-        ∙ moved (λ n. climb M base (suc (at - found)) n x ss) (least + (found - least)) found (omega arith)
+    -- one that is looser than the levels below another is read from that one on
+    climb_to : (at binds : ℕ) → 1 ≤ binds → binds ≤ at → IsLooser (binds - 1) ss → climb M base at 1 x ss ≡ climb M base (suc (at - binds)) binds x ss
+    climb_to at binds low high looser =
+        moved (λ n. climb M base n 1 x ss) at (binds - 1 + suc (at - binds)) (omega arith)
+        ∙ climb_on (binds - 1) (suc (at - binds)) 1 (λ k above below. looser_none (binds - 1) ss looser k (omega arith))
+        ∙ moved (λ n. climb M base (suc (at - binds)) n x ss) (1 + (binds - 1)) binds (omega arith)
 
 -- the loop of levels at an operator
-module _ (S : Setting) (M : Making) (W : Shows S M) (depth at least found : ℕ) (x : M.Made) (ss : List Symbol) (op : Op) (after : List Symbol) (next : any_operator ss ≡ Some (op, after)) (is : found ≡ level_of op) (low : least ≤ found) (high : found ≤ at) where
+module _ (S : Setting) (M : Making) (W : Shows S M) (depth at binds : ℕ) (x : M.Made) (ss : List Symbol) (op : Op) (after : List Symbol) (next : next_operator ss ≡ Some (op, after)) (is : binds ≡ level_of op) (high : binds ≤ at) where
   -- an operator of that level is in front
-  front : next_operator found ss ≡ Some (op, after)
-  front = ap (λ n. next_operator n ss) is ∙ operator_here ss op after next
+  front : operator_of_level binds ss ≡ Some (op, after)
+  front = ap (λ n. operator_of_level n ss) is ∙ operator_here ss op after next
+
+  -- so the loop is at that level
+  climb_here : climb M (base S M W depth) at 1 x ss ≡ climb M (base S M W depth) (suc (at - binds)) binds x ss
+  climb_here =
+      let some = level_some op in
+      climb_to M (base S M W depth) x ss at binds (omega arith) high (looser_here (binds - 1) ss op after next (omega arith))
 
   -- another operand fails
-  pub climb_fails : (e : Stop) (total : Found M.Made) → Fails e (level_at M (base S M W depth) (found - 1) after) → climb M (base S M W depth) (at + 1 - least) least x ss ≡ total → Fails e total
+  pub climb_fails : (e : Stop) (total : Found M.Made) → Fails e (level_at M (base S M W depth) (binds - 1) after) → climb M (base S M W depth) at 1 x ss ≡ total → Fails e total
   climb_fails stops.Memory total h so_far = tt
   climb_fails stops.Syntax total h so_far =
-      sym so_far ∙ climb_to M (base S M W depth) x ss at least found op after next is low high
-      ∙ ap (option_and_then (λ (y : M.Made × List Symbol). climb M (base S M W depth) (at - found) (suc found) y.0 y.1)) (level_fails S M W depth found x ss op after front stops.Syntax (all_turns (infix_turn M (level_at M (base S M W depth) (found - 1)) found) x ss) h refl)
+      sym so_far ∙ climb_here
+      ∙ ap (option_and_then (λ (y : M.Made × List Symbol). climb M (base S M W depth) (at - binds) (suc binds) y.0 y.1)) (level_fails S M W depth binds x ss op after front stops.Syntax (all_turns (infix_turn M (level_at M (base S M W depth) (binds - 1)) binds) x ss) h refl)
 
   -- a turn leaves fewer symbols
-  pub climb_less : (y : M.Made) (rest : List Symbol) → level_at M (base S M W depth) (found - 1) after ≡ Some (y, rest) → length rest < length ss
-  climb_less y rest h = level_less S M W depth found x ss op after front y rest h
+  pub climb_less : (y : M.Made) (rest : List Symbol) → level_at M (base S M W depth) (binds - 1) after ≡ Some (y, rest) → length rest < length ss
+  climb_less y rest h = level_less S M W depth binds x ss op after front y rest h
 
-  -- the loop goes on with both joined, from that level on
-  pub climb_goes : (y z : M.Made) (rest : List Symbol) (total : Found M.Made) → level_at M (base S M W depth) (found - 1) after ≡ Some (y, rest) → z ≡ M.joined op x y
-      → climb M (base S M W depth) (at + 1 - least) least x ss ≡ total → climb M (base S M W depth) (at + 1 - found) found z rest ≡ total
-  climb_goes y z rest total h k so_far =
-      moved (λ n. climb M (base S M W depth) n found z rest) (at + 1 - found) (suc (at - found)) (omega arith)
-      ∙ ap (option_and_then (λ (y : M.Made × List Symbol). climb M (base S M W depth) (at - found) (suc found) y.0 y.1)) (level_goes S M W depth found x ss op after front y z rest (all_turns (infix_turn M (level_at M (base S M W depth) (found - 1)) found) x ss) h k refl)
-      ∙ sym (climb_to M (base S M W depth) x ss at least found op after next is low high)
+  -- the loop goes on with both joined
+  pub climb_goes : (y z : M.Made) (rest : List Symbol) (total : Found M.Made) → level_at M (base S M W depth) (binds - 1) after ≡ Some (y, rest) → IsLooser (binds - 1) rest → z ≡ M.joined op x y
+      → climb M (base S M W depth) at 1 x ss ≡ total → climb M (base S M W depth) at 1 z rest ≡ total
+  climb_goes y z rest total h looser k so_far =
+      let some = level_some op in
+      climb_to M (base S M W depth) z rest at binds (omega arith) high looser
+      ∙ ap (option_and_then (λ (y : M.Made × List Symbol). climb M (base S M W depth) (at - binds) (suc binds) y.0 y.1)) (level_goes S M W depth binds x ss op after front y z rest (all_turns (infix_turn M (level_at M (base S M W depth) (binds - 1)) binds) x ss) h k refl)
+      ∙ sym climb_here
       ∙ so_far
 
 -- ---- arguments

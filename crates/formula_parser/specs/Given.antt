@@ -1,13 +1,13 @@
 -- What the functions of the code return, as what reading gives.
-use Rattle.std.specs.Prelude.{◌≡◌, true, ℕ, suc, Bool, List, [], ◌∷◌, Option, Some, None, Result, Ok, Err, if◌then◌else◌}
+use Rattle.std.specs.Prelude.{◌≡◌, ◌<◌, true, ℕ, suc, Bool, List, [], ◌∷◌, Option, Some, None, Result, Ok, Err, if◌then◌else◌}
 use Rattle.std.specs.Option.{option_map_or}
 use Rattle.cell_refs.specs.declared.op.Op.{Op}
 use Rattle.formula_grammar.specs.declared.symbol.Sign.{Sign}
 use Rattle.formula_grammar.specs.declared.symbol.Symbol.{Symbol}
 use Rattle.formula_grammar.specs.Symbols.{Setting}
-use Rattle.formula_grammar.specs.Parts.{operator_of, prefix_of}
+use Rattle.formula_grammar.specs.Parts.{level_of, operator_of, prefix_of}
 use Rattle.formula_grammar.specs.Loops.{Reader}
-use Rattle.formula_grammar.specs.Reading.{operator_at, formula_at, primary_at, hundredths_at}
+use Rattle.formula_grammar.specs.Reading.{formula_at, primary_at, hundredths_at}
 use Rattle.formula_parser.specs.declared.branch.Part.{Part}
 use Rattle.formula_parser.specs.declared.stop.Stop.{Stop}
 use Rattle.formula_parser.specs.declared.stop.Stop.TheVariants as stops
@@ -34,14 +34,14 @@ pub record StartsWith (test : Sign → Bool) (symbols rest : List Symbol) : Type
   pub front : symbols ≡ first ∷ rest
   pub passes : test first.sign ≡ true
 
--- the operator in front, and one of a level
-abbrev pub any_operator : List Symbol → Option (Op × List Symbol)
-any_operator [] = None
-any_operator (s ∷ ss) = option_map_or (λ op. Some (op, ss)) (operator_of s.sign) None
+-- the operator in front, and the others
+abbrev pub next_operator : List Symbol → Option (Op × List Symbol)
+next_operator [] = None
+next_operator (s ∷ ss) = option_map_or (λ op. Some (op, ss)) (operator_of s.sign) None
 
-abbrev pub next_operator : ℕ → List Symbol → Option (Op × List Symbol)
-next_operator level [] = None
-next_operator level (s ∷ ss) = option_map_or (λ op. Some (op, ss)) (operator_at level s) None
+-- an operator in front binds more loosely than a level
+abbrev pub IsLooser : ℕ → List Symbol → Type 0
+IsLooser level ss = (op : Op) (others : List Symbol) → next_operator ss ≡ Some (op, others) → level < level_of op
 
 -- how many prefix signs stand at the front
 unfoldable pub prefix_count : List Symbol → ℕ

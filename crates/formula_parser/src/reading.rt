@@ -2,7 +2,7 @@
 ghost use Rattle.std.specs.Prelude.{◌≡◌, ◌∷◌, ◌≤◌, IfOk, Some, [], if◌then◌else◌};
 ghost use Rattle.formula_grammar.specs.Reading.{arg_at, args_at, call_at, close_at, level_at, parens_at, signed_at, starts_close, word_at};
 ghost use Rattle.formula_parser.specs.Built.{built};
-ghost use Rattle.formula_parser.specs.Given.{Gives, formulas, hundredths, primaries};
+ghost use Rattle.formula_parser.specs.Given.{Gives, IsLooser, formulas, hundredths, primaries};
 ghost use Rattle.formula_parser.specs.Placed.{AreBefore, AreSymbols, InOrder, IsInFront, IsInText};
 ghost use Rattle.formula_parser.specs.Settings.{seen};
 
@@ -50,26 +50,26 @@ pub fn formula<'a>(alloc: Global, setting: &Setting, depth: u8, symbols: &'a [Sy
 
 // Operands joined by the infix operators of a level, or of tighter ones. The lowest level has none.
 //
-// The levels are taken from the tightest on, and those below `least` are done.
+// A looser operator ends the loop. Any other joins what was read with the part behind it, which is
+// read at the levels below.
 #[cycle(reading)]
 fn level<'a>(alloc: Global, setting: &Setting, depth: u8, at: u8, symbols: &'a [Symbol]) -> Read<'a>
     requires { AreSymbols setting.now.text.now symbols.now }
     ensures gives { Gives (λ x. (x.0, x.1.now)) result
         (level_at (built (seen setting.now)) (hundredths (seen setting.now) depth) at symbols.now) }
+    ensures looser { IfOk result (λ x. IsLooser at x.1.now) }
     ensures placed { IfOk result (λ x. IsInFront symbols.now x.0 x.1.now) }
     ensures rest { IfOk result (λ x. AreSymbols setting.now.text.now x.1.now) }
 {
     let (mut left, mut rest) = percents(alloc, setting, depth, symbols)?;
-    let mut least = 1;
     while let Some((op, after)) = next_operator(rest) {
-        let found = level_of(op);
-        if found < least || at < found {
+        let binds = level_of(op);
+        if at < binds {
             return Ok((left, rest));
         }
-        let (right, others) = level(alloc, setting, depth, found - 1, after)?;
+        let (right, others) = level(alloc, setting, depth, binds - 1, after)?;
         left = Part::infix(alloc, op, left, right)?;
         rest = others;
-        least = found;
     }
     Ok((left, rest))
 }

@@ -3,7 +3,7 @@ ghost use Rattle.std.specs.Prelude.{◌≡◌, ◌≤◌, length, is_some};
 ghost use Rattle.std.specs.Option.{option_map};
 ghost use Rattle.formula_grammar.specs.Parts.{prefix_of, operator_of, level_of, is_percent, is_separator, is_close};
 ghost use Rattle.formula_grammar.specs.Reading.{ends_arg, starts_close};
-ghost use Rattle.formula_parser.specs.Given.{any_operator, next_where, prefix_count};
+ghost use Rattle.formula_parser.specs.Given.{next_operator, next_where, prefix_count};
 
 use cell_refs::Op;
 use formula_grammar::{Sign, Symbol};
@@ -46,7 +46,7 @@ pub fn level_of(op: Op) -> u8
 
 /// The operator in front, and the symbols after it.
 pub fn next_operator(symbols: &[Symbol]) -> Option<(Op, &[Symbol])>
-    ensures { option_map (λ x. (x.0, x.1.now)) result ≡ any_operator symbols.now }
+    ensures { option_map (λ x. (x.0, x.1.now)) result ≡ next_operator symbols.now }
 {
     match symbols {
         [] => None,

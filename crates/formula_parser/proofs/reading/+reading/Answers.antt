@@ -12,7 +12,7 @@ use Rattle.formula_parser.specs.Settings.{seen}
 use Rattle.formula_parser.specs.declared.branch.Part.{Part}
 use Rattle.formula_parser.proofs.Building.{built_shows as shows}
 use Rattle.formula_parser.proofs.Order.{behind_close, call_forward, call_front, call_within, closed_front, closed_order, enclosed_front, first_behind, first_is, head_behind, head_is, joined_front, joined_order, more_before, operator_first, others_are, prefix_front, prefix_order, sign_first, drops_are, tail_are, tail_order, word_front}
-use Rattle.formula_parser.proofs.Steps.{level_fails_first, level_begins, climb_fails, climb_less, climb_goes, climb_done, climb_stops, operator_nowhere, hundredths_fails, hundredths_begins, percent_goes, percent_done, args_fails_first, args_begins, args_done, args_fails, args_less, args_goes, signed_step, signed_front, whole_rest, signed_fails, primary_none, parens_gives}
+use Rattle.formula_parser.proofs.Steps.{level_fails_first, level_begins, climb_fails, climb_less, climb_goes, climb_done, level_some, looser_here, looser_nowhere, hundredths_fails, hundredths_begins, percent_goes, percent_done, args_fails_first, args_begins, args_done, args_fails, args_less, args_goes, signed_step, signed_front, whole_rest, signed_fails, primary_none, parens_gives}
 use Rattle.formula_parser.proofs.reading.+reading.Goals as goal
 
 -- any symbol
@@ -95,26 +95,26 @@ level-returns-in_err-left-clause-gives t c =
 
 pub level-loop-op-init : goal.level-loop-op-init
 level-loop-op-init t c = record {
-  some = omega arith;
   so_far = level_begins (built (seen c.args.setting.now)) (hundredths (seen c.args.setting.now) c.args.depth) c.args.at c.args.symbols.now c.in_ok-left.left c.in_ok-left.rest.now c.in_ok-left.ensures.gives;
   front = c.in_ok-left.ensures.placed;
   symbols = c.in_ok-left.ensures.rest;
 }
 
-pub level-returns-then-found-least-clause-gives : goal.level-returns-then-found-least-clause-gives
-level-returns-then-found-least-clause-gives t c =
-    climb_stops (built (seen c.args.setting.now)) (hundredths (seen c.args.setting.now) c.args.depth) c.loop-op.left c.loop-op.rest.now c.args.at c.loop-op.least c.level_of-found.result c.in-Some.op c.in-Some.after.now (level_at (built (seen c.args.setting.now)) (hundredths (seen c.args.setting.now) c.args.depth) c.args.at c.args.symbols.now)
-    (sym c.in-Some.ensures) c.level_of-found.ensures c.then-found-least.either c.loop-op.invariant.so_far
+pub level-returns-then-at-binds-clause-gives : goal.level-returns-then-at-binds-clause-gives
+level-returns-then-at-binds-clause-gives t c =
+    climb_done (built (seen c.args.setting.now)) (hundredths (seen c.args.setting.now) c.args.depth) c.loop-op.left c.loop-op.rest.now c.args.at (level_at (built (seen c.args.setting.now)) (hundredths (seen c.args.setting.now) c.args.depth) c.args.at c.args.symbols.now)
+    (looser_here c.args.at c.loop-op.rest.now c.in-Some.op c.in-Some.after.now (sym c.in-Some.ensures) (omega arith)) c.loop-op.invariant.so_far
 
 pub level-level-requires : goal.level-level-requires
 level-level-requires t c =
     let first = operator_first c.loop-op.rest.now c.in-Some.op c.in-Some.after.now (sym c.in-Some.ensures) in
+    let some = level_some c.in-Some.op in
     (omega arith, others_are c.args.setting.now.text.now first.0 c.in-Some.after.now c.loop-op.rest.now first.1 c.loop-op.invariant.symbols)
 
 pub level-returns-in_err-right-clause-gives : goal.level-returns-in_err-right-clause-gives
 level-returns-in_err-right-clause-gives t c =
     let p = err_from_is_err_and c.from_residual-in_err-right.result c.from_residual-in_err-right.ensures.1 in
-    rw (p.1, p.2) (climb_fails (seen c.args.setting.now) (built (seen c.args.setting.now)) (shows (seen c.args.setting.now)) c.args.depth c.args.at c.loop-op.least c.level_of-found.result c.loop-op.left c.loop-op.rest.now c.in-Some.op c.in-Some.after.now (sym c.in-Some.ensures) c.level_of-found.ensures (omega arith) (omega arith) c.in_err-right.field-0.0
+    rw (p.1, p.2) (climb_fails (seen c.args.setting.now) (built (seen c.args.setting.now)) (shows (seen c.args.setting.now)) c.args.depth c.args.at c.level_of-binds.result c.loop-op.left c.loop-op.rest.now c.in-Some.op c.in-Some.after.now (sym c.in-Some.ensures) c.level_of-binds.ensures (omega arith) c.in_err-right.field-0.0
     (level_at (built (seen c.args.setting.now)) (hundredths (seen c.args.setting.now) c.args.depth) c.args.at c.args.symbols.now) c.in_err-right.ensures.gives c.loop-op.invariant.so_far)
 
 pub level-infix-requires-clause-order : goal.level-infix-requires-clause-order
@@ -124,16 +124,15 @@ level-infix-requires-clause-order t c =
 
 pub level-loop-op-smaller : goal.level-loop-op-smaller
 level-loop-op-smaller t c =
-    climb_less (seen c.args.setting.now) (built (seen c.args.setting.now)) (shows (seen c.args.setting.now)) c.args.depth c.args.at c.loop-op.least c.level_of-found.result c.loop-op.left c.loop-op.rest.now c.in-Some.op c.in-Some.after.now (sym c.in-Some.ensures) c.level_of-found.ensures (omega arith) (omega arith) c.in_ok-right.right c.in_ok-right.others.now c.in_ok-right.ensures.gives
+    climb_less (seen c.args.setting.now) (built (seen c.args.setting.now)) (shows (seen c.args.setting.now)) c.args.depth c.args.at c.level_of-binds.result c.loop-op.left c.loop-op.rest.now c.in-Some.op c.in-Some.after.now (sym c.in-Some.ensures) c.level_of-binds.ensures (omega arith) c.in_ok-right.right c.in_ok-right.others.now c.in_ok-right.ensures.gives
 
 pub level-loop-op-preserved : goal.level-loop-op-preserved
 level-loop-op-preserved t c =
     let first = operator_first c.loop-op.rest.now c.in-Some.op c.in-Some.after.now (sym c.in-Some.ensures) in
     let made = c.in_ok-left-2.ensures.made (seen c.args.setting.now) in record {
-      some = omega arith;
       so_far =
-          climb_goes (seen c.args.setting.now) (built (seen c.args.setting.now)) (shows (seen c.args.setting.now)) c.args.depth c.args.at c.loop-op.least c.level_of-found.result c.loop-op.left c.loop-op.rest.now c.in-Some.op c.in-Some.after.now (sym c.in-Some.ensures) c.level_of-found.ensures (omega arith) (omega arith) c.in_ok-right.right c.in_ok-left-2.left c.in_ok-right.others.now
-          (level_at (built (seen c.args.setting.now)) (hundredths (seen c.args.setting.now) c.args.depth) c.args.at c.args.symbols.now) c.in_ok-right.ensures.gives made c.loop-op.invariant.so_far;
+          climb_goes (seen c.args.setting.now) (built (seen c.args.setting.now)) (shows (seen c.args.setting.now)) c.args.depth c.args.at c.level_of-binds.result c.loop-op.left c.loop-op.rest.now c.in-Some.op c.in-Some.after.now (sym c.in-Some.ensures) c.level_of-binds.ensures (omega arith) c.in_ok-right.right c.in_ok-left-2.left c.in_ok-right.others.now
+          (level_at (built (seen c.args.setting.now)) (hundredths (seen c.args.setting.now) c.args.depth) c.args.at c.args.symbols.now) c.in_ok-right.ensures.gives c.in_ok-right.ensures.looser made c.loop-op.invariant.so_far;
       front =
           joined_front c.args.setting.now.text.now c.args.symbols.now c.loop-op.left c.loop-op.rest.now c.loop-op.invariant.front c.loop-op.invariant.symbols first.0 c.in-Some.after.now first.1 c.in_ok-right.right c.in_ok-right.others.now c.in_ok-right.ensures.placed c.requires.1
           c.in_ok-left-2.left c.in_ok-left-2.ensures.placed (ap (λ (p : Part). p.place) made);
@@ -142,8 +141,8 @@ level-loop-op-preserved t c =
 
 pub level-returns-clause-gives : goal.level-returns-clause-gives
 level-returns-clause-gives t c =
-    climb_done (built (seen c.args.setting.now)) (hundredths (seen c.args.setting.now) c.args.depth) c.loop-op.left c.loop-op.rest.now c.args.at c.loop-op.least (level_at (built (seen c.args.setting.now)) (hundredths (seen c.args.setting.now) c.args.depth) c.args.at c.args.symbols.now)
-    (λ k low high. operator_nowhere c.loop-op.rest.now (sym c.in_default.ensures) k) c.loop-op.invariant.so_far
+    climb_done (built (seen c.args.setting.now)) (hundredths (seen c.args.setting.now) c.args.depth) c.loop-op.left c.loop-op.rest.now c.args.at (level_at (built (seen c.args.setting.now)) (hundredths (seen c.args.setting.now) c.args.depth) c.args.at c.args.symbols.now)
+    (looser_nowhere c.args.at c.loop-op.rest.now (sym c.in_default.ensures)) c.loop-op.invariant.so_far
 
 pub parens-in_parentheses-requires-clause-behind : goal.parens-in_parentheses-requires-clause-behind
 parens-in_parentheses-requires-clause-behind t c =

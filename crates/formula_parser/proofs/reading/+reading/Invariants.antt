@@ -1,5 +1,5 @@
 -- The turns from here give what all turns give, and what is read so far stands in front of the rest.
-use Rattle.std.proofs.Common.{◌≡◌, ◌+◌, ◌-◌, ◌*◌, ◌≤◌, length, drop, Some}
+use Rattle.std.proofs.Common.{◌≡◌, ◌+◌, ◌*◌, ◌≤◌, length, drop, Some}
 use Rattle.formula_grammar.specs.Loops.{all_turns}
 use Rattle.formula_grammar.specs.Reading.{level_at, signed_at, args_at, percent_turn, arg_turn}
 use Rattle.formula_parser.specs.Built.{built}
@@ -65,8 +65,7 @@ decreases-percents-loop-sign l = length l.rest
 
 abbrev pub invariant-level-loop-op : goal.invariant-level-loop-op
 invariant-level-loop-op l = record {
-  some : 1 ≤ l.least;
-  so_far : climb (built (seen l.setting)) (hundredths (seen l.setting) l.depth) (l.at + 1 - l.least) l.least l.left l.rest
+  so_far : climb (built (seen l.setting)) (hundredths (seen l.setting) l.depth) l.at 1 l.left l.rest
       ≡ level_at (built (seen l.setting)) (hundredths (seen l.setting) l.depth) l.at l.symbols;
   front : IsInFront l.symbols l.left l.rest;
   symbols : AreSymbols l.setting.text.now l.rest;
