@@ -161,7 +161,7 @@ fn cells_at_which_formulas_look(rt: HostRuntime) -> Result<(), Fail> {
         ("=SUM(A1;B1)", true, [A1, B1].as_slice()),
     ] {
         let part = part(rt.alloc(), text)?;
-        let found = part.looks(rt.alloc())?;
+        let found = part.looks().cells(rt.alloc())?;
         assert!(rt; found.as_slice() == looks, "{text}");
         assert!(rt; part.to_value(rt.alloc())?.is_some() == is_known, "{text}");
     }
