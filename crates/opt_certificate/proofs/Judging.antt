@@ -1,6 +1,7 @@
 -- Answers of tests over sums, from the sums' own.
-use Rattle.std.proofs.Common.{◌≡◌, ℕ, ◌<◌, ◌≤◌, Bool, true, false, refl, sym, ap, ap₂, ◌∙◌, List, [], ◌∷◌, length, Some, None, if◌then◌else◌, arith, subst, ◌⊎◌, inl, inr}
-use Rattle.std.specs.Prelude.{All, Result, Ok, Err}
+use Rattle.std.proofs.Common.{◌≡◌, ℕ, ◌<◌, ◌≤◌, Bool, true, false, not, refl, sym, ap, ap₂, ◌∙◌, List, [], ◌∷◌, length, Some, None, if◌then◌else◌, arith, subst, ◌⊎◌, inl, inr}
+use Rattle.std.specs.Prelude.{All, IsTrue, ◌↔◌, Result, Ok, Err}
+use Rattle.std.proofs.lemmas.Bool.{false≢true}
 use Rattle.std.specs.Option.{option_and_then}
 use Rattle.std.proofs.lemmas.List.{get_or_past}
 use Rattle.std.proofs.lemmas.List.Elements.{All-head, All-tail}
@@ -10,6 +11,7 @@ use Rattle.fractions.specs.Rows.{Row, combined, combined_bound}
 use Rattle.fractions.proofs.Laws.{mul-zero, add-zero}
 use Rattle.fractions.proofs.Order.{le_refl}
 use Rattle.fractions.proofs.Tests.{lt_iff, le_or_lt}
+use Rattle.frac128.specs.declared.fault.Wide.{Wide}
 use Rattle.frac128.specs.Narrow.{is_narrow_sum, IsNarrowSum}
 use Rattle.frac128.proofs.NarrowLaws.{narrow_sum_test}
 use Rattle.calculations.specs.Calculation.{Calculation, done, after, sum, narrow}
@@ -26,6 +28,15 @@ pub judged_as : {E P Q N M : Type 0} → (P → Q) → (Q → P) → (N → M) �
 judged_as f g h k (Ok true) j = (f j.0, h j.1)
 judged_as f g h k (Ok false) j = λ q. j (g q)
 judged_as f g h k (Err e) j = λ m. j (k m)
+
+-- the answer of a test of the sums
+pub judged_by : {P N Q : Type 0} → (b : Bool) → IsTrue b ↔ Q → (Q → P × N) → (¬ Q → ¬ P) → Judged {E = Wide} P N (Ok b)
+judged_by true h f g = f (h.0 refl)
+judged_by false h f g = g (λ q. false≢true (h.1 q))
+
+pub judged_unless : {P N Q : Type 0} → (b : Bool) → IsTrue b ↔ Q → (¬ Q → P × N) → (Q → ¬ P) → Judged {E = Wide} P N (Ok (not b))
+judged_unless true h f g = g (h.0 refl)
+judged_unless false h f g = f (λ q. false≢true (h.1 q))
 
 pub none_wide : (c : Calculation ℚ) → narrow c ≡ None → ¬ (StaysNarrow c)
 none_wide c e s = clash (sym e ∙ s.1)

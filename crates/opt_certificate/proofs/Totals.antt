@@ -4,10 +4,13 @@ use Rattle.fractions.specs.Rational.{ℚ, ◌+ℚ◌, ◌*ℚ◌, zero_ℚ}
 use Rattle.fractions.specs.Vectors.{at, times}
 use Rattle.fractions.specs.Rows.{Row, combined, combined_bound}
 use Rattle.fractions.proofs.Laws.{add-zero, zero-add, add_assoc}
+use Rattle.std.specs.Prelude.{Result, Ok, Err, MatchResult}
+use Rattle.frac128.specs.declared.fault.Wide.{Wide}
 use Rattle.frac128.specs.Narrow.{is_narrow, is_narrow_sum, IsNarrow, IsNarrowSum}
 use Rattle.frac128.proofs.NarrowLaws.{narrow_test, narrow_sum_test}
 use Rattle.calculations.specs.Calculation.{sum, product, narrow, exact, stays_narrow}
 use Rattle.calculations.proofs.CalculationLaws.{narrow-exact}
+use Rattle.affine_forms.specs.Answers.{AnswersInPlace}
 use Rattle.affine_forms.specs.Forms.{Assignment, AffineForm, sum_at}
 use Rattle.affine_forms.specs.Assigned.{assigned}
 use Rattle.affine_forms.specs.Lists.{summed}
@@ -31,7 +34,7 @@ other_false true false v n = refl
 other_false false d v n = refl
 
 -- one product
-pub one_fits : (t x y p s : ℚ) → p ≡ x *ℚ y → IsNarrow (x *ℚ y) → s ≡ t +ℚ p → IsNarrowSum t p → narrow (added_up t ((x, y) ∷ [])) ≡ Some s
+one_fits : (t x y p s : ℚ) → p ≡ x *ℚ y → IsNarrow (x *ℚ y) → s ≡ t +ℚ p → IsNarrowSum t p → narrow (added_up t ((x, y) ∷ [])) ≡ Some s
 one_fits t x y p s e h f i =
     both_true (is_narrow (x *ℚ y)) (is_narrow_sum t (x *ℚ y)) _ ((narrow_test (x *ℚ y)).1 h) ((narrow_sum_test t (x *ℚ y)).1 (Rattle.std.proofs.Common.subst (λ q. IsNarrowSum t q) e i))
     ∙ ap Some (sym (f ∙ ap (λ q. t +ℚ q) e))
@@ -39,8 +42,12 @@ one_fits t x y p s e h f i =
 pub product_wide : (t x y : ℚ) → ¬ (IsNarrow (x *ℚ y)) → narrow (added_up t ((x, y) ∷ [])) ≡ None
 product_wide t x y n = one_false (is_narrow (x *ℚ y)) (is_narrow_sum t (x *ℚ y)) _ (λ e. n ((narrow_test (x *ℚ y)).0 e))
 
-pub sum_wide : (t x y p : ℚ) → p ≡ x *ℚ y → ¬ (IsNarrowSum t p) → narrow (added_up t ((x, y) ∷ [])) ≡ None
+sum_wide : (t x y p : ℚ) → p ≡ x *ℚ y → ¬ (IsNarrowSum t p) → narrow (added_up t ((x, y) ∷ [])) ≡ None
 sum_wide t x y p e n = other_false (is_narrow (x *ℚ y)) (is_narrow_sum t (x *ℚ y)) _ (λ q. n (Rattle.std.proofs.Common.subst (λ r. IsNarrowSum t r) (sym e) ((narrow_sum_test t (x *ℚ y)).0 q)))
+
+pub product_added : (t x y p : ℚ) → p ≡ x *ℚ y → IsNarrow (x *ℚ y) → (r : Result ℚ Wide) → MatchResult r (λ f. (f ≡ t +ℚ p) × IsNarrowSum t p) (λ _. ¬ (IsNarrowSum t p)) → AnswersInPlace (added_up t ((x, y) ∷ [])) r
+product_added t x y p e h (Ok s) m = one_fits t x y p s e h m.0 m.1
+product_added t x y p e h (Err wide) m = sum_wide t x y p e m
 
 -- the first product fits, and the rest goes on from its sum
 pub goes_on : (start : ℚ) (p : ℚ × ℚ) (ps : List (ℚ × ℚ)) (s : ℚ) → narrow (added_up start (p ∷ [])) ≡ Some s → narrow (added_up start (p ∷ ps)) ≡ narrow (added_up s ps)

@@ -51,16 +51,8 @@ fn column_reaches(
         (StaysNarrow (column_sum column multipliers.now program.now.rows)) result }
 {
     let floor = floor_of(program, column, plain);
-    match column_sum(column, multipliers, program.rows()) {
-        Ok(sum) => {
-            if sum.is_below(floor) {
-                Ok(false)
-            } else {
-                Ok(true)
-            }
-        }
-        Err(wide) => Err(wide),
-    }
+    let sum = column_sum(column, multipliers, program.rows())?;
+    Ok(!sum.is_below(floor))
 }
 
 // Whether each column's coefficient does so.
@@ -71,10 +63,8 @@ fn columns_reach(program: &Standard, multipliers: &[Frac], plain: bool) -> Resul
         (ColumnsAreNarrow program.now multipliers.now) result }
 {
     for column in 0..program.objective().len() {
-        match column_reaches(program, multipliers, column, plain) {
-            Ok(true) => {}
-            Ok(false) => return Ok(false),
-            Err(wide) => return Err(wide),
+        if !column_reaches(program, multipliers, column, plain)? {
+            return Ok(false);
         }
     }
     Ok(true)
@@ -87,19 +77,9 @@ fn bound_is_within(program: &Standard, multipliers: &[Frac], most: Frac) -> Resu
         ≤ℚ most)
         (StaysNarrow (whole_bound multipliers.now program.now)) result }
 {
-    match bound_sum(multipliers, program.rows()) {
-        Ok(bound) => match bound.add(program.constant()) {
-            Ok(sum) => {
-                if most.is_below(sum) {
-                    Ok(false)
-                } else {
-                    Ok(true)
-                }
-            }
-            Err(wide) => Err(wide),
-        },
-        Err(wide) => Err(wide),
-    }
+    let bound = bound_sum(multipliers, program.rows())?;
+    let sum = bound.add(program.constant())?;
+    Ok(!most.is_below(sum))
 }
 
 // Whether the combination's bound is negative.
@@ -108,16 +88,8 @@ fn bound_is_negative(program: &Standard, multipliers: &[Frac]) -> Result<bool, W
     ensures { Judged (combined_bound multipliers.now program.now.rows
         <ℚ zero_ℚ) (StaysNarrow (bound_sum multipliers.now program.now.rows)) result }
 {
-    match bound_sum(multipliers, program.rows()) {
-        Ok(bound) => {
-            if bound.is_negative() {
-                Ok(true)
-            } else {
-                Ok(false)
-            }
-        }
-        Err(wide) => Err(wide),
-    }
+    let bound = bound_sum(multipliers, program.rows())?;
+    Ok(bound.is_negative())
 }
 
 /// Whether the multipliers bound the objective by that number.
@@ -133,11 +105,10 @@ pub(crate) fn is_best(program: &Standard, multipliers: &[Frac], most: Frac) -> R
     if !none_negative(multipliers) {
         return Ok(false);
     }
-    match columns_reach(program, multipliers, false) {
-        Ok(true) => bound_is_within(program, multipliers, most),
-        Ok(false) => Ok(false),
-        Err(wide) => Err(wide),
+    if !columns_reach(program, multipliers, false)? {
+        return Ok(false);
     }
+    bound_is_within(program, multipliers, most)
 }
 
 /// Whether the multipliers are contradictory.
@@ -153,9 +124,8 @@ pub(crate) fn is_contradictory(program: &Standard, multipliers: &[Frac]) -> Resu
     if !none_negative(multipliers) {
         return Ok(false);
     }
-    match columns_reach(program, multipliers, true) {
-        Ok(true) => bound_is_negative(program, multipliers),
-        Ok(false) => Ok(false),
-        Err(wide) => Err(wide),
+    if !columns_reach(program, multipliers, true)? {
+        return Ok(false);
     }
+    bound_is_negative(program, multipliers)
 }

@@ -7,12 +7,14 @@ ghost use Rattle.opt_certificate.specs.Checks.{NodeIsNarrow, NodeProves};
 ghost use Rattle.opt_certificate.specs.Judged.{LeafJudged};
 ghost use Rattle.opt_certificate.specs.Nodes.{HasNarrowFloor, best_leaf, empty_leaf};
 ghost use Rattle.opt_certificate.specs.Trees.{node_of};
+ghost use Rattle.opt_certificate.specs.declared.node.LeafStop.TheVariants as stops;
 ghost use Rattle.linear_models.specs.Laws.{IsBoxOf};
 
 use crate::leaf::{is_best, is_contradictory};
 use crate::tree::TreeNode;
-use frac128::Frac;
+use frac128::{Frac, Wide};
 use lin_model::{BoundBox, LinModel};
+use memory::Memory;
 use std::alloc::Global;
 
 /// Why a node has no answer.
@@ -20,6 +22,22 @@ use std::alloc::Global;
 pub(crate) enum LeafStop {
     Wide,
     Memory,
+}
+
+impl From<Wide> for LeafStop {
+    ghost from_gives = { λ _ e. e ≡ stops.Wide };
+
+    fn from(_: Wide) -> LeafStop {
+        LeafStop::Wide
+    }
+}
+
+impl From<Memory> for LeafStop {
+    ghost from_gives = { λ _ e. e ≡ stops.Memory };
+
+    fn from(_: Memory) -> LeafStop {
+        LeafStop::Memory
+    }
 }
 
 // Whether the multipliers bound the objective on the box by that number.
@@ -35,13 +53,8 @@ fn proves_best(
     ensures { LeafJudged (ProvesBest of.now (Some most) within.now multipliers.now)
         (NodeIsNarrow of.now (within.now, best_leaf multipliers.now)) result }
 {
-    match of.standard(alloc, within, false) {
-        Ok(program) => match is_best(&program, multipliers, most) {
-            Ok(yes) => Ok(yes),
-            Err(_) => Err(LeafStop::Wide),
-        },
-        Err(_) => Err(LeafStop::Memory),
-    }
+    let program = of.standard(alloc, within, false)?;
+    Ok(is_best(&program, multipliers, most)?)
 }
 
 // Whether the multipliers leave the box no point.
@@ -56,13 +69,8 @@ fn proves_empty(
     ensures { LeafJudged (ProvesEmpty of.now within.now multipliers.now)
         (NodeIsNarrow of.now (within.now, empty_leaf multipliers.now)) result }
 {
-    match of.standard(alloc, within, false) {
-        Ok(program) => match is_contradictory(&program, multipliers) {
-            Ok(yes) => Ok(yes),
-            Err(_) => Err(LeafStop::Wide),
-        },
-        Err(_) => Err(LeafStop::Memory),
-    }
+    let program = of.standard(alloc, within, false)?;
+    Ok(is_contradictory(&program, multipliers)?)
 }
 
 // Whether the decision is to be whole.
@@ -92,13 +100,7 @@ pub(crate) fn node_proves(
         (NodeIsNarrow of.now (within.now, node_of node.now)) result }
 {
     match node {
-        TreeNode::Split(decision, _, _, _) => {
-            if is_marked(of.whole(), *decision) {
-                Ok(true)
-            } else {
-                Ok(false)
-            }
-        }
+        TreeNode::Split(decision, _, _, _) => Ok(is_marked(of.whole(), *decision)),
         TreeNode::Best(multipliers) => match most {
             None => Ok(false),
             Some(number) => proves_best(alloc, of, within, multipliers, number),

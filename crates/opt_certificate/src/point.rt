@@ -46,16 +46,8 @@ fn row_stands(row: &FormRow, point: &[Frac], with_constant: bool) -> Result<bool
     ensures { Judged (RowStands with_constant point.now row.now)
         (RowIsNarrow with_constant point.now row.now) result }
 {
-    match row_sum(row, point, with_constant) {
-        Ok(sum) => {
-            if stands(row.relation(), sum) {
-                Ok(true)
-            } else {
-                Ok(false)
-            }
-        }
-        Err(wide) => Err(wide),
-    }
+    let sum = row_sum(row, point, with_constant)?;
+    Ok(stands(row.relation(), sum))
 }
 
 /// Whether each row holds there.
@@ -69,10 +61,8 @@ pub(crate) fn rows_stand(
         (All (RowIsNarrow with_constant point.now) rows.now) result }
 {
     for row in rows {
-        match row_stands(row, point, with_constant) {
-            Ok(true) => {}
-            Ok(false) => return Ok(false),
-            Err(wide) => return Err(wide),
+        if !row_stands(row, point, with_constant)? {
+            return Ok(false);
         }
     }
     Ok(true)

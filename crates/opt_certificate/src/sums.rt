@@ -14,13 +14,8 @@ use linear_programs::Inequality;
 fn add_product(total: Frac, x: Frac, y: Frac) -> Result<Frac, Wide>
     ensures { AnswersInPlace (added_up total ((x, y) ∷ [])) result }
 {
-    match x.mul(y) {
-        Ok(product) => match total.add(product) {
-            Ok(sum) => Ok(sum),
-            Err(wide) => Err(wide),
-        },
-        Err(wide) => Err(wide),
-    }
+    let product = x.mul(y)?;
+    total.add(product)
 }
 
 /// A form's terms at a point, added to the start one after the other.
@@ -31,10 +26,7 @@ pub(crate) fn terms_sum(start: Frac, terms: &[(u16, Frac)], point: &[Frac]) -> R
 {
     let mut total = start;
     for (decision, coefficient) in terms {
-        match add_product(total, *coefficient, point[*decision as usize]) {
-            Ok(sum) => total = sum,
-            Err(wide) => return Err(wide),
-        }
+        total = add_product(total, *coefficient, point[*decision as usize])?;
     }
     Ok(total)
 }
@@ -53,10 +45,7 @@ pub(crate) fn column_sum(
     let mut total = Frac::zero();
     for (place, multiplier) in multipliers.iter().enumerate() {
         let row = &rows[place];
-        match add_product(total, *multiplier, row.coefficients()[column]) {
-            Ok(sum) => total = sum,
-            Err(wide) => return Err(wide),
-        }
+        total = add_product(total, *multiplier, row.coefficients()[column])?;
     }
     Ok(total)
 }
@@ -70,10 +59,7 @@ pub(crate) fn bound_sum(multipliers: &[Frac], rows: &[Inequality]) -> Result<Fra
     let mut total = Frac::zero();
     for (place, multiplier) in multipliers.iter().enumerate() {
         let row = &rows[place];
-        match add_product(total, *multiplier, row.bound()) {
-            Ok(sum) => total = sum,
-            Err(wide) => return Err(wide),
-        }
+        total = add_product(total, *multiplier, row.bound())?;
     }
     Ok(total)
 }

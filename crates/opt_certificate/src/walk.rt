@@ -69,18 +69,14 @@ fn step(
     let Some(within) = boxes.pop() else {
         unreachable!();
     };
-    match node_proves(alloc, of, &within, node, most) {
-        Ok(true) => {}
-        Ok(false) => return Ok(false),
-        Err(stop) => return Err(stop),
+    if !node_proves(alloc, of, &within, node, most)? {
+        return Ok(false);
     }
     match node {
-        TreeNode::Split(decision, floor, _, _) => match push_parts(
-            alloc, &within, *decision, *floor, boxes,
-        ) {
-            Ok(()) => Ok(true),
-            Err(_) => Err(LeafStop::Memory),
-        },
+        TreeNode::Split(decision, floor, _, _) => {
+            push_parts(alloc, &within, *decision, *floor, boxes)?;
+            Ok(true)
+        }
         TreeNode::Best(_) => Ok(true),
         TreeNode::Empty(_) => Ok(true),
     }

@@ -55,16 +55,8 @@ fn rises(form: &Form, direction: &[Frac]) -> Result<bool, Wide>
     ensures { Judged (zero_ℚ <ℚ form_at (without_constant form.now) direction.now)
         (StaysNarrow (form_sum (without_constant form.now) direction.now)) result }
 {
-    match terms_sum(Frac::zero(), form.terms(), direction) {
-        Ok(sum) => {
-            if sum.is_positive() {
-                Ok(true)
-            } else {
-                Ok(false)
-            }
-        }
-        Err(wide) => Err(wide),
-    }
+    let sum = terms_sum(Frac::zero(), form.terms(), direction)?;
+    Ok(sum.is_positive())
 }
 
 /// Whether the direction keeps every row and bound however far it is followed, and improves the objective, which is the
@@ -83,9 +75,8 @@ pub(crate) fn is_way_out(of: &LinModel, wanted: &Form, direction: &[Frac]) -> Re
     if !none_rises(of.bounds().greatest(), direction) {
         return Ok(false);
     }
-    match rows_stand(of.rows(), direction, false) {
-        Ok(true) => rises(wanted, direction),
-        Ok(false) => Ok(false),
-        Err(wide) => Err(wide),
+    if !rows_stand(of.rows(), direction, false)? {
+        return Ok(false);
     }
+    rises(wanted, direction)
 }
