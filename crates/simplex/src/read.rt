@@ -215,8 +215,6 @@ pub fn row_multipliers(
 {
     let columns = of.objective().len() as u16;
     let rows = of.rows().len() as u16;
-    match slack_multipliers(alloc, dict, row, columns, rows) {
-        Ok(made) => Ok(made),
-        Err(fault) => Err(fault),
-    }
+    let made = slack_multipliers(alloc, dict, row, columns, rows)?;
+    Ok(made)
 }

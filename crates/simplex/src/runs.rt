@@ -28,10 +28,8 @@ pub fn make_pivot(of: &Standard, dict: &mut Dict, row: u16, col: u16) -> Result<
     ensures reached { IsReached of.now dict.new }
 {
     let _regular = of.rows();
-    match dict.pivot(row, col) {
-        Ok(()) => Ok(()),
-        Err(fault) => Err(fault),
-    }
+    dict.pivot(row, col)?;
+    Ok(())
 }
 
 /// Goes on with the run from a dictionary on it, one unit a pivot, until it ends or no unit is left.

@@ -58,8 +58,6 @@ pub fn start(alloc: Global, of: &Standard) -> Result<Dict, Memory>
     ensures first { IfOk result (λ d. d ≡ first_of_program of.now) }
     ensures reached { IfOk result (λ d. IsReached of.now d) }
 {
-    match first_dictionary(alloc, of) {
-        Ok(dict) => Ok(dict),
-        Err(fault) => Err(fault),
-    }
+    let dict = first_dictionary(alloc, of)?;
+    Ok(dict)
 }

@@ -75,10 +75,7 @@ pub fn solve_for(row: &[Frac], k: usize, into: &mut [Frac]) -> Result<(), Wide>
     ensures entry { IfOk result (λ _. at into.new k ≢ zero_ℚ) }
 {
     for j in 0..row.len() {
-        match solved_number(row, k, j) {
-            Ok(number) => into[j] = number,
-            Err(fault) => return Err(fault),
-        }
+        into[j] = solved_number(row, k, j)?;
     }
     Ok(())
 }
@@ -98,10 +95,7 @@ fn substitute(row: &[Frac], k: usize, by: &[Frac], into: &mut [Frac]) -> Result<
         if number.is_zero() {
             continue;
         }
-        match plus_product(own, factor, number) {
-            Ok(next) => into[j] = next,
-            Err(fault) => return Err(fault),
-        }
+        into[j] = plus_product(own, factor, number)?;
     }
     Ok(())
 }

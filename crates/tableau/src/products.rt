@@ -49,13 +49,9 @@ pub fn plus_product(a: Frac, b: Frac, c: Frac) -> Result<Frac, Wide>
     ensures { MatchResult result (λ f. (f ≡ a +ℚ b *ℚ c) × IsNarrowStep a b c)
         (λ _. ¬ (IsNarrowStep a b c)) }
 {
-    match product(b, c) {
-        Ok(found) => {
-            if a.is_zero() {
-                return Ok(found);
-            }
-            a.add(found)
-        }
-        Err(fault) => Err(fault),
+    let found = product(b, c)?;
+    if a.is_zero() {
+        return Ok(found);
     }
+    a.add(found)
 }

@@ -33,10 +33,7 @@ pub fn write_rows(
         if i == leaving {
             continue;
         }
-        match into[i].write(&rows[i], k, by) {
-            Ok(()) => {}
-            Err(fault) => return Err(fault),
-        }
+        into[i].write(&rows[i], k, by)?;
     }
     Ok(())
 }

@@ -6,6 +6,6 @@ pub pivot-requires : goal.pivot-requires
 pivot-requires c =
     next_is_place c.args.of.now c.args.dict.now c.args.row c.args.col (reached_on_the_way c.args.of.now c.args.dict.now c.rows-regular.ensures.regular c.requires.reached) c.requires.next
 
-pub returns-in-Ok-clause-reached : goal.returns-in-Ok-clause-reached
-returns-in-Ok-clause-reached c =
-    reached_further c.args.of.now c.args.dict.now _ c.args.row c.args.col c.requires.reached c.requires.next c.in-Ok.ensures.1 c.in-Ok.ensures.0
+pub returns-clause-reached : goal.returns-clause-reached
+returns-clause-reached c =
+    reached_further c.args.of.now c.args.dict.now _ c.args.row c.args.col c.requires.reached c.requires.next c.in_ok-pivot.ensures.1 c.in_ok-pivot.ensures.0

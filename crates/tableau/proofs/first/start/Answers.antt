@@ -3,5 +3,5 @@ use Rattle.dictionaries.specs.Run.{IsReached}
 use Rattle.dictionaries.proofs.Reaching.{reached_first}
 use Rattle.tableau.proofs.first.start.Goals as goal
 
-pub returns-in-Ok-clause-reached : goal.returns-in-Ok-clause-reached
-returns-in-Ok-clause-reached c = subst (IsReached c.args.of.now) (sym c.in-Ok.ensures) (reached_first c.args.of.now)
+pub returns-clause-reached : goal.returns-clause-reached
+returns-clause-reached c = subst (IsReached c.args.of.now) (sym c.in_ok-dict.ensures) (reached_first c.args.of.now)
