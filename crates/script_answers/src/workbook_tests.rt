@@ -127,41 +127,6 @@ fn cells_in_their_order(rt: HostRuntime) -> Result<(), Fail> {
     Ok(())
 }
 
-#[test]
-fn cells_with_a_text_are_listed(rt: HostRuntime) -> Result<(), Fail> {
-    let mut workbook = open_workbook(rt.alloc())?;
-    for (cell, text) in [
-        (at(1, 0, 0), "true"),
-        (at(0, 1, 3), "1E39"),
-        (at(0, 2, 2), "=rate*4"),
-        (at(0, 0, 3), "=1+"),
-        (at(0, 1, 0), "=-NOSUCH(1)"),
-    ] {
-        assert!(rt; set(&mut workbook, cell, text)?.is_none());
-    }
-    let Ok(listed) = workbook.text_cells(rt.alloc()) else {
-        return Err(Fail::new("memory ran out"));
-    };
-    let wanted = [
-        (at(0, 0, 0), "1", Kind::Number(Frac::from_whole(1))),
-        (at(0, 0, 2), "x", Kind::Plain),
-        (at(0, 0, 3), "=1+", Kind::Malformed),
-        (at(0, 1, 0), "=-NOSUCH(1)", Kind::Malformed),
-        (at(0, 1, 3), "1E39", Kind::Malformed),
-        (at(0, 2, 1), "=A1", Kind::Formula),
-        (at(0, 2, 2), "=rate*4", Kind::Formula),
-        (at(1, 0, 0), "true", Kind::Logical(true)),
-        (at(1, 1, 0), "7", Kind::Number(Frac::from_whole(7))),
-    ];
-    assert!(rt; listed.len() == wanted.len());
-    for (found, (cell, text, kind)) in listed.iter().zip(wanted) {
-        assert!(rt; found.cell == cell && found.text == text, "{text:?}");
-        assert!(rt; found.kind == kind, "{text:?}");
-        assert!(rt; found.tree.is_some() == (kind == Kind::Formula), "{text:?}");
-    }
-    Ok(())
-}
-
 // Fails where a cell lies on no sheet.
 fn inside(workbook: &Workbook, cell: Cell) -> Result<(), Fail>
     ensures { IfOk result (λ _. IsListed workbook.now.sheets cell) }
