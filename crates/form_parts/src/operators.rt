@@ -1,12 +1,12 @@
 // The operators on parts of formulas.
-ghost use Rattle.std.specs.Prelude.{◌≡◌, [], ◌∷◌, ◌++◌, IfOk};
+ghost use Rattle.std.specs.Prelude.{◌≡◌, [], ◌∷◌, IfOk};
 ghost use Rattle.form_extraction.specs.Formulas.{joined, signed, turned};
 ghost use Rattle.form_extraction.specs.Parts.{on_part, outcome_by};
 ghost use Rattle.form_table.specs.Operators.{minus_form, percent_form};
 
 use crate::outcomes::{copy_outcome, outcome_by, outcome_of_two};
 use crate::part::Part;
-use cell_refs::{Cell, Op, Span};
+use cell_refs::{Op, Span};
 use form_extraction::Outcome;
 use form_ops::{infix, minus, percent};
 use memory::Memory;
@@ -52,17 +52,20 @@ pub fn infix_part(
     ensures { IfOk result (λ whole. whole ≡ joined span op left right) }
 {
     let outcome = infix_outcome(alloc, span, op, &left, &right)?;
-    let looks = joined_looks(left, &right)?;
+    let Part {
+        span: _,
+        mut looks,
+        outcome: _,
+        reference: _,
+    } = left;
+    let Part {
+        span: _,
+        looks: others,
+        outcome: _,
+        reference: _,
+    } = right;
+    looks.extend_from_slice(&others)?;
     Ok(Part::new(span, looks, outcome, None))
-}
-
-// The cells at which two parts look, one behind the other.
-fn joined_looks(left: Part, right: &Part) -> Result<Vec<Cell>, Memory>
-    ensures { IfOk result (λ looks. looks.items ≡ left.looks ++ right.now.looks) }
-{
-    let mut looks = left.looks;
-    looks.extend_from_slice(&right.looks)?;
-    Ok(looks)
 }
 
 // What a part with a minus in front comes to.
