@@ -2,8 +2,8 @@
 use Rattle.std.specs.Prelude.{◌≡◌, ℕ, List, [], ◌∷◌, Option, Result, Ok, Err}
 use Rattle.cell_refs.specs.declared.cell.Cell.{Cell}
 use Rattle.node_pick.specs.Rules.{Rule}
-use Rattle.cell_values.specs.declared.shown.Shown.TheVariants as shown
-use Rattle.cell_values.specs.Showing.{IsShown}
+use Rattle.recalc.specs.declared.shown.Shown.TheVariants as shown
+use Rattle.recalc.specs.Showing.{IsShown}
 use Rattle.workbook.specs.Edits.{after_set}
 use Rattle.workbook.specs.Kinds.{book_of}
 use Rattle.workbook.specs.Naming.{after_name, after_unname}

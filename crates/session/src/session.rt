@@ -20,7 +20,7 @@ use crate::edits::told_fault;
 use crate::models::{answer_without_model, model_of, prepare_sheet};
 use crate::paths::steps_of;
 use cell_refs::{Cell, SheetId, SheetNames};
-use cell_values::{Shown, value};
+use recalc::{Shown, value};
 use commands::{Answer, Command, MOST_UNITS, Memory, locate};
 use dep_table::Deps;
 use node_pick::Picker;

@@ -2,7 +2,7 @@
 
 use crate::books::open_workbook;
 use cell_refs::{Cell, SheetId};
-use cell_values::known_in_rounds;
+use recalc::known_in_rounds;
 use dep_table::Deps;
 use frac128::Frac;
 use sheet_model::Value;

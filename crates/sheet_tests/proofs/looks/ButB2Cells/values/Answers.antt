@@ -2,7 +2,7 @@ use Rattle.std.proofs.Common.{◌≡◌, ◌∙◌, ◌++◌, ◌∷◌, [], ap,
 use Rattle.std.specs.Prelude.{is_some}
 use Rattle.cell_refs.specs.Areas.{cell_at}
 use Rattle.recalculation.specs.Looking.{or_empty}
-use Rattle.cell_values.proofs.AreaValues.{each_known, known_more, one_value, some_unknown}
+use Rattle.recalc.proofs.AreaValues.{each_known, known_more, one_value, some_unknown}
 use Rattle.sheet_tests.specs.ButB2.{but_b2}
 use Rattle.sheet_tests.proofs.looks.ButB2Cells.values.Goals as goal
 
