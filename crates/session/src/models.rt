@@ -14,7 +14,7 @@ ghost use Rattle.solver_names.specs.Answers.{statement_of};
 
 use cell_refs::SheetId;
 use commands::{Answer, Memory};
-use kept_forms::Steps;
+use extract_incr::Steps;
 use sheet_models::{NoModel, Prepared, model_lines, prepare};
 use std::alloc::Global;
 use std::marker::Brand;

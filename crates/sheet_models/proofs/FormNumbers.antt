@@ -29,7 +29,7 @@ use Rattle.solver_names.specs.Statement.{Statement}
 use Rattle.sheet_problems.specs.Forms.{number_form}
 use Rattle.sheet_problems.specs.Places.{Sides, tree_of}
 use Rattle.needed_cells.specs.Settled.{IsSettled}
-use Rattle.kept_forms.specs.Keeping.{Kept}
+use Rattle.extract_incr.specs.Keeping.{Kept}
 use Rattle.sheet_models.specs.Inner.{IsKeptFor, number_at, number_for, number_in_form, number_said, number_unkept}
 
 -- ---- cells without a formula

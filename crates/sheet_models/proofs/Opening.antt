@@ -14,7 +14,7 @@ use Rattle.solver_names.specs.Answers.{statement_of}
 use Rattle.solver_names.specs.Stated.{statement_in}
 use Rattle.solver_names.specs.declared.statements.Statement.{Statement as Declared}
 use Rattle.statement_laws.specs.Laws.{StatementsAreWhole}
-use Rattle.kept_forms.specs.Keeping.{AreKept, Kept}
+use Rattle.extract_incr.specs.Keeping.{AreKept, Kept}
 use Rattle.sheet_models.specs.Inner.{IsStatement}
 
 pub is_statement : StatementsAreWhole → (book : State) (sheet : SheetId) (s : Declared) → sheet.0 < length book.sheets → statement_in book sheet.0 ≡ Ok (statement_of s) → s.sheet ≡ sheet

@@ -20,7 +20,7 @@ use Rattle.form_needs.specs.declared.refusal.FormRefusal.{FormRefusal}
 use Rattle.form_needs.proofs.Numbers.{forms_where_none_is_refused}
 use Rattle.statement_laws.specs.Laws.{IsThere, IsWhole, RowIsThere}
 use Rattle.needed_cells.specs.Settled.{IsRoot}
-use Rattle.kept_forms.specs.Keeping.{Kept, asked_from}
+use Rattle.extract_incr.specs.Keeping.{Kept, asked_from}
 use Rattle.sheet_models.specs.Answers.{PlaceIsListed}
 use Rattle.sheet_models.specs.Inner.{HasNumber, IsKeptFor, RowHasNumbers}
 

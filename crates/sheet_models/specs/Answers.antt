@@ -9,7 +9,7 @@ use Rattle.workbook.specs.declared.place.Place.TheVariants as place
 use Rattle.extract.specs.Tables.{no_forms}
 use Rattle.form_needs.specs.declared.refusal.FormRefusal.{FormRefusal}
 use Rattle.form_needs.specs.declared.refusal.FormRefusal.TheVariants as refusal
-use Rattle.kept_forms.specs.Keeping.{count_to_make}
+use Rattle.extract_incr.specs.Keeping.{count_to_make}
 use Rattle.solver_names.specs.Answers.{Answers, statement_of}
 use Rattle.solver_names.specs.Sides.{sides_in}
 use Rattle.solver_names.specs.Stated.{statement_in}

@@ -27,7 +27,7 @@ use Rattle.sheet_problems.specs.Forms.{form_at, number_form}
 use Rattle.sheet_problems.specs.Places.{Sides}
 use Rattle.statement_laws.specs.Laws.{IsWhole}
 use Rattle.needed_cells.specs.Settled.{IsSettled}
-use Rattle.kept_forms.specs.Keeping.{Kept}
+use Rattle.extract_incr.specs.Keeping.{Kept}
 use Rattle.sheet_models.specs.declared.prepared.NoModel.{NoModel}
 use Rattle.sheet_models.specs.declared.prepared.NoModel.TheVariants as none
 

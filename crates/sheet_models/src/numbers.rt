@@ -20,7 +20,7 @@ use cell_refs::Cell;
 use form_extraction::CellForm;
 use form_values::Abs;
 use frac128::Frac;
-use kept_forms::Forms;
+use extract_incr::Forms;
 use memory::Memory;
 use sheet_model::Value;
 use solver_names::{RowOf, Statement};

@@ -17,7 +17,7 @@ use crate::stated::{check_forms, settle, statement_or_stop};
 use affine_forms::Form;
 use cell_refs::SheetId;
 use extract::Steps;
-use kept_forms::Forms;
+use extract_incr::Forms;
 use lin_model::{BuildStop, LinModel, linear};
 use model_building::conditions;
 use solver_names::Statement;

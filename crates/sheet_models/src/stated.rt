@@ -14,7 +14,7 @@ use cell_refs::SheetId;
 use dep_table::Deps;
 use extract::Steps;
 use form_needs::FormRefusal;
-use kept_forms::Forms;
+use extract_incr::Forms;
 use memory::Memory;
 use solver_names::{NamesFault, Statement, side_trees, statement};
 use std::alloc::Global;

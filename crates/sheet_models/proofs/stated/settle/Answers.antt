@@ -1,6 +1,6 @@
 use Rattle.std.proofs.Common.{◌≤◌, ◌+◌, ap, subst}
 use Rattle.workbook.specs.Kinds.{book_of}
-use Rattle.kept_forms.specs.Keeping.{Kept, count_to_make}
+use Rattle.extract_incr.specs.Keeping.{Kept, count_to_make}
 use Rattle.sheet_models.proofs.Opening.{none_is_kept}
 use Rattle.sheet_models.proofs.stated.settle.Goals as goal
 
