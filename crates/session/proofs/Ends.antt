@@ -8,7 +8,7 @@ use Rattle.cell_refs.specs.declared.cell.Cell.{Cell}
 use Rattle.node_pick.specs.Rules.{Rule}
 use Rattle.workbook.specs.Listed.{IsListed}
 use Rattle.workbook.specs.State.{State}
-use Rattle.sheet_models.specs.Prepared.{IsPrepared, Prepared}
+use Rattle.sheet_linear_model.specs.Prepared.{IsPrepared, Prepared}
 use Rattle.sheet_solving.specs.Solving.{Solves}
 use Rattle.sheet_solving.specs.declared.solved.Solved.TheVariants as solved
 use Rattle.commands.specs.declared.answer.Answer.{Answer}

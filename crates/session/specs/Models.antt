@@ -3,9 +3,9 @@ use Rattle.std.specs.Prelude.{◌≡◌, ℕ}
 use Rattle.workbook.specs.State.{State}
 use Rattle.commands.specs.declared.answer.Answer.{Answer}
 use Rattle.commands.specs.declared.answer.Answer.TheVariants as answer
-use Rattle.sheet_models.specs.Answers.{HasFault}
-use Rattle.sheet_models.specs.Lines.{lines_of}
-use Rattle.sheet_models.specs.Prepared.{HasWideRow, IsPrepared, IsRefusedBy, Prepared}
+use Rattle.sheet_linear_model.specs.Answers.{HasFault}
+use Rattle.sheet_linear_model.specs.Lines.{lines_of}
+use Rattle.sheet_linear_model.specs.Prepared.{HasWideRow, IsPrepared, IsRefusedBy, Prepared}
 
 -- the first cause why a sheet has no linear model
 abbrev pub HasNoModel : State → ℕ → Answer → Type 0

@@ -8,7 +8,7 @@ use Rattle.node_pick.specs.Rules.{Rule}
 use Rattle.searches.specs.Answers as answers
 use Rattle.workbook.specs.State.{State}
 use Rattle.sheet_problems.specs.SheetProblem.{problem_in}
-use Rattle.sheet_models.specs.Prepared.{IsPrepared, Prepared}
+use Rattle.sheet_linear_model.specs.Prepared.{IsPrepared, Prepared}
 use Rattle.sheet_solving.specs.Solving.{EndsWith, HasNoRoom, HasOpenLeaf, IsSolved, Searched, StandsAt}
 use Rattle.commands.specs.declared.answer.Answer.{Answer}
 use Rattle.commands.specs.declared.answer.Answer.TheVariants as answer

@@ -7,15 +7,15 @@ ghost use Rattle.session.specs.Solves.{SolvesSheet};
 ghost use Rattle.session.specs.States.{SessionState};
 ghost use Rattle.sheet_problems.specs.Laws.{ModelIsTheSheet};
 ghost use Rattle.workbook.specs.State.{State};
-ghost use Rattle.sheet_models.specs.Answers.{Prepares, StopIsListed, prepared_of};
-ghost use Rattle.sheet_models.specs.Prepared.{IsPrepared};
+ghost use Rattle.sheet_linear_model.specs.Answers.{Prepares, StopIsListed, prepared_of};
+ghost use Rattle.sheet_linear_model.specs.Prepared.{IsPrepared};
 ghost use Rattle.statement_laws.specs.Laws.{IsWhole};
 ghost use Rattle.solver_names.specs.Answers.{statement_of};
 
 use cell_refs::SheetId;
 use commands::{Answer, Memory};
 use extract_incr::Steps;
-use sheet_models::{NoModel, Prepared, model_lines, prepare};
+use sheet_linear_model::{NoModel, Prepared, model_lines, prepare};
 use std::alloc::Global;
 use std::marker::Brand;
 use std::sync::ledger::{Blank, Ledger};

@@ -1,7 +1,7 @@
 // A session: a workbook and the commands on it.
 ghost use Rattle.std.specs.Prelude.{◌≡◌, ◌≢◌, ◌≤◌, ◌<◌, All, IfOk, None, OnErr, [], false, length};
-ghost use Rattle.sheet_models.specs.Answers.{prepared_of};
-ghost use Rattle.sheet_models.specs.Prepared.{IsPrepared};
+ghost use Rattle.sheet_linear_model.specs.Answers.{prepared_of};
+ghost use Rattle.sheet_linear_model.specs.Prepared.{IsPrepared};
 ghost use Rattle.sheet_problems.specs.Laws.{ModelIsTheSheet};
 ghost use Rattle.solver_names.specs.Answers.{statement_of};
 ghost use Rattle.statement_laws.specs.Laws.{IsWhole};
@@ -24,7 +24,7 @@ use recalc::{Shown, value};
 use commands::{Answer, Command, MOST_UNITS, Memory, locate};
 use dep_table::Deps;
 use node_pick::Picker;
-use sheet_models::Prepared;
+use sheet_linear_model::Prepared;
 use sheet_solving::{Solved, solve};
 use std::alloc::Global;
 use std::marker::Model;

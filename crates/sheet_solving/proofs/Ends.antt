@@ -17,7 +17,7 @@ use Rattle.workbook.specs.Listed.{IsListed}
 use Rattle.workbook.specs.Several.{first_without_room, is_too_much}
 use Rattle.workbook.specs.State.{State}
 use Rattle.std.specs.FinMap.{insert}
-use Rattle.sheet_models.specs.Prepared.{IsPrepared, Prepared, rows_of}
+use Rattle.sheet_linear_model.specs.Prepared.{IsPrepared, Prepared, rows_of}
 use Rattle.sheet_problems.specs.Laws.{ModelIsTheSheet}
 use Rattle.statement_laws.specs.Laws.{IsWhole}
 use Rattle.write_back.specs.Writing.{number_text, texts_of}

@@ -21,7 +21,7 @@ use Rattle.solver_names.specs.Statement.{RowOf, Statement}
 use Rattle.sheet_problems.specs.Places.{number_in, put_over, value_at}
 use Rattle.sheet_problems.specs.SheetProblem.{not_negative_in, problem_in}
 use Rattle.write_back.specs.Writing.{with_numbers, without_room}
-use Rattle.sheet_models.specs.Prepared.{Prepared}
+use Rattle.sheet_linear_model.specs.Prepared.{Prepared}
 use Rattle.sheet_solving.specs.declared.solved.Solved.{Solved}
 use Rattle.sheet_solving.specs.declared.solved.Solved.TheVariants as solved
 

@@ -1,7 +1,7 @@
 // A sheet's model, solved.
 ghost use Rattle.std.specs.Prelude.{◌≡◌, ◌≤◌, ℕ, IfOk, OnErr};
-ghost use Rattle.sheet_models.specs.Answers.{prepared_of};
-ghost use Rattle.sheet_models.specs.Prepared.{IsPrepared};
+ghost use Rattle.sheet_linear_model.specs.Answers.{prepared_of};
+ghost use Rattle.sheet_linear_model.specs.Prepared.{IsPrepared};
 ghost use Rattle.sheet_problems.specs.Laws.{ModelIsTheSheet};
 ghost use Rattle.sheet_solving.specs.Solving.{CellsAreListed, Solves};
 ghost use Rattle.solver_names.specs.Answers.{statement_of};
@@ -14,7 +14,7 @@ use crate::told::write;
 use branch_bound::{Progress, SearchStop};
 use memory::Memory;
 use node_pick::Picker;
-use sheet_models::Prepared;
+use sheet_linear_model::Prepared;
 use std::alloc::Global;
 use workbook::Workbook;
 

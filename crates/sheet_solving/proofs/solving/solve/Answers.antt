@@ -1,4 +1,4 @@
-use Rattle.sheet_models.specs.Answers.{prepared_of}
+use Rattle.sheet_linear_model.specs.Answers.{prepared_of}
 use Rattle.sheet_solving.proofs.Ends.{infeasible_solves, optimum_solves, spent_solves, stands_listed, stands_solves, told_cells, unbounded_solves}
 use Rattle.sheet_solving.proofs.solving.solve.Goals as goal
 

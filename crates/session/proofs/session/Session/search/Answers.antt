@@ -1,7 +1,7 @@
 use Rattle.std.proofs.Common.{List, ap, ◌∙◌}
 use Rattle.std.specs.Prelude.{map, ℤ, Bool}
 use Rattle.cell_refs.specs.declared.cell.Cell.{Cell}
-use Rattle.sheet_models.specs.Answers.{prepared_of}
+use Rattle.sheet_linear_model.specs.Answers.{prepared_of}
 use Rattle.session.specs.Solves.{path_step}
 use Rattle.session.specs.States.{SessionState, with_book, with_changed}
 use Rattle.session.proofs.Ends.{steps_listed, told_budget, told_infeasible, told_no_room, told_optimal, told_unbounded, told_wide}

@@ -1,6 +1,6 @@
 use Rattle.std.proofs.Common.{subst}
-use Rattle.sheet_models.specs.Answers.{prepared_of}
-use Rattle.sheet_models.specs.Prepared.{IsPrepared}
+use Rattle.sheet_linear_model.specs.Answers.{prepared_of}
+use Rattle.sheet_linear_model.specs.Prepared.{IsPrepared}
 use Rattle.session.specs.States.{Session}
 use Rattle.session.proofs.Ends.{ends_solve}
 use Rattle.session.proofs.Said.{if_ok_map}

@@ -1,0 +1,24 @@
+-- What is printed of a sheet's linear model.
+use Rattle.std.specs.Prelude.{ℕ, if◌then◌else◌, List, [], ◌∷◌, zip, option_map, is_some}
+use Rattle.cell_refs.specs.declared.cell.Cell.{Cell}
+use Rattle.linear_models.specs.Bounds.{bounded}
+use Rattle.linear_models.specs.Statement.{Constraint}
+use Rattle.model_lines.specs.Lines.{ModelLines}
+use Rattle.solver_names.specs.Statement.{RowOf}
+use Rattle.sheet_linear_model.specs.Prepared.{Prepared, rows_of}
+
+-- the numbers of the rows that aren't bounds of a decision
+abbrev pub row_numbers : List RowOf → List Constraint → List ℕ
+row_numbers (r ∷ rows) (c ∷ cs) = if is_some (bounded c) then row_numbers rows cs else r.number ∷ row_numbers rows cs
+row_numbers _ _ = []
+
+-- the cells to be decided, the objective, the rows of the model that stand for rows of the names, with their numbers, the marks and
+-- the bounds
+abbrev pub lines_of : Prepared → ModelLines
+lines_of p = record {
+  decisions = p.statement.decisions;
+  aim = option_map (λ (c : Cell). (p.statement.goal, p.objective)) p.statement.objective;
+  rows = zip (row_numbers p.statement.rows (rows_of p.statement p.objective p.sides).rows) p.model.rows;
+  whole = p.model.whole;
+  bounds = p.model.bounds;
+}
