@@ -1,7 +1,7 @@
 // What formulas look at, and whether they have a value, over cells of which one is unknown. The cell in a row and a column, each
 // from 1, has ten times the row and the column as its value: A1 is 11 and C2 is 23. What is expected follows from the rules by hand.
 ghost use Rattle.std.specs.Prelude.{◌≡◌};
-ghost use Rattle.sheet_tests.specs.ButB2.{but_b2};
+ghost use Rattle.test_sheets.specs.ButB2.{but_b2};
 
 use crate::cells::{A1, A2, A3, A4, B1, B2, B3, C1, C2, C3};
 use cell_refs::{Area, Cell, SheetId, SheetNames};

@@ -2,8 +2,8 @@ use Rattle.std.proofs.Common.{◌≡◌, map, true}
 use Rattle.std.specs.List.{range_with_len}
 use Rattle.cell_refs.specs.Areas.{cell_at}
 use Rattle.recalculation.specs.Looking.{are_known, known_or_empty}
-use Rattle.sheet_tests.specs.ButB2.{but_b2}
-use Rattle.sheet_tests.proofs.looks.ButB2Cells.values.Given as goal
+use Rattle.test_sheets.specs.ButB2.{but_b2}
+use Rattle.test_sheets.proofs.looks.ButB2Cells.values.Given as goal
 
 -- the values so far
 abbrev pub invariant-loop-place : goal.invariant-loop-place

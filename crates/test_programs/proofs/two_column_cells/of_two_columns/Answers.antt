@@ -5,7 +5,7 @@ use Rattle.fractions.specs.Rows.{Row}
 use Rattle.fractions.specs.Vectors.{at}
 use Rattle.fractions.proofs.Laws.{add-neg}
 use Rattle.linear_programs.specs.Program.{Program, AreCells, AreOpposite, IsCell}
-use Rattle.program_tests.proofs.two_column_cells.of_two_columns.Goals as goal
+use Rattle.test_programs.proofs.two_column_cells.of_two_columns.Goals as goal
 
 all_one : {X : Type 0} (P : X → Type 0) (x : X) → P x → All P (x ∷ [])
 all_one P x h zero d l = h

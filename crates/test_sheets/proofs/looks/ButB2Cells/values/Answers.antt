@@ -3,8 +3,8 @@ use Rattle.std.specs.Prelude.{is_some}
 use Rattle.cell_refs.specs.Areas.{cell_at}
 use Rattle.recalculation.specs.Looking.{or_empty}
 use Rattle.recalc.proofs.AreaValues.{each_known, known_more, one_value, some_unknown}
-use Rattle.sheet_tests.specs.ButB2.{but_b2}
-use Rattle.sheet_tests.proofs.looks.ButB2Cells.values.Goals as goal
+use Rattle.test_sheets.specs.ButB2.{but_b2}
+use Rattle.test_sheets.proofs.looks.ButB2Cells.values.Goals as goal
 
 pub returns-in_default-clause-values : goal.returns-in_default-clause-values
 returns-in_default-clause-values c =
