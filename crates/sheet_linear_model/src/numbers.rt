@@ -17,10 +17,10 @@ ghost use Rattle.workbook.specs.declared.place.Place.TheVariants as place;
 
 use affine_forms::Form;
 use cell_refs::Cell;
+use extract_incr::Forms;
 use form_extraction::CellForm;
 use form_values::Abs;
 use frac128::Frac;
-use extract_incr::Forms;
 use memory::Memory;
 use sheet_model::Value;
 use solver_names::{RowOf, Statement};

@@ -2,9 +2,9 @@
 
 use crate::books::open_workbook;
 use cell_refs::{Cell, SheetId};
-use recalc::known_in_rounds;
 use dep_table::Deps;
 use frac128::Frac;
+use recalc::known_in_rounds;
 use sheet_model::Value;
 use std::alloc::Global;
 use std::test::Fail;
