@@ -1,1 +1,12 @@
+pub mod Quotes
+pub mod Words
+pub mod Numbers
+pub mod Marks
+pub mod Found
+pub mod Longest
+pub mod Cutting
+pub mod TextTokens
+pub mod References
+pub mod Areas
+pub mod ByExample
 pub mod Saying

@@ -18,7 +18,7 @@ use Rattle.formula_parser.proofs.TextTrees.{trees_are_spelled}
 use Rattle.sheet_model.specs.declared.value.Value.TheVariants as value
 use Rattle.sheet_funcs.specs.Numerals.{narrow_value, number_spelled}
 use Rattle.recalculation.specs.Entries.{Entry, Constant, Formula, Malformed}
-use Rattle.reader_laws.proofs.Areas.{areas}
+use Rattle.text_laws.proofs.Areas.{areas}
 use Rattle.workbook.specs.State.{Name, is_formula_text}
 use Rattle.workbook.specs.Kinds.{Amount, Cells, Meant, behind_equals, formula_tree, logical_or_text, meant, number_or_area, number_or_other, says, with_names}
 use Rattle.text_laws.specs.TextKinds.{IsTreeOf, NamesStandFor, Says, StandsFor, TextsSay, amount, cells, formula, no_formula, number, too_wide, logical, plain}

@@ -11,7 +11,7 @@ use Rattle.formula_grammar.specs.Words.{logical_word}
 use Rattle.formula_parser.specs.Answers.{fault_of}
 use Rattle.sheet_model.specs.declared.value.Value.TheVariants as value
 use Rattle.recalculation.specs.Entries.{Entry, Constant, Formula, Malformed}
-use Rattle.reader_laws.specs.Areas.{SpellsArea}
+use Rattle.text_laws.specs.Areas.{SpellsArea}
 use Rattle.workbook.specs.State.{Name, is_formula_text}
 use Rattle.workbook.specs.Kinds.{Amount, Cells, Meant, behind_equals, meant, meant_by, says, with_names}
 

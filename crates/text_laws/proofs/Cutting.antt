@@ -6,9 +6,9 @@ use Rattle.formula_lexer.specs.declared.token.Token.{Token}
 use Rattle.formula_lexer.specs.Front.{front, is_blank}
 use Rattle.formula_lexer.specs.Tokens.{Tokens, token, ends, blank, begins}
 use Rattle.formula_lexer.proofs.Slices.{front_fits}
-use Rattle.reader_laws.specs.FrontTokens.{IsCutInto, TokensAreLongest, ended, behind_blank, next}
-use Rattle.reader_laws.proofs.Found.{cut_stands}
-use Rattle.reader_laws.proofs.Longest.{cut_is_longest, longest_is_cut}
+use Rattle.text_laws.specs.FrontTokens.{IsCutInto, TokensAreLongest, ended, behind_blank, next}
+use Rattle.text_laws.proofs.Found.{cut_stands}
+use Rattle.text_laws.proofs.Longest.{cut_is_longest, longest_is_cut}
 
 -- the token in front and what stands behind it, where those are cut as they are to be
 put_in_front : (at : ℕ) (text : List ℕ) (ts : List Token) (k : TokenKind) (len b : ℕ) (others behind : List ℕ) → is_blank b ≡ false → text ≡ b ∷ (others ++ behind) → suc (length others) ≡ len

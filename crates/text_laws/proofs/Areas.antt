@@ -10,9 +10,9 @@ use Rattle.formula_grammar.proofs.Turns.{bind_some, some_is}
 use Rattle.formula_parser.specs.Leaves.{area_of}
 use Rattle.formula_parser.specs.TextTrees.{area_in, to_the_end, tokens_in}
 use Rattle.formula_parser.proofs.TextTrees.{area_cut}
-use Rattle.reader_laws.specs.Areas.{AreasAreSpelled, NoneIsRead, OneAreaIsSpelled, SpellsArea}
-use Rattle.reader_laws.proofs.TextTokens.{tokens_cut}
-use Rattle.reader_laws.proofs.References.{references}
+use Rattle.text_laws.specs.Areas.{AreasAreSpelled, NoneIsRead, OneAreaIsSpelled, SpellsArea}
+use Rattle.text_laws.proofs.TextTokens.{tokens_cut}
+use Rattle.text_laws.proofs.References.{references}
 
 -- an area that is spelled is that of the text
 spelled_is_read : (S : Setting) (area : Area) → SpellsArea S area → area_in S ≡ Some area

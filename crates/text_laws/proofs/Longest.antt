@@ -12,12 +12,12 @@ use Rattle.frac128.specs.Numeral.{point_first, absent}
 use Rattle.formula_lexer.specs.Front.{Front, first, front, continues_word, is_digit, is_mark, is_pair, number_len, of_kind, quoted_len, starts_number, starts_word, word_rest}
 use Rattle.formula_lexer.specs.declared.token.TokenKind.{TokenKind}
 use Rattle.formula_lexer.specs.declared.token.TokenKind.TheVariants as kind
-use Rattle.reader_laws.specs.FrontTokens.{IsToken, IsLongest, IsNumber, IsQuoted, LongestIsCut, NoneIsCut, begins, ends, fault, has_name, quoted, number, text, name, dollar_name, word, pair, mark}
-use Rattle.reader_laws.proofs.Found.{cut_stands}
-use Rattle.reader_laws.proofs.Marks.{begins_word, mark_is, pair_first}
-use Rattle.reader_laws.proofs.Numbers.{number_least, number_starts, passing_digit}
-use Rattle.reader_laws.proofs.Quotes.{body, quote_found}
-use Rattle.reader_laws.proofs.Words.{opens_none, word_least}
+use Rattle.text_laws.specs.FrontTokens.{IsToken, IsLongest, IsNumber, IsQuoted, LongestIsCut, NoneIsCut, begins, ends, fault, has_name, quoted, number, text, name, dollar_name, word, pair, mark}
+use Rattle.text_laws.proofs.Found.{cut_stands}
+use Rattle.text_laws.proofs.Marks.{begins_word, mark_is, pair_first}
+use Rattle.text_laws.proofs.Numbers.{number_least, number_starts, passing_digit}
+use Rattle.text_laws.proofs.Quotes.{body, quote_found}
+use Rattle.text_laws.proofs.Words.{opens_none, word_least}
 
 -- a token is cut that is no shorter, and of the same kind where it is as long
 record IsCut (k : TokenKind) (n : ℕ) (bytes : List ℕ) : Type 0 where

@@ -14,7 +14,7 @@ use Rattle.frac128.specs.Numeral.{SpellsSign, unsigned, plus, minus, SpellsManti
 use Rattle.frac128.specs.Numeral as numeral
 use Rattle.frac128.specs.Signed.{signed}
 use Rattle.formula_lexer.specs.Front.{digits, exponent, first, fraction, is_digit, mantissa, number_len, sign, starts_number}
-use Rattle.reader_laws.specs.FrontTokens.{IsNumber}
+use Rattle.text_laws.specs.FrontTokens.{IsNumber}
 
 -- ---- digits
 

@@ -3,7 +3,7 @@ use Rattle.std.proofs.Common.{◌≡◌, ℕ, suc, ◌+◌, Bool, true, false, c
 use Rattle.std.specs.Option.{option_map}
 use Rattle.std.proofs.lemmas.Bool.{eqb-true, eq-eqb}
 use Rattle.formula_lexer.specs.Front.{quoted_len}
-use Rattle.reader_laws.specs.FrontTokens.{doubled, begins}
+use Rattle.text_laws.specs.FrontTokens.{doubled, begins}
 
 -- what stands up to the closing quote, with it
 abbrev pub body : ℕ → List ℕ → List ℕ

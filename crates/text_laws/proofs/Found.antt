@@ -8,11 +8,11 @@ use Rattle.cell_refs.specs.ErrorText.{error_text}
 use Rattle.formula_lexer.specs.Front.{Front, begins_with, fault_len, first, front, front_of, is_mark, is_pair, number_len, of_kind, opens_name, quoted_len, starts_number, starts_word, word_rest}
 use Rattle.formula_lexer.specs.declared.token.TokenKind.{TokenKind}
 use Rattle.formula_lexer.specs.declared.token.TokenKind.TheVariants as kind
-use Rattle.reader_laws.specs.FrontTokens.{IsToken, fault, has_name, quoted}
-use Rattle.reader_laws.specs.FrontTokens as token
-use Rattle.reader_laws.proofs.Numbers.{number_cut}
-use Rattle.reader_laws.proofs.Quotes.{body, quote_is}
-use Rattle.reader_laws.proofs.Words.{word_cut}
+use Rattle.text_laws.specs.FrontTokens.{IsToken, fault, has_name, quoted}
+use Rattle.text_laws.specs.FrontTokens as token
+use Rattle.text_laws.proofs.Numbers.{number_cut}
+use Rattle.text_laws.proofs.Quotes.{body, quote_is}
+use Rattle.text_laws.proofs.Words.{word_cut}
 
 -- a token of this kind and length stands in front
 pub record Found (text : List ℕ) (k : TokenKind) (len : ℕ) : Type 0 where

@@ -20,7 +20,7 @@ use Rattle.formula_grammar.proofs.LeafRead.{leaf_read}
 use Rattle.formula_grammar.proofs.LeafSound.{reference_sound}
 use Rattle.formula_grammar.proofs.Turns.{bind_some, some_is}
 use Rattle.formula_grammar.proofs.WordCorners.{word_read, word_spelled}
-use Rattle.reader_laws.specs.References.{ReferencesAreSpelled, WordsAreSpelled}
+use Rattle.text_laws.specs.References.{ReferencesAreSpelled, WordsAreSpelled}
 
 -- the areas of a reference; none of another tree
 abbrev areas_in : Tree → List Referred

@@ -1,7 +1,7 @@
 -- The examples are computed.
 use Rattle.std.proofs.Common.{refl}
 use Rattle.formula_lexer.specs.Front.{quoted_len}
-use Rattle.reader_laws.specs.Examples.{Hold, numbers, others, quotes}
+use Rattle.text_laws.specs.Examples.{Hold, numbers, others, quotes}
 
 pub numbers_hold : Hold numbers
 numbers_hold = (refl, (refl, (refl, (refl, (refl, tt)))))

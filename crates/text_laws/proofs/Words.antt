@@ -5,7 +5,7 @@ use Rattle.std.specs.List.{list_all}
 use Rattle.std.proofs.lemmas.Bool.{and_parts, and_from, and_right}
 use Rattle.std.proofs.lemmas.Bool.Decides.{nat_tests}
 use Rattle.formula_lexer.specs.Front.{first, continues_word, opens_name, word_rest}
-use Rattle.reader_laws.specs.FrontTokens.{begins, ends}
+use Rattle.text_laws.specs.FrontTokens.{begins, ends}
 
 no_quote : (b : ℕ) → continues_word b ≡ true → eqb b 39 ≡ false
 no_quote b e = grind (arith, nat_tests)

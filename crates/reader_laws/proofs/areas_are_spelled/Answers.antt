@@ -1,5 +1,0 @@
-use Rattle.reader_laws.proofs.Areas.{areas, none_read, one_area}
-use Rattle.reader_laws.proofs.areas_are_spelled.Goals as goal
-
-pub returns : goal.returns
-returns c = record { read = areas; one = one_area; none = none_read }

@@ -1,5 +1,0 @@
-use Rattle.reader_laws.proofs.Longest.{longest}
-use Rattle.reader_laws.proofs.longest_token_is_cut.Goals as goal
-
-pub returns : goal.returns
-returns c = longest

@@ -1,5 +1,0 @@
-use Rattle.reader_laws.proofs.References.{references, words}
-use Rattle.reader_laws.proofs.references_are_spelled.Goals as goal
-
-pub returns : goal.returns
-returns c = record { references = references; words = words }

@@ -1,4 +1,0 @@
-pub mod Examples
-pub mod Areas
-pub mod References
-pub mod FrontTokens
