@@ -102,11 +102,11 @@ impl Form {
     }
 
     /// The same form again.
-    pub fn copy(&self, alloc: Global) -> Result<Form, Memory>
+    pub fn copy(&self) -> Result<Form, Memory>
         ensures ok { IfOk result (λ copy. copy ≡ self.now) }
         ensures in_place { OnErr result (2 < length self.now.terms) }
     {
-        let terms = Terms::of(alloc, self.terms())?;
+        let terms = Terms::of(self.alloc(), self.terms())?;
         Ok(Form {
             base: self.base(),
             terms,
@@ -114,11 +114,11 @@ impl Form {
     }
 
     /// The form with its sign turned.
-    pub fn neg(&self, alloc: Global) -> Result<Form, Memory>
+    pub fn neg(&self) -> Result<Form, Memory>
         ensures ok { IfOk result (λ turned. turned ≡ negated self.now) }
         ensures in_place { OnErr result (2 < length self.now.terms) }
     {
-        let terms = opposite_terms(alloc, self.terms())?;
+        let terms = opposite_terms(self.alloc(), self.terms())?;
         Ok(Form {
             base: self.base().neg(),
             terms,
@@ -126,7 +126,7 @@ impl Form {
     }
 
     /// The sum, coefficient by coefficient.
-    pub fn add(&self, alloc: Global, other: &Form) -> Result<Form, FormStop>
+    pub fn add(&self, other: &Form) -> Result<Form, FormStop>
         ensures answer { Answers (added self.now other.now) result }
         ensures in_place { IfErr result (λ stop. stop ≡ stops.Memory
             → NeedsRoom (added self.now other.now)) }
@@ -134,37 +134,37 @@ impl Form {
             → 2 < length self.now.terms + length other.now.terms) }
     {
         let base = add(self.base(), other.base())?;
-        let terms = sum_of_terms(alloc, self.terms(), other.terms())?;
+        let terms = sum_of_terms(self.alloc(), self.terms(), other.terms())?;
         Ok(Form { base, terms })
     }
 
     /// The difference: the sum with the other's sign turned.
-    pub fn sub(&self, alloc: Global, other: &Form) -> Result<Form, FormStop>
+    pub fn sub(&self, other: &Form) -> Result<Form, FormStop>
         ensures answer { Answers (subtracted self.now other.now) result }
         ensures in_place { IfErr result (λ stop. stop ≡ stops.Memory
             → NeedsRoom (done (negated other.now)) ⊎ NeedsRoom (subtracted self.now other.now)) }
         ensures few { IfErr result (λ stop. stop ≡ stops.Memory
             → 2 < length self.now.terms + length other.now.terms) }
     {
-        let turned = other.neg(alloc)?;
-        self.add(alloc, &turned)
+        let turned = other.neg()?;
+        self.add(&turned)
     }
 
     /// So many times the form.
-    pub fn scale(&self, alloc: Global, k: Frac) -> Result<Form, FormStop>
+    pub fn scale(&self, k: Frac) -> Result<Form, FormStop>
         ensures answer { Answers (scaled k self.now) result }
         ensures in_place { IfErr result (λ stop. stop ≡ stops.Memory
             → NeedsRoom (scaled k self.now)) }
         ensures few { IfErr result (λ stop. stop ≡ stops.Memory → 2 < length self.now.terms) }
     {
         let base = multiply(self.base(), k)?;
-        let terms = multiple_of_terms(alloc, k, self.terms())?;
+        let terms = multiple_of_terms(self.alloc(), k, self.terms())?;
         Ok(Form { base, terms })
     }
 
     /// Adds the other in place. Where its terms lie behind those of the form, they are put there and nothing is moved, so that a
     /// long sum in the order of the decisions takes one pass.
-    pub fn add_to(&mut self, alloc: Global, other: &Form) -> Result<(), FormStop>
+    pub fn add_to(&mut self, other: &Form) -> Result<(), FormStop>
         ensures answer { Answers (added self.old other.now)
             (result_map_both (λ _. self.new) (λ stop. stop) result) }
         ensures unchanged { OnErr result (self.new ≡ self.old) }
@@ -174,13 +174,13 @@ impl Form {
             → 2 < length self.old.terms + length other.now.terms) }
     {
         let base = add(self.base, other.base())?;
-        add_terms(&mut self.terms, alloc, other.terms())?;
+        add_terms(&mut self.terms, other.terms())?;
         self.base = base;
         Ok(())
     }
 
     /// Adds so many times the other in place: all products are made first, and then added.
-    pub fn add_product(&mut self, alloc: Global, k: Frac, other: &Form) -> Result<(), FormStop>
+    pub fn add_product(&mut self, k: Frac, other: &Form) -> Result<(), FormStop>
         ensures answer { Answers (added_product self.old k other.now)
             (result_map_both (λ _. self.new) (λ stop. stop) result) }
         ensures unchanged { OnErr result (self.new ≡ self.old) }
@@ -189,8 +189,8 @@ impl Form {
         ensures few { IfErr result (λ stop. stop ≡ stops.Memory
             → 2 < length self.old.terms + length other.now.terms) }
     {
-        let product = other.scale(alloc, k)?;
-        self.add_to(alloc, &product)
+        let product = other.scale(k)?;
+        self.add_to(&product)
     }
 
     /// Whether it is a fraction times the other: the coefficients at the other's first term are divided, the other is multiplied by
@@ -212,5 +212,10 @@ impl Form {
         ensures { AnswersInPlace (evaluated_at (assigned at.now) self.now) result }
     {
         value_at(self.base(), self.terms(), at)
+    }
+
+    // Where memory is taken from.
+    fn alloc(&self) -> Global {
+        self.terms.alloc()
     }
 }

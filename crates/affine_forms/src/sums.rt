@@ -12,14 +12,9 @@ use crate::merging::sum_of_terms;
 use crate::stop::FormStop;
 use crate::terms::Terms;
 use frac128::Frac;
-use std::alloc::Global;
 
 /// The sum in place of the terms. Terms behind all others are put there, and nothing else is moved.
-pub(crate) fn add_terms(
-    terms: &mut Terms,
-    alloc: Global,
-    more: &[(u16, Frac)],
-) -> Result<(), FormStop>
+pub(crate) fn add_terms(terms: &mut Terms, more: &[(u16, Frac)]) -> Result<(), FormStop>
     requires { RiseFrom 0 terms.old }
     ensures answer { Answers (merged terms.old more.now)
         (result_map_both (λ _. terms.new) (λ stop. stop) result) }
@@ -33,6 +28,6 @@ pub(crate) fn add_terms(
         terms.append(more)?;
         return Ok(());
     }
-    *terms = sum_of_terms(alloc, terms.as_slice(), more)?;
+    *terms = sum_of_terms(terms.alloc(), terms.as_slice(), more)?;
     Ok(())
 }

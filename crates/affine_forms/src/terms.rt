@@ -41,6 +41,11 @@ impl Terms {
         self.kept.as_slice()
     }
 
+    // Where memory is taken from.
+    pub(crate) fn alloc(&self) -> Global {
+        *self.kept.allocator()
+    }
+
     /// One term.
     pub(crate) fn one(alloc: Global, term: (u16, Frac)) -> Terms
         ensures { result ≡ term ∷ [] }

@@ -111,8 +111,8 @@ fn add_operand(total: &mut Form, alloc: Global, operand: &Operand) -> Result<(),
         (result_map_both (λ _. total.new) (λ stop. stop) result) }
 {
     match operand {
-        Operand::Known(number) => total.add_to(alloc, &Form::constant(alloc, *number)),
-        Operand::Open(form) => total.add_to(alloc, form),
+        Operand::Known(number) => total.add_to(&Form::constant(alloc, *number)),
+        Operand::Open(form) => total.add_to(form),
         Operand::Test | Operand::Fault(_) => Ok(()),
     }
 }
@@ -136,7 +136,7 @@ pub(crate) fn add_element(total: &mut Form, alloc: Global, item: &Abs) -> Result
 {
     match item {
         Abs::Known(value) => add_known(total, alloc, value),
-        Abs::Affine(form) => total.add_to(alloc, form),
+        Abs::Affine(form) => total.add_to(form),
         Abs::Test(_, _) => Ok(()),
     }
 }
@@ -148,7 +148,7 @@ fn add_known(total: &mut Form, alloc: Global, value: &Value) -> Result<(), FormS
         (result_map_both (λ _. total.new) (λ stop. stop) result) }
 {
     match value {
-        Value::Number(number) => total.add_to(alloc, &Form::constant(alloc, *number)),
+        Value::Number(number) => total.add_to(&Form::constant(alloc, *number)),
         Value::Text(_) | Value::Logical(_) | Value::Empty | Value::Error(_) => Ok(()),
     }
 }

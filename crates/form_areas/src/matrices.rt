@@ -129,8 +129,8 @@ fn product_at(
     for inner in 0..columns_of(left) {
         let first = factor_of(left, row, inner);
         let second = factor_of(right, inner, column);
-        let product = times(alloc, first.form(alloc).get(), second.form(alloc).get())?;
-        add_form(&mut total, alloc, &product)?;
+        let product = times(first.form(alloc).get(), second.form(alloc).get())?;
+        add_form(&mut total, &product)?;
     }
     Ok(total)
 }

@@ -85,17 +85,17 @@ fn dot(alloc: Global, args: &[AbsArg], count: usize) -> Result<Form, OpRefusal>
     let mut total = Form::constant(alloc, Frac::zero());
     for place in 0..count {
         let product = product_in(alloc, args, place)?;
-        add_form(&mut total, alloc, &product)?;
+        add_form(&mut total, &product)?;
     }
     Ok(total)
 }
 
 /// Adds a form in place.
-pub(crate) fn add_form(total: &mut Form, alloc: Global, form: &Form) -> Result<(), OpRefusal>
+pub(crate) fn add_form(total: &mut Form, form: &Form) -> Result<(), OpRefusal>
     ensures { Answers (made (λ f. f) (added total.old form.now))
         (result_map_both (λ _. total.new) (λ refusal. refusal) result) }
 {
-    match total.add_to(alloc, form) {
+    match total.add_to(form) {
         Ok(()) => Ok(()),
         Err(stop) => Err(form_refusal(stop)),
     }
@@ -109,7 +109,7 @@ fn product_in(alloc: Global, args: &[AbsArg], place: usize) -> Result<Form, OpRe
         return Ok(Form::constant(alloc, Frac::one()));
     };
     let factor = factor_at(first.elements(), place);
-    let product = factor.form(alloc).get().copy(alloc)?;
+    let product = factor.form(alloc).get().copy()?;
     product_from(alloc, product, others, place)
 }
 
@@ -126,18 +126,18 @@ fn product_from(
     let mut product = first;
     for other in others {
         let factor = factor_at(other.elements(), place);
-        product = times(alloc, &product, factor.form(alloc).get())?;
+        product = times(&product, factor.form(alloc).get())?;
     }
     Ok(product)
 }
 
 /// The product of two forms: one that is known scales the other.
-pub(crate) fn times(alloc: Global, first: &Form, second: &Form) -> Result<Form, OpRefusal>
+pub(crate) fn times(first: &Form, second: &Form) -> Result<Form, OpRefusal>
     ensures { Answers (times first.now second.now) result }
 {
     match (constant_of(first), constant_of(second)) {
-        (Some(number), _) => as_form(second.scale(alloc, number)),
-        (None, Some(number)) => as_form(first.scale(alloc, number)),
+        (Some(number), _) => as_form(second.scale(number)),
+        (None, Some(number)) => as_form(first.scale(number)),
         (None, None) => Err(OpRefusal::Break),
     }
 }

@@ -76,7 +76,7 @@ fn mean(alloc: Global, args: &[AbsArg]) -> Result<Abs, OpRefusal>
         return Ok(fault(ErrorKind::Div0));
     }
     match total(alloc, args) {
-        Ok(total) => as_entry(total.scale(alloc, inverse(whole(count)))),
+        Ok(total) => as_entry(total.scale(inverse(whole(count)))),
         Err(stop) => Err(form_refusal(stop)),
     }
 }

@@ -44,7 +44,7 @@ pub(crate) fn row(alloc: Global, function: Func, args: &[AbsArg]) -> Result<AbsA
         Func::CountIf => countif(args),
         Func::And => and_(alloc, args),
         Func::Or => or_(alloc, args),
-        Func::Not => not_(alloc, args),
+        Func::Not => not_(args),
         Func::True => Ok(logical(true)),
         Func::False => Ok(logical(false)),
         Func::Abs => abs_(alloc, args),
@@ -54,7 +54,7 @@ pub(crate) fn row(alloc: Global, function: Func, args: &[AbsArg]) -> Result<AbsA
         Func::Mod => mod_(alloc, args),
         Func::Round => round(alloc, args),
         Func::Power => power(alloc, args),
-        Func::N => n_(alloc, args),
+        Func::N => n_(args),
         Func::IsNumber => isnumber(args),
         Func::IsBlank => isblank(args),
         Func::If | Func::IfError | Func::Choose | Func::Index | Func::VLookup | Func::HLookup => {

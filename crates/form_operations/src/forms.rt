@@ -57,7 +57,7 @@ fn number(text: &str) -> Result<Frac, Stop> {
 fn form(alloc: Global, numbers: &[Frac]) -> Result<Form, Stop> {
     let mut form = Form::constant(alloc, Frac::zero());
     for (place, number) in numbers.iter().enumerate() {
-        form.add_to(alloc, &part(alloc, place, *number)?)?;
+        form.add_to(&part(alloc, place, *number)?)?;
     }
     Ok(form)
 }
@@ -66,7 +66,7 @@ fn form(alloc: Global, numbers: &[Frac]) -> Result<Form, Stop> {
 fn part(alloc: Global, place: usize, number: Frac) -> Result<Form, Stop> {
     match u16::try_from(place) {
         Ok(0) => Ok(Form::constant(alloc, number)),
-        Ok(j) => Ok(Form::decision(alloc, j - 1).scale(alloc, number)?),
+        Ok(j) => Ok(Form::decision(alloc, j - 1).scale(number)?),
         Err(_) => Err(Stop::Unread),
     }
 }
@@ -74,8 +74,8 @@ fn part(alloc: Global, place: usize, number: Frac) -> Result<Form, Stop> {
 // What an operation makes of a form. A logical is 1 or 0.
 fn result_of(alloc: Global, name: &str, left: Form, right: &[Frac]) -> Result<Form, Stop> {
     match name {
-        "neg" => Ok(left.neg(alloc)?),
-        "copy" => Ok(left.copy(alloc)?),
+        "neg" => Ok(left.neg()?),
+        "copy" => Ok(left.copy()?),
         "at" => worth(alloc, &left, right),
         _ => result_of_two(alloc, name, left, &form(alloc, right)?),
     }
@@ -92,20 +92,20 @@ fn worth(alloc: Global, form: &Form, at: &[Frac]) -> Result<Form, Stop> {
 // What an operation makes of two forms.
 fn result_of_two(alloc: Global, name: &str, left: Form, right: &Form) -> Result<Form, Stop> {
     match name {
-        "add" => Ok(left.add(alloc, right)?),
-        "sub" => Ok(left.sub(alloc, right)?),
-        "scale" => Ok(left.scale(alloc, right.base())?),
+        "add" => Ok(left.add(right)?),
+        "sub" => Ok(left.sub(right)?),
+        "scale" => Ok(left.scale(right.base())?),
         "multiple-of" => is_multiple(alloc, &left, right),
-        _ => with_multiple(alloc, name, left, right),
+        _ => with_multiple(name, left, right),
     }
 }
 
 // A form and a multiple of another one: the factor stands in the operation's name.
-fn with_multiple(alloc: Global, name: &str, mut left: Form, right: &Form) -> Result<Form, Stop> {
+fn with_multiple(name: &str, mut left: Form, right: &Form) -> Result<Form, Stop> {
     let Some(factor) = name.strip_prefix("add-times:") else {
         return Err(Stop::Unread);
     };
-    left.add_product(alloc, Frac::read(factor)?, right)?;
+    left.add_product(Frac::read(factor)?, right)?;
     Ok(left)
 }
 

@@ -90,7 +90,7 @@ fn form(alloc: Global, text: &str) -> Result<Option<Form>, Stop> {
     }
     if text == "x+1" {
         let one = Form::constant(alloc, Frac::one());
-        return Ok(Some(one.add(alloc, &Form::decision(alloc, 0))?));
+        return Ok(Some(one.add(&Form::decision(alloc, 0))?));
     }
     decision(alloc, text)
 }
@@ -100,7 +100,7 @@ fn multiple(alloc: Global, coefficient: &str) -> Result<Form, Stop> {
     let x = Form::decision(alloc, 0);
     match coefficient {
         "" => Ok(x),
-        _ => Ok(x.scale(alloc, Frac::read(coefficient)?)?),
+        _ => Ok(x.scale(Frac::read(coefficient)?)?),
     }
 }
 

@@ -127,22 +127,17 @@ fn branch_where(
 ) -> Result<AbsArg, OpRefusal>
     ensures { Answers (branch_where form.now (side_value branch.now) first.now second.now) result }
 {
-    if differ_by_multiple(alloc, form, first, second)? {
+    if differ_by_multiple(form, first, second)? {
         return Ok(copy_of(alloc, branch)?);
     }
     Err(OpRefusal::Break)
 }
 
 // Whether two forms differ by a multiple of the form that is tested.
-fn differ_by_multiple(
-    alloc: Global,
-    form: &Form,
-    first: &Form,
-    second: &Form,
-) -> Result<bool, OpRefusal>
+fn differ_by_multiple(form: &Form, first: &Form, second: &Form) -> Result<bool, OpRefusal>
     ensures { Answers (made (λ b. b) (differ_by_multiple form.now first.now second.now)) result }
 {
-    let difference = match first.sub(alloc, second) {
+    let difference = match first.sub(second) {
         Ok(difference) => difference,
         Err(stop) => return Err(form_refusal(stop)),
     };

@@ -58,7 +58,7 @@ fn compared_sides(alloc: Global, op: Op, a: &Abs, b: &Abs) -> Result<Abs, OpRefu
         (Some(first), Some(second)) => {
             let first = first.form(alloc);
             let second = second.form(alloc);
-            as_test(relation_of(op), first.get().sub(alloc, second.get()))
+            as_test(relation_of(op), first.get().sub(second.get()))
         }
         (Some(_), None) => Ok(logical(asks_for(op, Ordering::Less))),
         (None, _) => Ok(logical(asks_for(op, Ordering::Greater))),

@@ -183,11 +183,11 @@ fn with_operand(
     let Taken { error, test, best } = taken;
     match operand {
         Operand::Known(number) => {
-            let best = best_with(alloc, extremum, best, &Form::constant(alloc, *number))?;
+            let best = best_with(extremum, best, &Form::constant(alloc, *number))?;
             Ok(Taken { error, test, best })
         }
         Operand::Open(form) => {
-            let best = best_with(alloc, extremum, best, form)?;
+            let best = best_with(extremum, best, form)?;
             Ok(Taken { error, test, best })
         }
         Operand::Test => Ok(Taken {
@@ -204,25 +204,25 @@ fn with_operand(
 }
 
 // The best of some forms and one more.
-fn best_with(alloc: Global, extremum: Extremum, best: Best, form: &Form) -> Result<Best, Memory>
+fn best_with(extremum: Extremum, best: Best, form: &Form) -> Result<Best, Memory>
     ensures { IfOk result (λ more. more ≡ best_with extremum best form.now) }
 {
     match best {
-        Best::Nothing => Ok(Best::Found(form.copy(alloc)?)),
-        Best::Found(found) => better(alloc, extremum, found, form),
+        Best::Nothing => Ok(Best::Found(form.copy()?)),
+        Best::Found(found) => better(extremum, found, form),
         Best::Bent => Ok(Best::Bent),
     }
 }
 
 // The better of two forms, where they differ by a known number.
-fn better(alloc: Global, extremum: Extremum, found: Form, form: &Form) -> Result<Best, Memory>
+fn better(extremum: Extremum, found: Form, form: &Form) -> Result<Best, Memory>
     ensures { IfOk result (λ more. more ≡ best_with extremum (Found found) form.now) }
 {
     if !same_terms(form.terms(), found.terms()) {
         return Ok(Best::Bent);
     }
     if is_better(extremum, form.base(), found.base()) {
-        return Ok(Best::Found(form.copy(alloc)?));
+        return Ok(Best::Found(form.copy()?));
     }
     Ok(Best::Found(found))
 }

@@ -29,21 +29,21 @@ pub(crate) fn on_form(alloc: Global, change: Change, operand: &Operand) -> Resul
     ensures in_place { change ≡ changes.Bend → IfErr result IsNoWant }
 {
     match operand {
-        Operand::Known(number) => change_of(alloc, change, &Form::constant(alloc, *number)),
-        Operand::Open(form) => change_of(alloc, change, form),
+        Operand::Known(number) => change_of(change, &Form::constant(alloc, *number)),
+        Operand::Open(form) => change_of(change, form),
         Operand::Test => Err(OpRefusal::Undecided(0)),
         Operand::Fault(kind) => Ok(fault(*kind)),
     }
 }
 
 // What is made of a form.
-fn change_of(alloc: Global, change: Change, form: &Form) -> Result<Abs, OpRefusal>
+fn change_of(change: Change, form: &Form) -> Result<Abs, OpRefusal>
     ensures answer { Answers (change_row change form.now) result }
     ensures in_place { change ≡ changes.Bend → IfErr result IsNoWant }
 {
     match change {
-        Change::Minus => Ok(Abs::entry(form.neg(alloc)?)),
-        Change::Percent => as_entry(form.scale(alloc, inverse(Frac::from_whole(100)))),
+        Change::Minus => Ok(Abs::entry(form.neg()?)),
+        Change::Percent => as_entry(form.scale(inverse(Frac::from_whole(100)))),
         Change::Bend => Err(OpRefusal::Break),
     }
 }

@@ -17,10 +17,9 @@ use crate::results::{as_one, fault, logical};
 use form_values::{Abs, AbsArg, OpRefusal};
 use frac128::Frac;
 use sheet_model::Value;
-use std::alloc::Global;
 
 /// N of an open value: an open number is itself, and an open logical is undecided.
-pub fn n_(alloc: Global, args: &[AbsArg]) -> Result<AbsArg, OpRefusal>
+pub fn n_(args: &[AbsArg]) -> Result<AbsArg, OpRefusal>
     requires takes { Takes func.N (length args.now) }
     requires open_argument { list_all all_known args.now ≡ false }
     ensures answer { Answers (row_of func.N args.now) result }
@@ -29,26 +28,26 @@ pub fn n_(alloc: Global, args: &[AbsArg]) -> Result<AbsArg, OpRefusal>
     let [arg] = args else {
         unreachable!();
     };
-    number_of(alloc, arg)
+    number_of(arg)
 }
 
 // The one value of an argument as a number.
-fn number_of(alloc: Global, arg: &AbsArg) -> Result<AbsArg, OpRefusal>
+fn number_of(arg: &AbsArg) -> Result<AbsArg, OpRefusal>
     ensures { Answers (n_form arg.now) result }
 {
     match value_of(arg) {
-        Ok(value) => as_one(number_in(alloc, value)),
+        Ok(value) => as_one(number_in(value)),
         Err(kind) => Ok(AbsArg::One(fault(kind))),
     }
 }
 
 // A value as a number.
-fn number_in(alloc: Global, value: &Abs) -> Result<Abs, OpRefusal>
+fn number_in(value: &Abs) -> Result<Abs, OpRefusal>
     ensures { Answers (n_abs value.now) result }
 {
     match value {
         Abs::Known(known) => Ok(Abs::Known(number_or_zero(known))),
-        Abs::Affine(form) => Ok(Abs::Affine(form.copy(alloc)?)),
+        Abs::Affine(form) => Ok(Abs::Affine(form.copy()?)),
         Abs::Test(_, _) => Err(OpRefusal::Undecided(0)),
     }
 }

@@ -42,7 +42,7 @@ pub fn or_(alloc: Global, args: &[AbsArg]) -> Result<AbsArg, OpRefusal>
 }
 
 /// NOT: a test with its relation reversed.
-pub fn not_(alloc: Global, args: &[AbsArg]) -> Result<AbsArg, OpRefusal>
+pub fn not_(args: &[AbsArg]) -> Result<AbsArg, OpRefusal>
     requires takes { Takes func.Not (length args.now) }
     requires open_argument { list_all all_known args.now ≡ false }
     ensures answer { Answers (row_of func.Not args.now) result }
@@ -51,21 +51,21 @@ pub fn not_(alloc: Global, args: &[AbsArg]) -> Result<AbsArg, OpRefusal>
     let [arg] = args else {
         unreachable!();
     };
-    negation(alloc, arg)
+    negation(arg)
 }
 
 // The other logical than the one value of an argument.
-fn negation(alloc: Global, arg: &AbsArg) -> Result<AbsArg, OpRefusal>
+fn negation(arg: &AbsArg) -> Result<AbsArg, OpRefusal>
     ensures { Answers (not_form arg.now) result }
 {
     match value_of(arg) {
-        Ok(value) => Ok(AbsArg::One(other_logical(alloc, value)?)),
+        Ok(value) => Ok(AbsArg::One(other_logical(value)?)),
         Err(kind) => Ok(AbsArg::One(fault(kind))),
     }
 }
 
 // The other logical.
-fn other_logical(alloc: Global, value: &Abs) -> Result<Abs, Memory>
+fn other_logical(value: &Abs) -> Result<Abs, Memory>
     ensures { IfOk result (λ other. other ≡ not_abs value.now) }
 {
     match value {
@@ -73,8 +73,8 @@ fn other_logical(alloc: Global, value: &Abs) -> Result<Abs, Memory>
             Ok(holds) => Ok(logical(!holds)),
             Err(kind) => Ok(fault(kind)),
         },
-        Abs::Affine(form) => Ok(Abs::Test(form.copy(alloc)?, Rel::Eq)),
-        Abs::Test(form, relation) => Ok(Abs::Test(form.copy(alloc)?, relation.complement())),
+        Abs::Affine(form) => Ok(Abs::Test(form.copy()?, Rel::Eq)),
+        Abs::Test(form, relation) => Ok(Abs::Test(form.copy()?, relation.complement())),
     }
 }
 
@@ -276,7 +276,7 @@ fn open_logical(alloc: Global, value: &Abs) -> Result<Abs, Memory>
     ensures { IfOk result (λ test. test ≡ open_logical value.now) }
 {
     match value {
-        Abs::Affine(form) => Ok(Abs::Test(form.copy(alloc)?, Rel::Ne)),
+        Abs::Affine(form) => Ok(Abs::Test(form.copy()?, Rel::Ne)),
         Abs::Known(_) | Abs::Test(_, _) => value.copy(alloc),
     }
 }

@@ -140,74 +140,64 @@ fn on_second(
     ensures in_place { NeverAffine pairing → IfErr result IsNoWant }
 {
     match second {
-        Operand::Known(number) => pair_result(
-            alloc,
-            pairing,
-            first,
-            &Form::constant(alloc, *number),
-        ),
-        Operand::Open(form) => pair_result(alloc, pairing, first, form),
+        Operand::Known(number) => pair_result(pairing, first, &Form::constant(alloc, *number)),
+        Operand::Open(form) => pair_result(pairing, first, form),
         Operand::Test | Operand::Fault(_) => Err(OpRefusal::Undecided(1)),
     }
 }
 
 // What is made of two forms.
-fn pair_result(
-    alloc: Global,
-    pairing: Pairing,
-    first: &Form,
-    second: &Form,
-) -> Result<Abs, OpRefusal>
+fn pair_result(pairing: Pairing, first: &Form, second: &Form) -> Result<Abs, OpRefusal>
     ensures answer { Answers (pairing_row pairing first.now second.now) result }
     ensures in_place { NeverAffine pairing → IfErr result IsNoWant }
 {
     match pairing {
-        Pairing::Sum => as_entry(first.add(alloc, second)),
-        Pairing::Difference => as_entry(first.sub(alloc, second)),
-        Pairing::Product => product(alloc, first, second),
-        Pairing::Quotient => quotient(alloc, first, second),
-        Pairing::Power => power(alloc, first, second),
+        Pairing::Sum => as_entry(first.add(second)),
+        Pairing::Difference => as_entry(first.sub(second)),
+        Pairing::Product => product(first, second),
+        Pairing::Quotient => quotient(first, second),
+        Pairing::Power => power(first, second),
         Pairing::Remainder => Err(OpRefusal::Break),
         Pairing::Rounding => rounding(first),
     }
 }
 
 // The product: a known number scales the other factor.
-fn product(alloc: Global, first: &Form, second: &Form) -> Result<Abs, OpRefusal>
+fn product(first: &Form, second: &Form) -> Result<Abs, OpRefusal>
     ensures { Answers (product_row first.now second.now) result }
 {
     match (constant_of(first), constant_of(second)) {
-        (Some(number), _) => as_entry(second.scale(alloc, number)),
-        (None, Some(number)) => as_entry(first.scale(alloc, number)),
+        (Some(number), _) => as_entry(second.scale(number)),
+        (None, Some(number)) => as_entry(first.scale(number)),
         (None, None) => Err(OpRefusal::Break),
     }
 }
 
 // The quotient by a known number.
-fn quotient(alloc: Global, first: &Form, second: &Form) -> Result<Abs, OpRefusal>
+fn quotient(first: &Form, second: &Form) -> Result<Abs, OpRefusal>
     ensures { Answers (quotient_row first.now second.now) result }
 {
     match constant_of(second) {
-        Some(number) => as_entry(first.scale(alloc, inverse(number))),
+        Some(number) => as_entry(first.scale(inverse(number))),
         None => Err(OpRefusal::Break),
     }
 }
 
 // The power by a known exponent.
-fn power(alloc: Global, first: &Form, second: &Form) -> Result<Abs, OpRefusal>
+fn power(first: &Form, second: &Form) -> Result<Abs, OpRefusal>
     ensures { Answers (power_row first.now second.now) result }
 {
     let exponent = constant_of(second);
-    power_of(alloc, first, exponent)
+    power_of(first, exponent)
 }
 
 // A form to a power: only the powers 0 and 1 are affine.
-fn power_of(alloc: Global, first: &Form, exponent: Option<Frac>) -> Result<Abs, OpRefusal>
+fn power_of(first: &Form, exponent: Option<Frac>) -> Result<Abs, OpRefusal>
     ensures { Answers (raised_to first.now exponent) result }
 {
     match exponent {
         Some(number) if is_zero(number) => Ok(Abs::Known(Value::Number(Frac::one()))),
-        Some(number) if are_equal(number, Frac::one()) => Ok(Abs::entry(first.copy(alloc)?)),
+        Some(number) if are_equal(number, Frac::one()) => Ok(Abs::entry(first.copy()?)),
         _ => Err(OpRefusal::Break),
     }
 }

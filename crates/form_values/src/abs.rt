@@ -61,8 +61,8 @@ impl Abs {
     {
         match self {
             Abs::Known(value) => Ok(Abs::Known(value.copy(alloc)?)),
-            Abs::Affine(form) => Ok(Abs::Affine(form.copy(alloc)?)),
-            Abs::Test(form, relation) => Ok(Abs::Test(form.copy(alloc)?, *relation)),
+            Abs::Affine(form) => Ok(Abs::Affine(form.copy()?)),
+            Abs::Test(form, relation) => Ok(Abs::Test(form.copy()?, *relation)),
         }
     }
 }

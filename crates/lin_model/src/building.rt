@@ -33,7 +33,7 @@ fn objective_left(alloc: Global, goal: Option<Goal>, objective: &Form) -> Result
     match goal {
         None => Ok(Form::constant(alloc, Frac::zero())),
         Some(Goal::Reach(_)) => Ok(Form::constant(alloc, Frac::zero())),
-        Some(_) => objective.copy(alloc),
+        Some(_) => objective.copy(),
     }
 }
 

@@ -19,7 +19,6 @@ use std::alloc::Global;
 
 // Adds the row of a difference in a relation to 0.
 fn push_difference(
-    alloc: Global,
     left: &Form,
     relation: Relation,
     right: &Form,
@@ -28,7 +27,7 @@ fn push_difference(
     ensures { Pushed (turned_into (λ f. (f, relation_of relation) ∷ [])
         (subtracted left.now right.now)) rows.old.items rows.new.items result }
 {
-    match left.sub(alloc, right) {
+    match left.sub(right) {
         Ok(difference) => {
             rows.push(FormRow::new(difference, relation))?;
             Ok(())
@@ -39,12 +38,7 @@ fn push_difference(
 }
 
 // Adds the row that two sides leave, none where they are a bound.
-fn push_left(
-    alloc: Global,
-    row: &Condition,
-    sides: &(Form, Form),
-    rows: &mut Vec<FormRow>,
-) -> Result<(), FormStop>
+fn push_left(row: &Condition, sides: &(Form, Form), rows: &mut Vec<FormRow>) -> Result<(), FormStop>
     ensures pushed { Pushed
         (row_left (constraint_of row.now sides.now)) rows.old.items rows.new.items result }
     ensures forms { AreForms sides.now }
@@ -55,7 +49,7 @@ fn push_left(
     let _right_terms = right.terms();
     match decision_of(row, right) {
         Some(_) => Ok(()),
-        None => push_difference(alloc, left, row.relation(), right, rows),
+        None => push_difference(left, row.relation(), right, rows),
     }
 }
 
@@ -73,7 +67,7 @@ pub(crate) fn rows_left(
 {
     let mut rows = Vec::new(alloc);
     for (place, condition) in of.iter().enumerate() {
-        match push_left(alloc, condition, &sides[place], &mut rows) {
+        match push_left(condition, &sides[place], &mut rows) {
             Ok(()) => {}
             Err(FormStop::Wide) => return Err(BuildStop::WideRow(place as u16 + 1)),
             Err(FormStop::Memory) => return Err(BuildStop::Memory),
@@ -95,7 +89,6 @@ pub(crate) fn push_reaching(
         Goal::Greatest => Ok(()),
         Goal::Least => Ok(()),
         Goal::Reach(value) => push_difference(
-            alloc,
             objective,
             Relation::Equal,
             &Form::constant(alloc, value),

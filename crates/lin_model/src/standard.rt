@@ -125,7 +125,7 @@ fn opposite_row(alloc: Global, splits: &[bool], form: &Form) -> Result<Inequalit
     requires below { ReachTo form.now.terms (length splits.now) }
     ensures { IfOk result (λ r. r ≡ program_row splits.now (negated form.now)) }
 {
-    let form = form.neg(alloc)?;
+    let form = form.neg()?;
     form_row(alloc, splits, &form)
 }
 
@@ -283,8 +283,8 @@ impl LinModel {
             return Ok(Form::constant(alloc, Frac::zero()));
         }
         match self.goal() {
-            Goal::Greatest => self.objective().copy(alloc),
-            Goal::Least => self.objective().neg(alloc),
+            Goal::Greatest => self.objective().copy(),
+            Goal::Least => self.objective().neg(),
             Goal::Reach(_) => Ok(Form::constant(alloc, Frac::zero())),
         }
     }

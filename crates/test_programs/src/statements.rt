@@ -20,7 +20,7 @@ fn unit(alloc: Global, place: u16) -> Form {
 
 fn add(alloc: Global, form: &mut Form, place: u16, shown: &str) -> Result<(), Fail> {
     let part = unit(alloc, place);
-    Ok(form.add_product(alloc, number(shown)?, &part)?)
+    Ok(form.add_product(number(shown)?, &part)?)
 }
 
 pub(crate) fn form(alloc: Global, shown: &str) -> Result<Form, Fail> {

@@ -26,9 +26,9 @@ fn number(n: i128) -> Result<Frac, Fail> {
 }
 
 fn form(alloc: Global, coefficients: Pair) -> Result<Form, Fail> {
-    let first = Form::decision(alloc, 0).scale(alloc, number(coefficients.0)?)?;
-    let second = Form::decision(alloc, 1).scale(alloc, number(coefficients.1)?)?;
-    Ok(first.add(alloc, &second)?)
+    let first = Form::decision(alloc, 0).scale(number(coefficients.0)?)?;
+    let second = Form::decision(alloc, 1).scale(number(coefficients.1)?)?;
+    Ok(first.add(&second)?)
 }
 
 pub fn model(alloc: Global, shape: &Shape) -> Result<LinModel, Fail> {
