@@ -34,8 +34,8 @@ fn has_no_objective(model: &LinModel) -> bool
     ensures { IsTrue result ↔ trails.HasNoObjective model.now }
 {
     match model.goal() {
-        Goal::Greatest => is_zero(model.objective()),
-        Goal::Least => is_zero(model.objective()),
+        Goal::Max => is_zero(model.objective()),
+        Goal::Min => is_zero(model.objective()),
         Goal::Reach(_) => true,
     }
 }

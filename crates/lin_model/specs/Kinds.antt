@@ -13,6 +13,6 @@ relation_of kinds.AtLeast = at_least
 
 -- each goal by its name
 abbrev pub goal_of : Aim → Goal
-goal_of aims.Greatest = greatest
-goal_of aims.Least = least
+goal_of aims.Max = greatest
+goal_of aims.Min = least
 goal_of (aims.Reach v) = reach v

@@ -42,7 +42,7 @@ fn goal_left(goal: Option<Goal>) -> Goal
     ensures { goal_of result ≡ goal_or_greatest (option_map goal_of goal) }
 {
     match goal {
-        None => Goal::Greatest,
+        None => Goal::Max,
         Some(goal) => goal,
     }
 }

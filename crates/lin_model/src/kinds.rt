@@ -12,8 +12,8 @@ pub enum Relation {
 /// What is wanted of the objective.
 #[derive(Clone, Copy, Debug, PartialEq, Eq)]
 pub enum Goal {
-    Greatest,
-    Least,
+    Max,
+    Min,
     /// The model has a row for the value that is to be reached.
     Reach(Frac),
 }

@@ -86,8 +86,8 @@ pub(crate) fn push_reaching(
     ensures { Pushed (reaching (goal_of goal) objective.now) rows.old.items rows.new.items result }
 {
     match goal {
-        Goal::Greatest => Ok(()),
-        Goal::Least => Ok(()),
+        Goal::Max => Ok(()),
+        Goal::Min => Ok(()),
         Goal::Reach(value) => push_difference(
             objective,
             Relation::Equal,

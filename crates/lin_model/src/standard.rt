@@ -283,8 +283,8 @@ impl LinModel {
             return Ok(Form::constant(alloc, Frac::zero()));
         }
         match self.goal() {
-            Goal::Greatest => self.objective().copy(),
-            Goal::Least => self.objective().neg(),
+            Goal::Max => self.objective().copy(),
+            Goal::Min => self.objective().neg(),
             Goal::Reach(_) => Ok(Form::constant(alloc, Frac::zero())),
         }
     }

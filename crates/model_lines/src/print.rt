@@ -122,8 +122,8 @@ fn print_goal(goal: Goal, to: &mut String) -> Result<(), Memory>
     ensures { OnOk result (string_bytes to.new ≡ string_bytes to.old ++ goal_text (goal_of goal)) }
 {
     match goal {
-        Goal::Greatest => to.push_str("max ")?,
-        Goal::Least => to.push_str("min ")?,
+        Goal::Max => to.push_str("max ")?,
+        Goal::Min => to.push_str("min ")?,
         Goal::Reach(value) => {
             to.push_str("reach ")?;
             value.write(to)?;

@@ -25,8 +25,8 @@ fn objective_value(objective: Option<Cell>, goal: Goal, value: Frac) -> Option<F
     match objective {
         None => None,
         Some(_) => Some(match goal {
-            Goal::Greatest => value,
-            Goal::Least => value.neg(),
+            Goal::Max => value,
+            Goal::Min => value.neg(),
             Goal::Reach(wanted) => wanted,
         }),
     }

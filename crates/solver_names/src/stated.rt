@@ -32,12 +32,12 @@ fn goal_of(names: &Names) -> Goal
     ensures { kinds.goal_of result ≡ goal_in (read_of names.now) }
 {
     if names.objective.is_absent() {
-        return Goal::Greatest;
+        return Goal::Max;
     }
     match names.goal {
         Said::Says(3) => Goal::Reach(value_of(names)),
-        Said::Says(2) => Goal::Least,
-        _ => Goal::Greatest,
+        Said::Says(2) => Goal::Min,
+        _ => Goal::Max,
     }
 }
 

@@ -23,8 +23,8 @@ fn tell_place(place: Place, to: &mut String) -> Result<(), Fail> {
 
 fn tell_goal(goal: Goal, to: &mut String) -> Result<(), Fail> {
     match goal {
-        Goal::Greatest => to.push_str(" greatest")?,
-        Goal::Least => to.push_str(" least")?,
+        Goal::Max => to.push_str(" greatest")?,
+        Goal::Min => to.push_str(" least")?,
         Goal::Reach(value) => {
             to.push_str(" reach ")?;
             write!(to, "{}/{}", value.num(), value.den())?;

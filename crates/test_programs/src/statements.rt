@@ -84,8 +84,8 @@ fn sides(alloc: Global, shown: &str) -> Result<Vec<(Form, Form)>, Fail> {
 fn goal(shown: &str) -> Result<Option<Goal>, Fail> {
     Ok(match shown {
         "any" => None,
-        "max" => Some(Goal::Greatest),
-        "min" => Some(Goal::Least),
+        "max" => Some(Goal::Max),
+        "min" => Some(Goal::Min),
         _ => Some(Goal::Reach(number(shown)?)),
     })
 }

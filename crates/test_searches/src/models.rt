@@ -53,7 +53,7 @@ pub fn model(alloc: Global, shape: &Shape) -> Result<LinModel, Fail> {
 // The greatest 5 x + 4 y under 6 x + 4 y <= 24 and x + 2 y <= 6 over whole numbers: 20 at 4, 0. Without the marks 21 at
 // 3, 3/2.
 pub const TWO: Shape = Shape {
-    goal: Some(Goal::Greatest),
+    goal: Some(Goal::Max),
     objective: (5, 4),
     rows: &[
         ((6, 4), Relation::AtMost, 24),
@@ -64,7 +64,7 @@ pub const TWO: Shape = Shape {
 
 // The same where only x is to be whole.
 pub const ONE_WHOLE: Shape = Shape {
-    goal: Some(Goal::Greatest),
+    goal: Some(Goal::Max),
     objective: (5, 4),
     rows: &[
         ((6, 4), Relation::AtMost, 24),
@@ -75,7 +75,7 @@ pub const ONE_WHOLE: Shape = Shape {
 
 // The greatest x where 2 x - 2 y = 1 over whole numbers: there is no point, and no bound.
 pub const ODD: Shape = Shape {
-    goal: Some(Goal::Greatest),
+    goal: Some(Goal::Max),
     objective: (1, 0),
     rows: &[((2, -2), Relation::Equal, 1)],
     whole: &[0, 1],
@@ -83,7 +83,7 @@ pub const ODD: Shape = Shape {
 
 // The greatest y under 4 y - 2 x <= 3 and x + y <= 3 over whole numbers: 1 at 1, 1 and at 2, 1.
 pub const TIED: Shape = Shape {
-    goal: Some(Goal::Greatest),
+    goal: Some(Goal::Max),
     objective: (0, 1),
     rows: &[
         ((-2, 4), Relation::AtMost, 3),
@@ -94,14 +94,14 @@ pub const TIED: Shape = Shape {
 
 // The greatest x + y under x - y <= 1, without and with whole marks.
 pub const OPEN: Shape = Shape {
-    goal: Some(Goal::Greatest),
+    goal: Some(Goal::Max),
     objective: (1, 1),
     rows: &[((1, -1), Relation::AtMost, 1)],
     whole: &[],
 };
 
 pub const OPEN_WHOLE: Shape = Shape {
-    goal: Some(Goal::Greatest),
+    goal: Some(Goal::Max),
     objective: (1, 1),
     rows: &[((1, -1), Relation::AtMost, 1)],
     whole: &[0, 1],
@@ -109,7 +109,7 @@ pub const OPEN_WHOLE: Shape = Shape {
 
 // The greatest y where 2 x = 1: unbounded without marks, and no point where x is to be whole.
 pub const HALF: Shape = Shape {
-    goal: Some(Goal::Greatest),
+    goal: Some(Goal::Max),
     objective: (0, 1),
     rows: &[((2, 0), Relation::Equal, 1)],
     whole: &[0],
@@ -117,7 +117,7 @@ pub const HALF: Shape = Shape {
 
 // The greatest y where 2 x = 2: unbounded, with and without x to be whole.
 pub const EVEN: Shape = Shape {
-    goal: Some(Goal::Greatest),
+    goal: Some(Goal::Max),
     objective: (0, 1),
     rows: &[((2, 0), Relation::Equal, 2)],
     whole: &[0],
@@ -125,7 +125,7 @@ pub const EVEN: Shape = Shape {
 
 // The same as HALF where x need not be whole: unbounded from a half, 0 on.
 pub const HALF_FREE: Shape = Shape {
-    goal: Some(Goal::Greatest),
+    goal: Some(Goal::Max),
     objective: (0, 1),
     rows: &[((2, 0), Relation::Equal, 1)],
     whole: &[],
@@ -133,7 +133,7 @@ pub const HALF_FREE: Shape = Shape {
 
 // No point at all.
 pub const NONE: Shape = Shape {
-    goal: Some(Goal::Least),
+    goal: Some(Goal::Min),
     objective: (1, 1),
     rows: &[((1, 1), Relation::AtMost, -1)],
     whole: &[0],
@@ -152,7 +152,7 @@ pub const ANY: Shape = Shape {
 
 // The least 3 x + 2 y where 2 x + 2 y is at least 3: 4 at 0, 2.
 pub const LEAST: Shape = Shape {
-    goal: Some(Goal::Least),
+    goal: Some(Goal::Min),
     objective: (3, 2),
     rows: &[((2, 2), Relation::AtLeast, 3)],
     whole: &[0, 1],
@@ -160,7 +160,7 @@ pub const LEAST: Shape = Shape {
 
 // The greatest x where 3 x is at most a number of 127 bits and -4 x at most 1: the pivot makes 4 thirds of that number.
 pub const WIDE: Shape = Shape {
-    goal: Some(Goal::Greatest),
+    goal: Some(Goal::Max),
     objective: (1, 0),
     rows: &[
         (
