@@ -1,11 +1,13 @@
 // Linear models.
-ghost use Rattle.std.specs.Prelude.{◌≡◌};
+ghost use Rattle.std.specs.Prelude.{◌≡◌, IfOk};
 ghost use Rattle.linear_models.specs.Model.{IsValid};
 ghost use Rattle.lin_model.specs.Kinds.{goal_of, relation_of};
 
 use crate::bounds::BoundBox;
 use crate::kinds::{Goal, Relation};
 use affine_forms::Form;
+use memory::Memory;
+use std::alloc::Global;
 use std::marker::Model;
 
 /// A form in a relation to 0.
@@ -42,6 +44,17 @@ impl FormRow {
         ensures { relation_of result ≡ self.now.1 }
     {
         self.relation
+    }
+
+    /// An equal row.
+    pub fn copy(&self) -> Result<FormRow, Memory>
+        ensures { IfOk result (λ copy. copy ≡ self.now) }
+    {
+        let form = self.form.copy()?;
+        Ok(FormRow {
+            form,
+            relation: self.relation,
+        })
     }
 }
 
@@ -130,4 +143,33 @@ impl LinModel {
     {
         &self.bounds
     }
+
+    /// An equal model.
+    pub fn copy(&self) -> Result<LinModel, Memory>
+        ensures { IfOk result (λ copy. copy ≡ self.now) }
+    {
+        let alloc = *self.whole.allocator();
+        let objective = self.objective.copy()?;
+        let rows = copy_rows(alloc, &self.rows)?;
+        let whole = Vec::from_slice(alloc, &self.whole)?;
+        let bounds = self.bounds.copy(alloc)?;
+        Ok(LinModel {
+            goal: self.goal,
+            objective,
+            rows,
+            whole,
+            bounds,
+        })
+    }
+}
+
+// Equal rows.
+fn copy_rows(alloc: Global, rows: &[FormRow]) -> Result<Vec<FormRow>, Memory>
+    ensures { IfOk result (λ copies. copies.items ≡ rows.now) }
+{
+    let mut copies = Vec::new(alloc);
+    for row in rows {
+        copies.push(row.copy()?)?;
+    }
+    Ok(copies)
 }
