@@ -10,6 +10,7 @@ use linear_programs::Standard;
 use memory::Memory;
 use std::alloc::Global;
 use tableau::Dict;
+use thiserror::Error;
 
 /// What a program comes to: its best point with the value and the multipliers that bound it, multipliers
 /// that contradict every point, or a point and a direction that improves without end. Points and directions
@@ -23,10 +24,13 @@ pub enum LpAnswer {
 
 /// Why no answer comes: a pivot that is not narrow, with the basic variables, the leaving and the entering one;
 /// no units; or no memory.
-#[derive(Drop)]
+#[derive(Debug, Drop, Error)]
 pub enum LpStop {
+    #[error("a pivot is too wide")]
     WidePivot(Vec<u16>, u16, u16),
+    #[error("no units are left")]
     Spent,
+    #[error("memory ran out")]
     Memory,
 }
 
