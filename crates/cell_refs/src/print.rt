@@ -6,8 +6,8 @@ ghost use Rattle.cell_refs.specs.Names.{begins_word, cell_text, doubled, goes_on
 ghost use Rattle.cell_refs.specs.declared.limits.TheConstants.{COLUMNS, ROWS};
 
 use crate::{Cell, SheetNames};
+use itoa::Buffer;
 use memory::Memory;
-use std::fmt::Write;
 
 /// Appends the address of a row and a column, from 0: `A2` of 1 and 0.
 pub fn print_address(row: u16, col: u16, to: &mut String) -> Result<(), Memory>
@@ -43,7 +43,8 @@ fn append_address(row: u16, col: u16, to: &mut String) -> Result<(), Memory>
     ensures { OnOk result (string_bytes to.new ≡ string_bytes to.old ++ address_text row col) }
 {
     print_column(col, to)?;
-    write!(to, "{}", u32::from(row) + 1)?;
+    let mut buffer = Buffer::new();
+    to.push_str(buffer.format(u32::from(row) + 1))?;
     Ok(())
 }
 

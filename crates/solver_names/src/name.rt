@@ -5,9 +5,9 @@ ghost use Rattle.cell_refs.specs.declared.limits.TheConstants.{TEXT_BYTES};
 ghost use Rattle.solver_names.specs.Texts.{name_text, named};
 
 use cell_refs::SheetId;
+use itoa::Buffer;
 use memory::Memory;
 use std::alloc::Global;
-use std::fmt::Write;
 use workbook::Workbook;
 
 /// A name of the Solver; those of a constraint with its number.
@@ -70,6 +70,7 @@ fn with_number(alloc: Global, word: &str, k: u16) -> Result<String, Memory>
     ensures { IfOk result (λ s. string_bytes s ≡ word.now ++ decimal k) }
 {
     let mut name = String::from_str(alloc, word)?;
-    write!(name, "{}", k)?;
+    let mut buffer = Buffer::new();
+    name.push_str(buffer.format(k))?;
     Ok(name)
 }
