@@ -50,16 +50,12 @@ fn program_of(
 }
 
 /// Takes all the memory that the work on a node needs, for its end too.
-fn prepare(
-    alloc: Global,
-    model: &LinModel,
-    frontier: &mut Frontier,
-    info: NodeInfo,
-) -> Result<Work, Memory>
+fn prepare(model: &LinModel, frontier: &mut Frontier, info: NodeInfo) -> Result<Work, Memory>
     requires { info.number < length frontier.old.paths.paths }
     ensures same { IsSame frontier.old frontier.new }
     ensures ready { IfOk result (λ w. IsPrepared model.now frontier.new info w) }
 {
+    let alloc = *frontier.waiting.allocator();
     reserve(frontier)?;
     let program = program_of(alloc, model, frontier, &info)?;
     let dict = start(alloc, &program)?;
@@ -98,7 +94,6 @@ fn tell(number: u64, pick: &mut Box<dyn Picker>)
 
 /// Opens the node that the picker chooses.
 pub(crate) fn open(
-    alloc: Global,
     model: &LinModel,
     frontier: &mut Frontier,
     pick: &mut Box<dyn Picker>,
@@ -118,7 +113,7 @@ pub(crate) fn open(
     let place = choice(&frontier.waiting, pick);
     let info = copy_node(&frontier.waiting[place]);
     let number = info.number;
-    let work = prepare(alloc, model, frontier, info)?;
+    let work = prepare(model, frontier, info)?;
     frontier.waiting.remove(place);
     tell(number, pick);
     Ok(work)

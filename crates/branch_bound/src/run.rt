@@ -5,19 +5,13 @@ ghost use Rattle.branch_bound.specs.Ends.{EndsAs, HearsUntil};
 use crate::progress::{Progress, SearchStop};
 use crate::search::Search;
 use node_pick::Picker;
-use std::alloc::Global;
 
 impl Search {
     /// Spends at most so many units, each the opening of the node that the picker chooses, or the next pivot of the node
     /// that is worked on. Where the search has ended, its answer is given, which takes no memory; after that it is not run
     /// again. With `Memory` and with a pivot that is not narrow the search stands as before that unit. The picker is asked
     /// before each opening, is told what was opened, and how each node ends.
-    pub fn run(
-        &mut self,
-        alloc: Global,
-        units: u64,
-        pick: &mut Box<dyn Picker>,
-    ) -> Result<Progress, SearchStop>
+    pub fn run(&mut self, units: u64, pick: &mut Box<dyn Picker>) -> Result<Progress, SearchStop>
         requires { self.old.answered ≡ false }
         ensures trail { IsContinued (rule pick.old) (HearsUntil (heard pick.old)
             (heard pick.new) self.new.state result) units self.old self.new }
@@ -26,9 +20,9 @@ impl Search {
     {
         let mut spent = 0;
         while spent < units && !self.has_ended() && self.units() < self.budget() {
-            match self.step(alloc, pick) {
+            match self.step(pick) {
                 Ok(()) => spent += 1,
-                Err(stop) => return Err(self.stop_of(alloc, stop)),
+                Err(stop) => return Err(self.stop_of(stop)),
             }
         }
         if self.has_ended() {

@@ -145,7 +145,7 @@ impl Search {
     }
 
     // One unit: the next pivot of the node that is worked on, or else the opening of a node.
-    pub(crate) fn step(&mut self, alloc: Global, pick: &mut Box<dyn Picker>) -> Result<(), StepStop>
+    pub(crate) fn step(&mut self, pick: &mut Box<dyn Picker>) -> Result<(), StepStop>
         requires open { ¬ (HasEnded self.old) }
         requires units { self.old.units < 1000000 }
         ensures ok { OnOk result (Grew self.old.model (rule pick.old) self.old.state self.new.state
@@ -172,7 +172,7 @@ impl Search {
                     }
                 }
             }
-            None => match open(alloc, &self.model, &mut self.frontier, pick) {
+            None => match open(&self.model, &mut self.frontier, pick) {
                 Ok(work) => {
                     self.units += 1;
                     self.work = settle(&self.model, &mut self.frontier, work, pick);
@@ -198,10 +198,11 @@ impl Search {
     }
 
     // Why a unit is not made, with what tells it.
-    pub(crate) fn stop_of(&self, alloc: Global, stop: StepStop) -> SearchStop
+    pub(crate) fn stop_of(&self, stop: StepStop) -> SearchStop
         requires { IsStepStop self.now.state stop }
         ensures { IsStopOf self.now result }
     {
+        let alloc = *self.frontier.waiting.allocator();
         match stop {
             StepStop::Memory => SearchStop::Memory,
             StepStop::Wide(row, col) => match &self.work {

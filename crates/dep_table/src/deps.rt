@@ -61,17 +61,17 @@ impl Deps {
     }
 
     /// The circular cells where the leaves refer to nothing, as in each workbook that has these references.
-    pub fn circular(&self, alloc: Global, leaves: &CellSet) -> Result<CellSet, Memory>
+    pub fn circular(&self, leaves: &CellSet) -> Result<CellSet, Memory>
         ensures { IfOk result (λ found. (book : Book) → AreReferencesOf self.now book
             → (a : Cell) → set.contains found a ≡ is_circular book (set.contains leaves.now) a) }
     {
-        let tour = self.tour(alloc, leaves)?;
+        let tour = self.tour(leaves)?;
         Ok(tour.circular)
     }
 
     /// The circular cells, and the other formula cells, each after those to which it refers, as in each workbook that has these
     /// references.
-    pub fn tour(&self, alloc: Global, leaves: &CellSet) -> Result<Tour, Memory>
+    pub fn tour(&self, leaves: &CellSet) -> Result<Tour, Memory>
         ensures circular { IfOk result (λ t. (book : Book) → AreReferencesOf self.now book
             → (a : Cell) → set.contains t.circular a
             ≡ is_circular book (set.contains leaves.now) a) }
@@ -80,6 +80,7 @@ impl Deps {
         ensures all { IfOk result (λ t. (book : Book) → AreReferencesOf self.now book
             → HasFree book (set.contains leaves.now) (λ a. ⊤) t.order.items) }
     {
+        let alloc = *self.formulas.allocator();
         let formulas = self.formulas.as_slice();
         let flags = flags_of(alloc, formulas, leaves)?;
         let wanted = vec![in alloc; true; formulas.len()]?;
@@ -88,7 +89,7 @@ impl Deps {
     }
 
     /// The same where those alone are wanted to which references lead from a cell. What else they lead to may be there as well.
-    pub fn tour_from(&self, alloc: Global, leaves: &CellSet, from: Cell) -> Result<Tour, Memory>
+    pub fn tour_from(&self, leaves: &CellSet, from: Cell) -> Result<Tour, Memory>
         ensures circular { IfOk result (λ t. (book : Book) → AreReferencesOf self.now book
             → HasCircular book (set.contains leaves.now)
             (Reaches book (set.contains leaves.now) from) (set.contains t.circular)) }
@@ -98,6 +99,7 @@ impl Deps {
             → HasFree book (set.contains leaves.now)
             (Reaches book (set.contains leaves.now) from) t.order.items) }
     {
+        let alloc = *self.formulas.allocator();
         let formulas = self.formulas.as_slice();
         let flags = flags_of(alloc, formulas, leaves)?;
         let wanted = wanted_from(alloc, formulas, &flags, from)?;

@@ -49,7 +49,7 @@ pub(crate) fn settle<L: Ledger>(
         ≤ steps.old + unmade (book_of book.now) (kept_in adj.now sides.now table.old) }
 {
     let leaves = set_of(alloc, adj.cells())?;
-    let tour = deps.tour(alloc, &leaves)?;
+    let tour = deps.tour(&leaves)?;
     let circular = tour.circular.cells(alloc)?;
     settle_places(
         alloc,

@@ -32,7 +32,7 @@ pub fn value(alloc: Global, book: &Workbook, deps: &Deps, cell: Cell) -> Result<
     ensures { IfOk result (IsShown (book_of book.now) cell) }
 {
     let leaves = CellSet::new(alloc);
-    let tour = deps.tour_from(alloc, &leaves, cell)?;
+    let tour = deps.tour_from(&leaves, cell)?;
     let rows = rows_of(alloc, book, &tour, false)?;
     let value = Seen { book, rows: &rows }.value(alloc, cell)?;
     if let Some(wide) = wide_cell(alloc, book, &tour, &rows, cell)? {

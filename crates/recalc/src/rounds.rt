@@ -34,7 +34,7 @@ pub fn known_in_rounds(
     requires { AreReferencesOf deps.now (book_of book.now) }
     ensures { IfOk result (λ value. value ≡ known (book_of book.now) no_overriding cell) }
 {
-    let tour = deps.tour(alloc, &CellSet::new(alloc))?;
+    let tour = deps.tour(&CellSet::new(alloc))?;
     let mut formulas = tour.circular.cells(alloc)?;
     formulas.extend_from_slice(&tour.order)?;
     let mut rows = round(alloc, book, &formulas, &tour.circular, &AllCircular)?;

@@ -34,7 +34,7 @@ pub fn names_file(alloc: Global, book: &Workbook) -> Result<Vec<u8>, Memory>
     ensures bytes { IfOk result (λ bytes. bytes.items ≡ name_bytes book.now) }
     ensures reads_back { OnOk result (NamesReadBack book.now) }
 {
-    let rows = book.name_rows(alloc)?;
+    let rows = book.name_rows()?;
     let mut bytes = Vec::new(alloc);
     write_sheet(alloc, &rows, &mut bytes)?;
     Ok(bytes)

@@ -22,7 +22,7 @@ pub(crate) fn search(
     match Search::begin(alloc, model, budget) {
         Ok(search) => {
             let mut search = search;
-            search.run(alloc, budget, pick)
+            search.run(budget, pick)
         }
         Err(_) => Err(SearchStop::Memory),
     }

@@ -104,7 +104,7 @@ fn how_many_texts_and_names_there_are(rt: HostRuntime) -> Result<(), Fail> {
         }
         let book = made_up(alloc, size)?;
         assert!(rt; book.texts() == *count, "{}", size);
-        assert!(rt; book.name_rows(alloc)?.len() == 10, "{}", size);
+        assert!(rt; book.name_rows()?.len() == 10, "{}", size);
         size += 1;
     }
     Ok(())

@@ -18,7 +18,7 @@ fn comes_to(
     let mut pick = pick;
     let mut search = Search::begin(alloc, model(alloc, shape)?, 1000)?;
     for turn in 0..1000 {
-        let given = search.run(alloc, slice, &mut pick);
+        let given = search.run(slice, &mut pick);
         match &given {
             Ok(Progress::More) => {
                 if search.units() != (turn + 1) * slice {
@@ -41,7 +41,7 @@ fn comes_to_after(
 ) -> Result<bool, Fail> {
     let mut pick = pick;
     let mut search = Search::begin(alloc, model(alloc, shape)?, 1000)?;
-    let given = search.run(alloc, first, &mut pick);
+    let given = search.run(first, &mut pick);
     match &given {
         Ok(Progress::More) => {
             if search.units() != first {
@@ -50,7 +50,7 @@ fn comes_to_after(
         }
         _ => return Ok(is_said(&given, said)),
     }
-    let last = search.run(alloc, 1000, &mut pick);
+    let last = search.run(1000, &mut pick);
     Ok(is_said(&last, said))
 }
 
@@ -128,25 +128,25 @@ fn a_lowered_budget_stops_with_the_units_spent(rt: HostRuntime) -> Result<(), Fa
     let alloc = rt.alloc();
     let mut pick: Box<dyn Picker> = Box::new(alloc, Depth)?;
     let mut search = Search::begin(alloc, model(alloc, &models::TWO)?, 1000)?;
-    let first = search.run(alloc, 3, &mut pick);
+    let first = search.run(3, &mut pick);
     match &first {
         Ok(Progress::More) => {}
         _ => panic!(rt; "more was to be done"),
     }
     search.set_budget(2);
-    let second = search.run(alloc, 3, &mut pick);
+    let second = search.run(3, &mut pick);
     match &second {
         Err(SearchStop::Budget(spent)) => assert_eq!(rt; *spent, 3),
         _ => panic!(rt; "the budget was spent"),
     }
     search.set_budget(4);
-    let third = search.run(alloc, 3, &mut pick);
+    let third = search.run(3, &mut pick);
     match &third {
         Err(SearchStop::Budget(spent)) => assert_eq!(rt; *spent, 4),
         _ => panic!(rt; "the budget was spent"),
     }
     search.set_budget(1000);
-    let last = search.run(alloc, 1000, &mut pick);
+    let last = search.run(1000, &mut pick);
     assert!(rt; is_said(&last, &Said::Optimal((4, 0), 20)));
     assert_eq!(rt; search.units(), 17);
     assert_eq!(rt; search.model().whole().len(), 2);
@@ -158,12 +158,12 @@ fn no_units_change_nothing(rt: HostRuntime) -> Result<(), Fail> {
     let alloc = rt.alloc();
     let mut pick: Box<dyn Picker> = Box::new(alloc, Depth)?;
     let mut search = Search::begin(alloc, model(alloc, &models::ANY)?, 1000)?;
-    let given = search.run(alloc, 0, &mut pick);
+    let given = search.run(0, &mut pick);
     match &given {
         Ok(Progress::More) => {}
         _ => panic!(rt; "more was to be done"),
     }
-    let last = search.run(alloc, 1000, &mut pick);
+    let last = search.run(1000, &mut pick);
     assert!(rt; is_said(&last, &Said::Optimal((0, 1), 0)));
     Ok(())
 }

@@ -49,7 +49,7 @@ pub fn end_of(
 ) -> Result<Result<Progress, SearchStop>, Fail> {
     let mut pick = pick;
     let mut search = Search::begin(alloc, model(alloc, shape)?, 1000)?;
-    Ok(search.run(alloc, 2000, &mut pick))
+    Ok(search.run(2000, &mut pick))
 }
 
 fn ends(alloc: Global, shape: &Shape, pick: Box<dyn Picker>, said: &Said) -> Result<bool, Fail> {

@@ -27,7 +27,7 @@ fn tour_of(alloc: Global, plan: &[u8], other: &[u8], leaves: &[Cell]) -> Result<
     for leaf in leaves {
         set.add(*leaf)?;
     }
-    Ok(deps.tour(alloc, &set)?)
+    Ok(deps.tour(&set)?)
 }
 
 // Whether a set has all of some cells.
@@ -149,7 +149,7 @@ fn tours(rt: HostRuntime) -> Result<(), Fail> {
 fn circular_cells(rt: HostRuntime) -> Result<(), Fail> {
     let workbook = open_workbook(rt.alloc(), b"=A1,=1\n", b"1\n", b"")?;
     let deps = Deps::open(rt.alloc(), &workbook)?;
-    let circular = deps.circular(rt.alloc(), &CellSet::new(rt.alloc()))?;
+    let circular = deps.circular(&CellSet::new(rt.alloc()))?;
     assert!(rt; circular.has(A1) && !circular.has(B1));
     Ok(())
 }

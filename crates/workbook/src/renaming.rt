@@ -10,7 +10,6 @@ use crate::{EditFault, Workbook};
 use cell_refs::{Cell, NAMES, SheetId};
 use memory::Memory;
 use sheet_csv::Rows;
-use std::alloc::Global;
 
 impl Workbook {
     /// Gives a name a text, for a sheet or for the whole workbook, and answers the cells that say something else now. A name that is
@@ -47,10 +46,10 @@ impl Workbook {
     }
 
     /// The records of the names, in their order and as they are spelled.
-    pub fn name_rows(&self, alloc: Global) -> Result<Rows, Memory>
+    pub fn name_rows(&self) -> Result<Rows, Memory>
         ensures { IfOk result (λ rows. rows ≡ saved_names self.now.names) }
     {
-        self.names().rows(alloc)
+        self.names().rows(self.alloc())
     }
 
     // Why a name doesn't get a text, if it doesn't.
