@@ -71,6 +71,6 @@ impl Cells {
         requires { length self ≤ DECISIONS }
         ensures { result ≡ self }
     {
-        Adj::new(self.cells)
+        Adj::of_set(self.cells)
     }
 }

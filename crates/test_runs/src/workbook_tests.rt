@@ -177,7 +177,7 @@ fn put_all(
     if cells.len() > DECISIONS || texts.len() != cells.len() {
         return Err(Fail::new("the cells are not one for each text"));
     }
-    let adj = Adj::new(cells);
+    let adj = Adj::of_set(cells);
     all_inside(workbook, adj.cells())?;
     all_fields(&texts)?;
     Ok(workbook.set_all(&adj, &texts))

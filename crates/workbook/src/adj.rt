@@ -1,5 +1,5 @@
 // The cells to be decided.
-ghost use Rattle.std.specs.Prelude.{◌≡◌, ◌≤◌, IfOk, length, position};
+ghost use Rattle.std.specs.Prelude.{◌≡◌, ◌≤◌, ◌<◌, ◌++◌, [], ◌∷◌, IfOk, None, OnErr, OnOk, Some, length, position, slice_get};
 ghost use Rattle.std.specs.List.{IsDistinct};
 ghost use Rattle.cell_refs.specs.Cells.{is_same_cell};
 ghost use Rattle.workbook.specs.declared.adj.TheConstants.{DECISIONS};
@@ -7,6 +7,7 @@ ghost use Rattle.workbook.specs.declared.adj.TheConstants.{DECISIONS};
 use cell_refs::Cell;
 use indexmap::IndexSet;
 use memory::Memory;
+use std::alloc::Global;
 use std::marker::Model;
 
 /// How many cells may be decided.
@@ -35,8 +36,28 @@ impl Model for Adj {
 }
 
 impl Adj {
+    /// No cells.
+    pub fn new(alloc: Global) -> Adj
+        ensures { result ≡ [] }
+    {
+        Adj {
+            cells: IndexSet::new(alloc),
+        }
+    }
+
+    /// Puts a cell behind the others. On want of memory nothing has changed.
+    pub fn add(&mut self, cell: Cell) -> Result<(), Memory>
+        requires new { position (is_same_cell cell) self.old ≡ None }
+        requires room { length self.old < DECISIONS }
+        ensures ok { OnOk result (self.new ≡ self.old ++ cell ∷ []) }
+        ensures err { OnErr result (self.new ≡ self.old) }
+    {
+        self.cells.insert(cell)?;
+        Ok(())
+    }
+
     /// These cells, in the set's order.
-    pub fn new(cells: IndexSet<Cell>) -> Adj
+    pub fn of_set(cells: IndexSet<Cell>) -> Adj
         requires { length cells.keys ≤ DECISIONS }
         ensures { result ≡ cells.keys }
     {
@@ -48,6 +69,22 @@ impl Adj {
         ensures { result.now ≡ self.now }
     {
         self.cells.as_slice()
+    }
+
+    /// How many there are.
+    pub fn len(&self) -> usize
+        ensures count { result ≡ length self.now }
+        ensures few { result ≤ DECISIONS }
+    {
+        self.cells.len()
+    }
+
+    /// The cell at a place, from 0.
+    pub fn at(&self, place: usize) -> Cell
+        requires { place < length self.now }
+        ensures { slice_get self.now place ≡ Some result }
+    {
+        self.cells.as_slice()[place]
     }
 
     /// No cell is there twice.
