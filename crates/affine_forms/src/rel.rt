@@ -1,6 +1,6 @@
 // Relations of a number to 0.
 ghost use Rattle.std.specs.Prelude.{◌≡◌, ◌↔◌, IsTrue};
-ghost use Rattle.affine_forms.specs.Relations.{Holds, holds, mirrored, reversed};
+ghost use Rattle.affine_forms.specs.Relations.{Holds, holds, reversed};
 
 use frac128::Frac;
 
@@ -42,20 +42,6 @@ impl Rel {
             Rel::Ne => Rel::Eq,
             Rel::Ge => Rel::Lt,
             Rel::Gt => Rel::Le,
-        }
-    }
-
-    /// The relation with its sides exchanged, which is that of the number with its sign turned.
-    pub fn converse(self) -> Rel
-        ensures { result ≡ mirrored self }
-    {
-        match self {
-            Rel::Lt => Rel::Gt,
-            Rel::Le => Rel::Ge,
-            Rel::Eq => Rel::Eq,
-            Rel::Ne => Rel::Ne,
-            Rel::Ge => Rel::Le,
-            Rel::Gt => Rel::Lt,
         }
     }
 }

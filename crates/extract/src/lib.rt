@@ -11,6 +11,7 @@ mod steps;
 mod table;
 mod texts;
 
+pub use form_extraction::CellForm;
 pub use looked::looked_at;
 pub use place::form_of;
 pub use steps::Steps;

@@ -7,4 +7,5 @@ mod settle;
 mod stale;
 
 pub use extract::Steps;
+pub use form_needs::FormRefusal;
 pub use forms::Forms;

@@ -23,6 +23,7 @@ mod texts;
 pub use args::{operand_in, value_of};
 pub use choosing::if_test;
 pub use extremes::{max, min};
+pub use form_values::{Abs, AbsArg, AbsGrid};
 pub use information::{is_number, isblank, isnumber, n_};
 pub use logic::{and_, not_, or_};
 pub use number_tests::inverse;

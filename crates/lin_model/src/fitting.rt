@@ -79,6 +79,7 @@ fn objective_fits(goal: Option<Goal>, objective: &Form, n: u16) -> bool
 impl Conditions {
     /// Whether they make a statement with this objective and these sides: at most 512 decisions and 256 rows with two
     /// sides each, numbers of decisions, and forms in them; and where a row's left side is a decision, its form is that one.
+    /// It is the test for what `linear` requires of conditions that no statement gives, as those of tests.
     pub fn fits(&self, objective: &Form, sides: &[(Form, Form)]) -> bool
         ensures { IsTrue result ↔ Fits self.now objective.now sides.now }
     {

@@ -17,6 +17,7 @@ pub use bounds::BoundBox;
 pub use building::linear;
 pub use conditions::{Condition, Conditions};
 pub use kinds::{Goal, Relation};
+pub use linear_programs::Standard;
 pub use memory::Memory;
 pub use model::{FormRow, LinModel};
 pub use stop::BuildStop;

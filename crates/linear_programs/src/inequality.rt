@@ -43,7 +43,8 @@ impl Inequality {
     }
 }
 
-/// Whether each row has so many coefficients.
+/// Whether each row has so many coefficients: the test for what a program requires of rows that no model gives, as those of
+/// tests.
 pub fn are_regular(rows: &[Inequality], width: usize) -> bool
     ensures { IsTrue result ↔ All (λ r. length r.coefficients ≡ width) rows.now }
 {

@@ -76,7 +76,7 @@ impl Standard {
         }
     }
 
-    /// The program in which each column is a cell.
+    /// The program in which each column is a cell, as tests write programs down; those of models come from `lin_model`.
     pub fn of_single_columns(
         alloc: Global,
         objective: Vec<Frac>,

@@ -24,7 +24,7 @@ use std::collections::BTreeMap;
 use workbook::Workbook;
 
 /// The narrow value of a cell, if it has one, by one round more over all formulas than there are texts. It takes as many
-/// evaluations of each formula, and serves to compute what the definition says on small workbooks.
+/// evaluations of each formula, and serves to compute what the definition says on small workbooks: tests alone call it.
 pub fn known_in_rounds(
     alloc: Global,
     book: &Workbook,

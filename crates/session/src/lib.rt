@@ -8,4 +8,5 @@ mod saving;
 mod session;
 
 pub use commands::{Answer, Command, MOST_UNITS, Memory, SaveFile, line, units_in};
+pub use model_lines::ModelLines;
 pub use session::Session;

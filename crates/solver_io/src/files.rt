@@ -7,7 +7,7 @@ ghost use Rattle.solver_io.specs.Held.{IsPlaceOf, files_of, first_held, names_of
 
 use std::alloc::{AllocError, Global};
 
-/// Whether no two of the files have the same name, as a folder in memory needs.
+/// Whether no two of the files have the same name: the test for what a folder in memory requires, which tests make.
 pub fn has_distinct_names(files: &[(String, Vec<u8>)]) -> bool
     ensures { IsTrue result ↔ IsDistinct bytes_eq (names_of files.now) }
 {

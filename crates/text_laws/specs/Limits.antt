@@ -13,4 +13,5 @@ pub record LimitsAre : Type 0 where
   pub formulas : FORMULAS ≡ 16384
   pub names : NAMES ≡ 32768
   pub bytes_of_a_file : FILE_BYTES ≡ 16777216
-  pub decisions : DECISIONS ≡ 512
+  -- how many a list of cells to be decided holds; the names of a sheet may state 256 (statement_laws)
+  pub listed_decisions : DECISIONS ≡ 512

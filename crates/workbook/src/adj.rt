@@ -10,7 +10,7 @@ use memory::Memory;
 use std::alloc::Global;
 use std::marker::Model;
 
-/// How many cells may be decided.
+/// How many cells to be decided a list of them holds at most; the names of a sheet may state fewer.
 pub const DECISIONS: usize = 512;
 
 /// The cells to be decided, in their order, each once.
