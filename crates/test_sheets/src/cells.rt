@@ -1,74 +1,23 @@
-// Cells of the first sheet.
-use cell_refs::{Cell, SheetId};
+// Cells as texts: those of the sheet `other` with its name before them, a blank between two.
+use cell_refs::{Cell, SheetId, print_address};
+use std::alloc::Global;
+use std::test::Fail;
 
-pub(crate) const A1: Cell = Cell {
-    sheet: SheetId(0),
-    row: 0,
-    col: 0,
-};
+fn show_cell(cell: Cell, to: &mut String) -> Result<(), Fail> {
+    if !to.is_empty() {
+        to.push(' ')?;
+    }
+    if cell.sheet == SheetId(1) {
+        to.push_str("other!")?;
+    }
+    Ok(print_address(cell.row, cell.col, to)?)
+}
 
-pub(crate) const B1: Cell = Cell {
-    sheet: SheetId(0),
-    row: 0,
-    col: 1,
-};
-
-pub(crate) const C1: Cell = Cell {
-    sheet: SheetId(0),
-    row: 0,
-    col: 2,
-};
-
-pub(crate) const D1: Cell = Cell {
-    sheet: SheetId(0),
-    row: 0,
-    col: 3,
-};
-
-pub(crate) const E1: Cell = Cell {
-    sheet: SheetId(0),
-    row: 0,
-    col: 4,
-};
-
-pub(crate) const A2: Cell = Cell {
-    sheet: SheetId(0),
-    row: 1,
-    col: 0,
-};
-
-pub(crate) const B2: Cell = Cell {
-    sheet: SheetId(0),
-    row: 1,
-    col: 1,
-};
-
-pub(crate) const C2: Cell = Cell {
-    sheet: SheetId(0),
-    row: 1,
-    col: 2,
-};
-
-pub(crate) const A3: Cell = Cell {
-    sheet: SheetId(0),
-    row: 2,
-    col: 0,
-};
-
-pub(crate) const B3: Cell = Cell {
-    sheet: SheetId(0),
-    row: 2,
-    col: 1,
-};
-
-pub(crate) const C3: Cell = Cell {
-    sheet: SheetId(0),
-    row: 2,
-    col: 2,
-};
-
-pub(crate) const A4: Cell = Cell {
-    sheet: SheetId(0),
-    row: 3,
-    col: 0,
-};
+/// The text of some cells.
+pub(crate) fn cells_text(alloc: Global, cells: &[Cell]) -> Result<String, Fail> {
+    let mut text = String::new(alloc);
+    for cell in cells {
+        show_cell(*cell, &mut text)?;
+    }
+    Ok(text)
+}

@@ -221,7 +221,7 @@ const SHEETS: &str = "\
     ,,-3\r\"TRUE\", a ,\r\"\"\u{1},,-3\nTRUE, a \n";
 
 #[test]
-fn sheets_of_odd_texts(rt: HostRuntime) -> Result<(), Fail> {
+fn sheet_file_keeps_odd_texts(rt: HostRuntime) -> Result<(), Fail> {
     let alloc = rt.alloc();
     for case in SHEETS.split('\u{2}') {
         let (read, saved) = case.split_once('\u{1}').ok_or("a case is one text alone")?;

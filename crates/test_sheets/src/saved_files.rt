@@ -38,7 +38,7 @@ const SHEETS: &[(&[u8], &[u8], &str)] = &[
 ];
 
 #[test]
-fn records_of_a_sheet(rt: HostRuntime) -> Result<(), Fail> {
+fn sheet_rows_are_the_records_of_a_sheet(rt: HostRuntime) -> Result<(), Fail> {
     let alloc = rt.alloc();
     for (plan, other, want) in SHEETS {
         let book = open_workbook(alloc, plan, other, b"")?;
@@ -46,7 +46,7 @@ fn records_of_a_sheet(rt: HostRuntime) -> Result<(), Fail> {
             return Err(Fail::new("there is no sheet"));
         }
         let told = rows_text(alloc, &sheet_rows(alloc, &book, SheetId(0))?)?;
-        assert!(rt; told.as_str() == *want, "{}", told.as_str());
+        assert_eq!(rt; told.as_str(), *want);
     }
     Ok(())
 }
@@ -63,12 +63,12 @@ const NAMES: &[(&[u8], &[u8])] = &[
 ];
 
 #[test]
-fn bytes_of_the_names(rt: HostRuntime) -> Result<(), Fail> {
+fn names_file_is_the_bytes_of_the_names(rt: HostRuntime) -> Result<(), Fail> {
     let alloc = rt.alloc();
     for (names, want) in NAMES {
         let book = open_workbook(alloc, b"", b"", names)?;
         let bytes = names_file(alloc, &book)?;
-        assert!(rt; bytes.as_slice() == *want);
+        assert_eq!(rt; bytes.as_slice(), *want);
     }
     Ok(())
 }
