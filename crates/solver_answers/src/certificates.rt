@@ -1,0 +1,78 @@
+// Certificates of models of two decisions.
+
+use crate::numbers::{numbers, show};
+use crate::statements::model;
+use crate::stop::Stop;
+use lin_model::LinModel;
+use opt_certificate::{Claim, Tree, TreeNode, check};
+use std::alloc::Global;
+
+// A split is its decision, the floor, and the places of the lower and the upper part.
+fn split(shown: &str) -> Result<TreeNode, Stop> {
+    let (decision, others) = shown.split_once(' ').ok_or(Stop::Unread)?;
+    let (floor, others) = others.split_once(' ').ok_or(Stop::Unread)?;
+    let (lower, upper) = others.split_once(' ').ok_or(Stop::Unread)?;
+    Ok(TreeNode::Split(
+        decision.parse::<u16>()?,
+        floor.parse::<i128>()?,
+        lower.parse::<u32>()?,
+        upper.parse::<u32>()?,
+    ))
+}
+
+fn node(alloc: Global, shown: &str) -> Result<TreeNode, Stop> {
+    if let Some(multipliers) = shown.strip_prefix("best") {
+        return Ok(TreeNode::Best(numbers(alloc, multipliers)?));
+    }
+    if let Some(multipliers) = shown.strip_prefix("empty") {
+        return Ok(TreeNode::Empty(numbers(alloc, multipliers)?));
+    }
+    split(shown.strip_prefix("split ").ok_or(Stop::Unread)?)
+}
+
+fn tree(alloc: Global, shown: &str) -> Result<Option<Tree>, Stop> {
+    let mut nodes = Vec::new(alloc);
+    for one in shown.split(';') {
+        if !one.trim().is_empty() {
+            nodes.push(node(alloc, one.trim())?)?;
+        }
+    }
+    Ok(Tree::from_nodes(nodes))
+}
+
+fn claim(alloc: Global, shown: &str) -> Result<Claim, Stop> {
+    if let Some(point) = shown.strip_prefix("optimal") {
+        return Ok(Claim::Optimal(numbers(alloc, point)?));
+    }
+    let Some(ray) = shown.strip_prefix("unbounded") else {
+        return Ok(Claim::Infeasible);
+    };
+    let (point, direction) = ray.split_once("along").ok_or(Stop::Unread)?;
+    let point = numbers(alloc, point)?;
+    Ok(Claim::Unbounded(point, numbers(alloc, direction)?))
+}
+
+fn show_checked(
+    alloc: Global,
+    of: &LinModel,
+    tree: &Tree,
+    shown: &str,
+    to: &mut String,
+) -> Result<(), Stop> {
+    let claim = claim(alloc, shown)?;
+    if !claim.is_of_size(of.whole().len()) {
+        return Err(Stop::Unread);
+    }
+    Ok(show(&check(alloc, of, tree, &claim), to)?)
+}
+
+/// Appends whether a tree proves what is claimed of a statement: the three stand in the line with a comma between two.
+pub(crate) fn check_answer(alloc: Global, shown: &str, to: &mut String) -> Result<(), Stop> {
+    let (statement, others) = shown.split_once(", ").ok_or(Stop::Unread)?;
+    let (nodes, claimed) = others.split_once(", ").ok_or(Stop::Unread)?;
+    let of = model(alloc, 2, statement)?;
+    match tree(alloc, nodes)? {
+        Some(tree) => show_checked(alloc, &of, &tree, claimed, to),
+        None => Ok(to.push_str("no tree")?),
+    }
+}

@@ -1,0 +1,148 @@
+// Searches of models of two decisions, which may be cut and gone on with.
+
+ghost use Rattle.std.specs.Prelude.{◌≡◌, IfOk, false};
+
+use crate::numbers::show_numbers;
+use crate::pickers::picker;
+use crate::recording::Recording;
+use crate::statements::model;
+use crate::stop::Stop;
+use branch_bound::{Progress, Search, SearchStop};
+use memory::Memory;
+use node_pick::{Depth, Picker};
+use std::alloc::Global;
+use std::cell::RefCell;
+use std::rc::Rc;
+
+fn show_progress(progress: &Progress, to: &mut String) -> Result<(), Memory> {
+    match progress {
+        Progress::Optimal(point, value) => {
+            show_numbers("optimal", point, to)?;
+            show_numbers(" |", &[*value], to)
+        }
+        Progress::Infeasible => Ok(to.push_str("infeasible")?),
+        Progress::Unbounded(point, direction) => {
+            show_numbers("unbounded", point, to)?;
+            show_numbers(" |", direction, to)
+        }
+        Progress::More => Ok(to.push_str("more")?),
+    }
+}
+
+// Appends how far a search has come; of a wide pivot how long the path is, and how many variables are basic.
+fn show_given(given: &Result<Progress, SearchStop>, to: &mut String) -> Result<(), Memory> {
+    match given {
+        Ok(progress) => show_progress(progress, to),
+        Err(SearchStop::WidePivot(path, basis, _, _)) => {
+            Ok(write!(to, "wide after {} of {}", path.len(), basis.len())?)
+        }
+        Err(SearchStop::Budget(spent)) => Ok(write!(to, "budget {spent}")?),
+        Err(SearchStop::Memory) => Ok(to.push_str("memory")?),
+    }
+}
+
+// The search of a statement's model, which may spend 1000 units.
+fn search_of(alloc: Global, statement: &str) -> Result<Search, Stop>
+    ensures { IfOk result (λ s. s.answered ≡ false) }
+{
+    Ok(Search::begin(alloc, model(alloc, 2, statement)?, 1000)?)
+}
+
+// Runs the search for so many units, then for others again and again, and appends how it ends.
+fn run_to_end(
+    alloc: Global,
+    search: &mut Search,
+    pick: &mut Box<dyn Picker>,
+    first: u64,
+    others: u64,
+    to: &mut String,
+) -> Result<(), Memory>
+    requires { search.old.answered ≡ false }
+{
+    let (mut units, mut spent) = (first, 0u64);
+    for _ in 0..1000 {
+        let given = search.run(alloc, units, pick);
+        match &given {
+            Ok(Progress::More) => {}
+            _ => return show_given(&given, to),
+        }
+        spent = spent.saturating_add(units);
+        if search.units() != spent {
+            return Ok(to.push_str("other units")?);
+        }
+        units = others;
+    }
+    Ok(to.push_str("more")?)
+}
+
+/// Appends how a search ends that is cut after so many units, and then after others again and again. The picker's name, the two numbers
+/// and the statement stand in the line with a comma between two.
+pub(crate) fn search_answer(alloc: Global, shown: &str, to: &mut String) -> Result<(), Stop> {
+    let (name, shown) = shown.split_once(", ").ok_or(Stop::Unread)?;
+    let (first, shown) = shown.split_once(", ").ok_or(Stop::Unread)?;
+    let (others, statement) = shown.split_once(", ").ok_or(Stop::Unread)?;
+    let (first, others) = (first.parse::<u64>()?, others.parse::<u64>()?);
+    let mut pick = picker(alloc, name)?;
+    let mut search = search_of(alloc, statement)?;
+    Ok(run_to_end(alloc, &mut search, &mut pick, first, others, to)?)
+}
+
+// Sets the budget before each run, and appends how far the search has come after it.
+fn run_steps(
+    alloc: Global,
+    search: &mut Search,
+    pick: &mut Box<dyn Picker>,
+    steps: &str,
+    to: &mut String,
+) -> Result<(), Stop>
+    requires { search.old.answered ≡ false }
+{
+    for step in steps.split(' ') {
+        let (budget, units) = step.split_once(':').ok_or(Stop::Unread)?;
+        search.set_budget(u64::from(budget.parse::<u16>()?));
+        let given = search.run(alloc, units.parse::<u64>()?, pick);
+        show_given(&given, to)?;
+        to.push_str("; ")?;
+        match &given {
+            Ok(Progress::More) => {}
+            Err(SearchStop::Budget(_)) => {}
+            _ => return Ok(()),
+        }
+    }
+    Ok(())
+}
+
+/// Appends how far a search comes by steps, each a budget and units with a colon between; and where they are asked for, its units and its
+/// decisions at the end.
+pub(crate) fn step_answer(
+    alloc: Global,
+    call: &str,
+    shown: &str,
+    to: &mut String,
+) -> Result<(), Stop> {
+    let (steps, statement) = shown.split_once(", ").ok_or(Stop::Unread)?;
+    let mut pick = picker(alloc, "depth")?;
+    let mut search = search_of(alloc, statement)?;
+    run_steps(alloc, &mut search, &mut pick, steps, to)?;
+    if call == "spent" {
+        write!(to, "{} of {}", search.units(), search.model().whole().len())?;
+    }
+    Ok(())
+}
+
+/// Appends what the search of a statement tells and asks its picker, and how it ends.
+pub(crate) fn told_answer(alloc: Global, statement: &str, to: &mut String) -> Result<(), Stop> {
+    let heard = Rc::new(alloc, RefCell::new(String::new(alloc)))?;
+    let depth = Depth;
+    let recording = Recording {
+        heard: heard.clone()?,
+        depth,
+    };
+    let mut pick: Box<dyn Picker> = Box::new(alloc, recording)?;
+    let mut search = search_of(alloc, statement)?;
+    run_to_end(alloc, &mut search, &mut pick, 2000, 0, to)?;
+    if let Ok(heard) = heard.try_borrow() {
+        to.push_str(heard.as_str())?;
+    }
+    Ok(())
+}
