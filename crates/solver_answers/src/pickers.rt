@@ -65,11 +65,11 @@ impl Picker for Ends {
     ghost rule = { λ _. free };
 
     fn choose(&mut self, waiting: &[NodeInfo]) -> usize {
-        let place = if self.last { waiting.len() - 1 } else { 0 };
+        let last = self.last;
         if self.turns {
-            self.last = !self.last;
+            self.last = !last;
         }
-        place
+        if last { waiting.len() - 1 } else { 0 }
     }
 
     fn told(&mut self, _event: NodeEvent) {}

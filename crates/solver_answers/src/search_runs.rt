@@ -99,7 +99,7 @@ fn run_steps(
 {
     for step in steps.split(' ') {
         let (budget, units) = step.split_once(':').ok_or(Stop::Unread)?;
-        search.set_budget(u64::from(budget.parse::<u16>()?));
+        search.set_budget(budget.parse::<u16>()? as u64);
         let given = search.run(alloc, units.parse::<u64>()?, pick);
         show_given(&given, to)?;
         to.push_str("; ")?;

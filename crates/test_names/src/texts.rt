@@ -1,39 +1,31 @@
 // Statements and faults of names as texts. A cell is told as its sheet, row and column, from 0.
 use cell_refs::Cell;
 use lin_model::{Goal, Relation};
+use memory::Memory;
 use solver_names::{NamesFault, RowOf, Statement};
 use std::fmt::Write;
-use std::test::Fail;
 use workbook::Place;
 
-fn tell_cell(cell: Cell, to: &mut String) -> Result<(), Fail> {
-    write!(to, " {}.{}.{}", cell.sheet.0, cell.row, cell.col)?;
-    Ok(())
+fn tell_cell(cell: Cell, to: &mut String) -> Result<(), Memory> {
+    Ok(write!(to, " {}.{}.{}", cell.sheet.0, cell.row, cell.col)?)
 }
 
-fn tell_place(place: Place, to: &mut String) -> Result<(), Fail> {
+fn tell_place(place: Place, to: &mut String) -> Result<(), Memory> {
     match place {
         Place::Cell(cell) => tell_cell(cell, to),
-        Place::Side(k) => {
-            write!(to, " side {}", k)?;
-            Ok(())
-        }
+        Place::Side(k) => Ok(write!(to, " side {}", k)?),
     }
 }
 
-fn tell_goal(goal: Goal, to: &mut String) -> Result<(), Fail> {
-    match goal {
+fn tell_goal(goal: Goal, to: &mut String) -> Result<(), Memory> {
+    Ok(match goal {
         Goal::Max => to.push_str(" greatest")?,
         Goal::Min => to.push_str(" least")?,
-        Goal::Reach(value) => {
-            to.push_str(" reach ")?;
-            write!(to, "{}/{}", value.num(), value.den())?;
-        }
-    }
-    Ok(())
+        Goal::Reach(value) => write!(to, " reach {}/{}", value.num(), value.den())?,
+    })
 }
 
-fn tell_row(row: &RowOf, to: &mut String) -> Result<(), Fail> {
+fn tell_row(row: &RowOf, to: &mut String) -> Result<(), Memory> {
     write!(to, "; {}", row.k)?;
     tell_cell(row.left, to)?;
     match row.rel {
@@ -44,7 +36,7 @@ fn tell_row(row: &RowOf, to: &mut String) -> Result<(), Fail> {
     tell_place(row.right, to)
 }
 
-fn tell_numbers(word: &str, numbers: &[u16], to: &mut String) -> Result<(), Fail> {
+fn tell_numbers(word: &str, numbers: &[u16], to: &mut String) -> Result<(), Memory> {
     if numbers.is_empty() {
         return Ok(());
     }
@@ -55,7 +47,7 @@ fn tell_numbers(word: &str, numbers: &[u16], to: &mut String) -> Result<(), Fail
     Ok(())
 }
 
-pub(crate) fn tell_statement(s: &Statement, to: &mut String) -> Result<(), Fail> {
+pub(crate) fn tell_statement(s: &Statement, to: &mut String) -> Result<(), Memory> {
     to.push_str("decide")?;
     for cell in s.adj.cells() {
         tell_cell(*cell, to)?;
@@ -77,30 +69,20 @@ pub(crate) fn tell_statement(s: &Statement, to: &mut String) -> Result<(), Fail>
     Ok(())
 }
 
-pub(crate) fn tell_fault(fault: &NamesFault, to: &mut String) -> Result<(), Fail> {
-    match fault {
+pub(crate) fn tell_fault(fault: &NamesFault, to: &mut String) -> Result<(), Memory> {
+    Ok(match fault {
         NamesFault::NoNames => to.push_str("1")?,
-        NamesFault::BadReference(name) => {
-            to.push_str("2 ")?;
-            to.push_str(name.as_str())?;
-        }
-        NamesFault::MissingPart(k) => write!(to, "3 {}", *k)?,
-        NamesFault::BadRelation(k, code) => {
-            write!(to, "4 {} ", *k)?;
-            to.push_str(code.as_str())?;
-        }
-        NamesFault::SizeMismatch(k, left, right) => write!(to, "5 {} {} {}", *k, *left, *right)?,
+        NamesFault::BadReference(name) => write!(to, "2 {}", name.as_str())?,
+        NamesFault::MissingPart(k) => write!(to, "3 {k}")?,
+        NamesFault::BadRelation(k, code) => write!(to, "4 {k} {}", code.as_str())?,
+        NamesFault::SizeMismatch(k, left, right) => write!(to, "5 {k} {left} {right}")?,
         NamesFault::NotDecision(k, cell) => {
-            write!(to, "6 {}", *k)?;
+            write!(to, "6 {k}")?;
             tell_cell(*cell, to)?;
         }
-        NamesFault::BadOption(name) => {
-            to.push_str("7 ")?;
-            to.push_str(name.as_str())?;
-        }
-        NamesFault::TooManyDecisions(count) => write!(to, "8 {}", *count)?,
-        NamesFault::TooManyRows(count) => write!(to, "9 {}", *count)?,
+        NamesFault::BadOption(name) => write!(to, "7 {}", name.as_str())?,
+        NamesFault::TooManyDecisions(count) => write!(to, "8 {count}")?,
+        NamesFault::TooManyRows(count) => write!(to, "9 {count}")?,
         NamesFault::Memory => to.push_str("memory")?,
-    }
-    Ok(())
+    })
 }

@@ -3,6 +3,7 @@
 use crate::books::open_workbook;
 use cell_refs::{Cell, SheetId};
 use dep_table::Deps;
+use memory::Memory;
 use recalc::known_in_rounds;
 use sheet_model::Value;
 use std::alloc::Global;
@@ -23,15 +24,14 @@ fn value_by_definition(alloc: Global, workbook: &Workbook) -> Result<Option<Valu
 }
 
 // A value as a text, or none.
-fn show_value(value: Option<Value>, to: &mut String) -> Result<(), Fail> {
-    match value {
+fn show_value(value: Option<Value>, to: &mut String) -> Result<(), Memory> {
+    Ok(match value {
         Some(Value::Number(number)) => number.write(to)?,
         Some(Value::Logical(true)) => to.push_str("TRUE")?,
         Some(Value::Error(kind)) => to.push_str(kind.text())?,
         Some(_) => to.push_str("another value")?,
         None => to.push_str("none")?,
-    }
-    Ok(())
+    })
 }
 
 // What the first sheet has, and the value of its first cell.

@@ -2,13 +2,14 @@
 
 use crate::books::open_workbook;
 use cell_refs::SheetId;
+use memory::Memory;
 use saved_sheets::{names_file, sheet_rows};
 use sheet_csv::Rows;
 use std::alloc::Global;
 use std::test::Fail;
 
 // The fields of each record, with a bar behind each, and a slash behind each record.
-fn rows_text(alloc: Global, rows: &Rows) -> Result<String, Fail> {
+fn rows_text(alloc: Global, rows: &Rows) -> Result<String, Memory> {
     let mut told = String::new(alloc);
     for place in 0..rows.len() {
         let row = rows.at(place);

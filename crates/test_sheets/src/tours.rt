@@ -4,6 +4,7 @@ use crate::books::open_workbook;
 use crate::cells::cells_text;
 use cell_refs::{Cell, SheetId};
 use dep_table::{CellSet, Deps, Tour};
+use memory::Memory;
 use std::alloc::Global;
 use std::test::Fail;
 
@@ -108,7 +109,7 @@ fn tour_of(alloc: Global, plan: &str, other: &str, leaf: Option<Cell>) -> Result
 }
 
 // The text of a set's cells.
-fn set_text(alloc: Global, set: &CellSet) -> Result<String, Fail> {
+fn set_text(alloc: Global, set: &CellSet) -> Result<String, Memory> {
     cells_text(alloc, &set.cells(alloc)?)
 }
 
