@@ -1,9 +1,11 @@
 // Runs over files and scripts of as many bytes as there may be, over as many files of sheets, and over as many names; and over more.
 use crate::long_texts::{EMPTY, Long, bytes};
-use crate::runs::{NEVER, ran};
+use crate::runs::ran;
 use opensolver_cli::Status;
 use std::alloc::Global;
 use std::test::Fail;
+
+const WORDS: &str = "--names names.csv plan.csv";
 
 // So many times the byte.
 fn bytes_of(alloc: Global, byte: u8, count: usize) -> Result<Vec<u8>, Fail> {
@@ -12,42 +14,49 @@ fn bytes_of(alloc: Global, byte: u8, count: usize) -> Result<Vec<u8>, Fail> {
     Ok(bytes)
 }
 
-// How a run ends whose file of names and whose script have so many bytes, and what it prints. Of sheets there is this file alone.
-fn ran_over_bytes(
-    alloc: Global,
-    names: usize,
-    sheet: &str,
-    script: usize,
-) -> Result<(Status, Vec<u8>), Fail> {
-    let names = bytes_of(alloc, b' ', names)?;
-    let script = bytes_of(alloc, b'\xff', script)?;
-    let files = [("names.csv", names.as_slice()), (sheet, b"".as_slice())];
-    let line = "--names names.csv plan.csv";
-    ran(alloc, line, &files, &script, NEVER)
-}
+// How many bytes the file of names has, the sheet that is there, how many bytes the script has, how the run ends, and what it prints.
+type File<'a> = (usize, &'a str, usize, Status, &'a str);
+
+const SIZES: &[File<'static>] = &[
+    (
+        16777216,
+        "more.csv",
+        0,
+        Status::BadInput,
+        "bad-input plan.csv missing\n",
+    ),
+    (
+        16777217,
+        "more.csv",
+        0,
+        Status::Limit,
+        "limit file 16777216\n",
+    ),
+    (
+        0,
+        "plan.csv",
+        16777216,
+        Status::BadInput,
+        "bad-input script not-utf8 0\n",
+    ),
+    (
+        0,
+        "plan.csv",
+        16777217,
+        Status::Limit,
+        "limit script 16777216\n",
+    ),
+];
 
 #[test]
-fn files_of_as_many_bytes_as_there_may_be(rt: HostRuntime) -> Result<(), Fail> {
-    for (names, end, want) in [
-        (16777216, Status::BadInput, "bad-input plan.csv missing\n"),
-        (16777217, Status::Limit, "limit file 16777216\n"),
-    ] {
-        let (status, printed) = ran_over_bytes(rt.alloc(), names, "more.csv", 0)?;
-        assert_eq!(rt; printed.as_slice(), want.as_bytes());
-        assert!(rt; status == end);
-    }
-    Ok(())
-}
-
-#[test]
-fn scripts_of_as_many_bytes_as_there_may_be(rt: HostRuntime) -> Result<(), Fail> {
-    for (script, end, want) in [
-        (16777216, Status::BadInput, "bad-input script not-utf8 0\n"),
-        (16777217, Status::Limit, "limit script 16777216\n"),
-    ] {
-        let (status, printed) = ran_over_bytes(rt.alloc(), 0, "plan.csv", script)?;
-        assert_eq!(rt; printed.as_slice(), want.as_bytes());
-        assert!(rt; status == end);
+fn files_and_scripts_of_as_many_bytes_as_there_may_be(rt: HostRuntime) -> Result<(), Fail> {
+    for (names, sheet, script, end, want) in SIZES {
+        let names = bytes_of(rt.alloc(), b' ', *names)?;
+        let script = bytes_of(rt.alloc(), b'\xff', *script)?;
+        let files = [("names.csv", names.as_slice()), (*sheet, b"".as_slice())];
+        let (status, printed) = ran(rt.alloc(), WORDS, &files, &script)?;
+        assert_eq!(rt; printed.as_str(), *want);
+        assert_eq!(rt; status, *end, "{want}");
     }
     Ok(())
 }
@@ -106,10 +115,10 @@ fn as_many_sheets_as_there_may_be(rt: HostRuntime) -> Result<(), Fail> {
         }
     }
     let script = b"set,d8!A1025,x\nset,d8!A1024,x\nset,d8!A1,\nset,d8!A1025,x\nset,d8!A1,x\n";
-    let want = b"refused too-many-cells\nok\nok\nok\nrefused too-many-cells\n";
-    let (status, printed) = ran(alloc, line.as_str(), &files, script, NEVER)?;
-    assert_eq!(rt; printed.as_slice(), want.as_slice());
-    assert!(rt; status == Status::Refused);
+    let want = "refused too-many-cells\nok\nok\nok\nrefused too-many-cells\n";
+    let (status, printed) = ran(alloc, line.as_str(), &files, script)?;
+    assert_eq!(rt; printed.as_str(), want);
+    assert_eq!(rt; status, Status::Refused);
     Ok(())
 }
 
@@ -161,10 +170,9 @@ fn files_of_names_at_their_limits(rt: HostRuntime) -> Result<(), Fail> {
             ("names.csv", names.as_slice()),
             ("plan.csv", b"".as_slice()),
         ];
-        let line = "--names names.csv plan.csv";
-        let (status, printed) = ran(rt.alloc(), line, &files, script, NEVER)?;
-        assert_eq!(rt; printed.as_slice(), want.as_bytes());
-        assert!(rt; status == *end);
+        let (status, printed) = ran(rt.alloc(), WORDS, &files, script)?;
+        assert_eq!(rt; printed.as_str(), *want);
+        assert_eq!(rt; status, *end, "{want}");
     }
     Ok(())
 }

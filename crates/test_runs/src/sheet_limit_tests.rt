@@ -1,61 +1,86 @@
-// Runs over sheets that hold as much as they may, and one thing more, as they are read and by sets.
+// Runs over sheets that hold as much as they may, and one thing more, as they are read, by sets and by solves.
 use crate::long_texts::{EMPTY, Long, bytes};
-use crate::runs::{NEVER, ran};
+use crate::runs::ran;
 use opensolver_cli::Status;
 use std::test::Fail;
 
 const WORDS: &str = "--names names.csv plan.csv other.csv";
 
-// The sheets `plan` and `other`, the script, how the run ends, and what it prints.
-type Case<'a> = (Long<'a>, &'a [u8], Long<'a>, Status, &'a str);
+// What the names say, the sheets `plan` and `other`, the script, how the run ends, and what it prints.
+type Case<'a> = (&'a [u8], Long<'a>, &'a [u8], Long<'a>, Status, &'a str);
 
-const SHEETS: &[Case<'static>] = &[
-    (("1\n", "", 0, "", 4096), b"", EMPTY, Status::Done, ""),
+const CASES: &[Case<'static>] = &[
+    // one sheet
+    (b"", ("1\n", "", 0, "", 4096), b"", EMPTY, Status::Done, ""),
     (
+        b"",
         ("1\n", "", 0, "", 4097),
         b"",
         EMPTY,
         Status::Limit,
         "limit rows 4096\n",
     ),
-    (("", ",", 255, "", 1), b"", EMPTY, Status::Done, ""),
+    (b"", ("", ",", 255, "", 1), b"", EMPTY, Status::Done, ""),
     (
+        b"",
         ("", ",", 256, "", 1),
         b"",
         EMPTY,
         Status::Limit,
         "limit columns 256\n",
     ),
-    (("", "x", 8192, "", 1), b"", EMPTY, Status::Done, ""),
+    (b"", ("", "x", 8192, "", 1), b"", EMPTY, Status::Done, ""),
     (
+        b"",
         ("", "x", 8193, "", 1),
         b"",
         EMPTY,
         Status::Limit,
         "limit field 8192\n",
     ),
-    (("1", ",1", 16, "\n", 3855), b"", EMPTY, Status::Done, ""),
     (
+        b"",
+        ("1", ",1", 16, "\n", 3855),
+        b"",
+        EMPTY,
+        Status::Done,
+        "",
+    ),
+    (
+        b"",
         ("1", ",1", 16, "\n", 3856),
         b"",
         EMPTY,
         Status::Limit,
         "limit cells 65536\n",
     ),
-    (("=1", ",=1", 4, "\n", 3276), b"", EMPTY, Status::Done, ""),
     (
+        b"",
+        ("=1", ",=1", 4, "\n", 3276),
+        b"",
+        EMPTY,
+        Status::Done,
+        "",
+    ),
+    (
+        b"",
         ("=1", ",=1", 4, "\n", 3277),
         b"",
         EMPTY,
         Status::Limit,
         "limit formulas 16384\n",
     ),
-];
-
-// What two sheets may hold together.
-const TWO_SHEETS: &[Case<'static>] = &[
-    (("1", ",1", 15, "\n", 4096), b"", EMPTY, Status::Done, ""),
+    // what two sheets may hold together
     (
+        b"",
+        ("1", ",1", 15, "\n", 4096),
+        b"",
+        EMPTY,
+        Status::Done,
+        "",
+    ),
+    (
+        b"",
         ("1", ",1", 15, "\n", 4096),
         b"1",
         EMPTY,
@@ -63,14 +88,23 @@ const TWO_SHEETS: &[Case<'static>] = &[
         "limit cells 65536\n",
     ),
     (
+        b"",
         ("=1", ",=1", 15, "\n", 4096),
         b"=1",
         EMPTY,
         Status::Limit,
         "limit cells 65536\n",
     ),
-    (("=1", ",=1", 3, "\n", 4096), b"1", EMPTY, Status::Done, ""),
     (
+        b"",
+        ("=1", ",=1", 3, "\n", 4096),
+        b"1",
+        EMPTY,
+        Status::Done,
+        "",
+    ),
+    (
+        b"",
         ("=1", ",=1", 3, "\n", 4096),
         b"=1",
         EMPTY,
@@ -78,17 +112,16 @@ const TWO_SHEETS: &[Case<'static>] = &[
         "limit formulas 16384\n",
     ),
     (
+        b"",
         ("of:=1", ",of:=1", 3, "\n", 4096),
         b"of:=1",
         EMPTY,
         Status::Limit,
         "limit formulas 16384\n",
     ),
-];
-
-// Sets over sheets that are nearly full.
-const EDITS: &[Case<'static>] = &[
+    // sets over sheets that are nearly full
     (
+        b"",
         ("1", ",1", 216, "\n", 302),
         b"1\n7\n",
         (
@@ -102,6 +135,7 @@ const EDITS: &[Case<'static>] = &[
         "refused too-many-cells\nok\nok\nok\nok\nrefused too-many-cells\nrefused out-of-sheet\n",
     ),
     (
+        b"",
         ("=1", ",=1", 3, "\n", 4096),
         b"1\n7\n",
         (
@@ -115,6 +149,7 @@ const EDITS: &[Case<'static>] = &[
         "refused too-many-formulas\nrefused too-many-formulas\nok\nok\nok\n",
     ),
     (
+        b"",
         ("1\n5\n", "", 0, "", 1),
         b"1\n7\n",
         ("set,plan!A2,", "x", 8192, "\n", 1),
@@ -122,61 +157,58 @@ const EDITS: &[Case<'static>] = &[
         "ok\n",
     ),
     (
+        b"",
         ("1\n5\n", "", 0, "", 1),
         b"1\n7\n",
         ("set,plan!B2,", "x", 8193, "\nshow,plan!B2\n", 1),
         Status::Refused,
         "refused field-too-long\nempty\n",
     ),
+    // There is room for one text more, or for one formula more: the second cell to be decided has none, and neither is written. Where
+    // one more is free, both are.
+    (
+        b"other,solver_adj,$A$2:$B$2\nother,solver_opt,$A$1\nother,solver_typ,1\nother,solver_num,1\nother,solver_lhs1,$A$2:$B$2\nother,solver_rel1,1\nother,solver_rhs1,1\n",
+        ("1", ",1", 216, "\n", 302),
+        b"=A2+B2\n",
+        (
+            "solve,other\nshow,other!A2\nshow,other!A1\nclear,plan!A1\nsolve,other\nshow,other!B2\n",
+            "",
+            0,
+            "",
+            1,
+        ),
+        Status::Refused,
+        "refused no-room other!B2\nempty\nnumber 0\nok\noptimal 2\nnumber 1\n",
+    ),
+    (
+        b"other,solver_adj,$A$2:$B$2\nother,solver_opt,$A$1\nother,solver_typ,1\nother,solver_num,2\nother,solver_lhs1,$A$2\nother,solver_rel1,1\nother,solver_rhs1,=7/3\nother,solver_lhs2,$B$2\nother,solver_rel2,1\nother,solver_rhs2,=7/3\n",
+        ("=1", ",=1", 59, "\n", 273),
+        b"=A2+B2,=1,=1\n",
+        (
+            "solve,other\nshow,other!A2\nshow,other!A1\nclear,plan!A1\nsolve,other\nshow,other!B2\n",
+            "",
+            0,
+            "",
+            1,
+        ),
+        Status::Refused,
+        "refused no-room other!B2\nempty\nnumber 0\nok\noptimal 14/3\nnumber 7/3\n",
+    ),
 ];
 
 #[test]
 fn sheets_at_their_limits(rt: HostRuntime) -> Result<(), Fail> {
-    for (plan, other, script, end, want) in SHEETS {
+    for (names, plan, other, script, end, want) in CASES {
         let plan = bytes(rt.alloc(), plan)?;
         let script = bytes(rt.alloc(), script)?;
         let files = [
-            ("names.csv", b"".as_slice()),
+            ("names.csv", *names),
             ("plan.csv", plan.as_slice()),
             ("other.csv", *other),
         ];
-        let (status, printed) = ran(rt.alloc(), WORDS, &files, &script, NEVER)?;
-        assert_eq!(rt; printed.as_slice(), want.as_bytes());
-        assert!(rt; status == *end);
-    }
-    Ok(())
-}
-
-#[test]
-fn two_sheets_at_their_limits(rt: HostRuntime) -> Result<(), Fail> {
-    for (plan, other, script, end, want) in TWO_SHEETS {
-        let plan = bytes(rt.alloc(), plan)?;
-        let script = bytes(rt.alloc(), script)?;
-        let files = [
-            ("names.csv", b"".as_slice()),
-            ("plan.csv", plan.as_slice()),
-            ("other.csv", *other),
-        ];
-        let (status, printed) = ran(rt.alloc(), WORDS, &files, &script, NEVER)?;
-        assert_eq!(rt; printed.as_slice(), want.as_bytes());
-        assert!(rt; status == *end);
-    }
-    Ok(())
-}
-
-#[test]
-fn edits_at_the_limits_of_sheets(rt: HostRuntime) -> Result<(), Fail> {
-    for (plan, other, script, end, want) in EDITS {
-        let plan = bytes(rt.alloc(), plan)?;
-        let script = bytes(rt.alloc(), script)?;
-        let files = [
-            ("names.csv", b"".as_slice()),
-            ("plan.csv", plan.as_slice()),
-            ("other.csv", *other),
-        ];
-        let (status, printed) = ran(rt.alloc(), WORDS, &files, &script, NEVER)?;
-        assert_eq!(rt; printed.as_slice(), want.as_bytes());
-        assert!(rt; status == *end);
+        let (status, printed) = ran(rt.alloc(), WORDS, &files, &script)?;
+        assert_eq!(rt; printed.as_str(), *want);
+        assert_eq!(rt; status, *end, "{want}");
     }
     Ok(())
 }
