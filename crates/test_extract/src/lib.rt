@@ -1,4 +1,4 @@
-//! Tests of parts of formulas and of tables of forms, of what no program prints; the forms that one does print stand in `form_answers`.
+//! Tests of parts of formulas and of tables of forms, of what no program prints; the forms that one does print stand in `answers`.
 //! They stand here so that no layer is proved twice.
 #![tactic(auto)]
 
