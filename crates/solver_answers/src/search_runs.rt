@@ -50,7 +50,6 @@ fn search_of(alloc: Global, statement: &str) -> Result<Search, Stop>
 
 // Runs the search for so many units, then for others again and again, and appends how it ends.
 fn run_to_end(
-    alloc: Global,
     search: &mut Search,
     pick: &mut Box<dyn Picker>,
     first: u64,
@@ -61,7 +60,7 @@ fn run_to_end(
 {
     let (mut units, mut spent) = (first, 0u64);
     for _ in 0..1000 {
-        let given = search.run(alloc, units, pick);
+        let given = search.run(units, pick);
         match &given {
             Ok(Progress::More) => {}
             _ => return show_given(&given, to),
@@ -84,12 +83,11 @@ pub(crate) fn search_answer(alloc: Global, shown: &str, to: &mut String) -> Resu
     let (first, others) = (first.parse::<u64>()?, others.parse::<u64>()?);
     let mut pick = picker(alloc, name)?;
     let mut search = search_of(alloc, statement)?;
-    Ok(run_to_end(alloc, &mut search, &mut pick, first, others, to)?)
+    Ok(run_to_end(&mut search, &mut pick, first, others, to)?)
 }
 
 // Sets the budget before each run, and appends how far the search has come after it.
 fn run_steps(
-    alloc: Global,
     search: &mut Search,
     pick: &mut Box<dyn Picker>,
     steps: &str,
@@ -100,7 +98,7 @@ fn run_steps(
     for step in steps.split(' ') {
         let (budget, units) = step.split_once(':').ok_or(Stop::Unread)?;
         search.set_budget(budget.parse::<u16>()? as u64);
-        let given = search.run(alloc, units.parse::<u64>()?, pick);
+        let given = search.run(units.parse::<u64>()?, pick);
         show_given(&given, to)?;
         to.push_str("; ")?;
         match &given {
@@ -123,7 +121,7 @@ pub(crate) fn step_answer(
     let (steps, statement) = shown.split_once(", ").ok_or(Stop::Unread)?;
     let mut pick = picker(alloc, "depth")?;
     let mut search = search_of(alloc, statement)?;
-    run_steps(alloc, &mut search, &mut pick, steps, to)?;
+    run_steps(&mut search, &mut pick, steps, to)?;
     if call == "spent" {
         write!(to, "{} of {}", search.units(), search.model().whole().len())?;
     }
@@ -140,7 +138,7 @@ pub(crate) fn told_answer(alloc: Global, statement: &str, to: &mut String) -> Re
     };
     let mut pick: Box<dyn Picker> = Box::new(alloc, recording)?;
     let mut search = search_of(alloc, statement)?;
-    run_to_end(alloc, &mut search, &mut pick, 2000, 0, to)?;
+    run_to_end(&mut search, &mut pick, 2000, 0, to)?;
     if let Ok(heard) = heard.try_borrow() {
         to.push_str(heard.as_str())?;
     }

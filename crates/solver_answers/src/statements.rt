@@ -22,7 +22,7 @@ fn form(alloc: Global, shown: &str) -> Result<Form, Stop> {
     let mut form = Form::constant(alloc, Frac::zero());
     let mut place: u16 = 0;
     for one in shown.split_whitespace() {
-        form.add_product(alloc, number(one)?, &unit(alloc, place))?;
+        form.add_product(number(one)?, &unit(alloc, place))?;
         place = place.saturating_add(1);
     }
     Ok(form)
@@ -71,8 +71,8 @@ fn add_rows(
 fn goal(shown: &str) -> Result<Option<Goal>, Stop> {
     Ok(match shown {
         "any" => None,
-        "max" => Some(Goal::Greatest),
-        "min" => Some(Goal::Least),
+        "max" => Some(Goal::Max),
+        "min" => Some(Goal::Min),
         _ => Some(Goal::Reach(number(shown)?)),
     })
 }

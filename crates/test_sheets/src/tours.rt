@@ -105,7 +105,7 @@ fn tour_of(alloc: Global, plan: &str, other: &str, leaf: Option<Cell>) -> Result
     if let Some(leaf) = leaf {
         leaves.add(leaf)?;
     }
-    Ok(deps.tour(alloc, &leaves)?)
+    Ok(deps.tour(&leaves)?)
 }
 
 // The text of a set's cells.
@@ -136,7 +136,7 @@ fn tour_gives_circular_cells_and_an_order(rt: HostRuntime) -> Result<(), Fail> {
 fn circular_gives_the_circular_cells(rt: HostRuntime) -> Result<(), Fail> {
     let workbook = open_workbook(rt.alloc(), b"=A1,=1\n", b"1\n", b"")?;
     let deps = Deps::open(rt.alloc(), &workbook)?;
-    let circular = deps.circular(rt.alloc(), &CellSet::new(rt.alloc()))?;
+    let circular = deps.circular(&CellSet::new(rt.alloc()))?;
     assert_eq!(rt; set_text(rt.alloc(), &circular)?.as_str(), "A1");
     Ok(())
 }
