@@ -13,7 +13,8 @@ mod terms;
 
 pub use form::Form;
 pub use laws::{
-    coefficient_laws, equality_laws, form_laws, movement_laws, multiple_laws, narrow_laws, relation_laws, worth_laws,
+    coefficient_laws, equality_laws, form_laws, movement_laws, multiple_laws, narrow_laws,
+    relation_laws, worth_laws,
 };
 pub use memory::Memory;
 pub use rel::Rel;
