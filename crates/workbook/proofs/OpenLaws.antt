@@ -1,7 +1,7 @@
 -- Opening a workbook, step by step.
 use Rattle.std.proofs.Common.{◌≡◌, ◌+◌, ◌≤◌, ◌<◌, ℕ, suc, Bool, true, false, cond, List, [], ◌∷◌, ◌++◌, length, Option, Some, None, Err, refl, sym, ap, subst, ◌∙◌, arith}
 use Rattle.std.specs.Prelude.{◌||◌, if◌then◌else◌, All, not, position, nat_lt}
-use Rattle.std.specs.List.{position_or_len}
+use Rattle.std.specs.List.{list_any, position_or_len}
 use Rattle.std.specs.FinMap.{empty, entries, from_entries, len-empty, len-entries}
 use Rattle.std.proofs.lemmas.Bool.Decides.{nat_tests}
 use Rattle.std.proofs.lemmas.List.Elements.{All-append, All-cons, All-head, All-nil, All-push, All-tail}
@@ -47,6 +47,11 @@ nowhere p x xs e = by_case (p x) refl (is_past (position_or_len p (x ∷ xs)) (s
     by_case false h k =
         let later : position_or_len p (x ∷ xs) ≡ 1 + position_or_len p xs = ap (λ b. cond (not b) (1 + position_or_len p xs) 0) h in
         (h, is_none (position_or_len p xs) (length xs) (omega arith))
+
+-- where no place passes, no element does
+pub none_passes : {A : Type 0} (p : A → Bool) (xs : List A) → position p xs ≡ None → list_any p xs ≡ false
+none_passes p [] e = refl
+none_passes p (x ∷ xs) e = let k = nowhere p x xs e in ap (λ b. b || list_any p xs) k.0 ∙ none_passes p xs k.1
 
 not_more : (m n : ℕ) → nat_lt m n ≡ false → n ≤ m
 not_more m n h = grind (arith, nat_tests)
