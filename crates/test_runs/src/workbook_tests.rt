@@ -85,7 +85,8 @@ fn names_and_what_stands_for_them(rt: HostRuntime) -> Result<(), Fail> {
     assert_eq!(rt; set(&mut workbook, cell, "=rate*4")?, None);
     let (number, span) = left_number(&workbook, cell)?;
     assert_eq!(rt; Some(number), Frac::new(1, 2));
-    assert_eq!(rt; (span.start, span.end), (1, 5));
+    assert_eq!(rt; span.start, 1);
+    assert_eq!(rt; span.end, 5);
     Ok(())
 }
 
