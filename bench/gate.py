@@ -29,11 +29,19 @@ def kind_of(words, folder):
     return "tests" if "--test" in words else "proof"
 
 
-def read(pid):
-    """Gives of a process its crate, what it does, its processor seconds and its memory in GB; None where it is not the prover's."""
+def is_below(pid, top):
+    """Whether the process was begun by the process top, or by one that it began."""
+    while pid not in ("0", top):
+        with open(f"/proc/{pid}/stat", encoding="utf-8") as it:
+            pid = it.read().rpartition(")")[2].split()[1]
+    return pid == top
+
+
+def read(pid, top):
+    """Gives of a process its crate, what it does, its processor seconds and its memory in GB; None where it is not the prover's below top."""
     with open(f"/proc/{pid}/cmdline", "rb") as it:
         words = it.read().decode(errors="replace").split("\0")
-    if not words[0].endswith("/bin/rattle") or "--crate-name" not in words:
+    if not words[0].endswith("/bin/rattle") or "--crate-name" not in words or not is_below(pid, top):
         return None
     with open(f"/proc/{pid}/stat", encoding="utf-8") as it:
         fields = it.read().rpartition(")")[2].split()
@@ -50,7 +58,7 @@ def watch(run):
     while run.poll() is None:
         for pid in filter(str.isdigit, os.listdir("/proc")):
             try:
-                found = read(pid)
+                found = read(pid, str(run.pid))
             except (OSError, IndexError, ValueError):
                 continue
             if found:
