@@ -3,8 +3,8 @@
 
 usage: run.py PROGRAM [EXAMPLE..]
 
-Each example is a folder with the sheets, the names and the script, what the program must print (expected.txt) and, where it saves,
-what the files must hold then (after/). An example runs on a copy, so that its files stay as they are.
+Each example is a folder, at any depth, with the sheets, the names and the script, what the program must print (expected.txt) and, where
+it saves, what the files must hold then (after/). An example runs on a copy, so that its files stay as they are.
 """
 import os
 import shutil
@@ -43,9 +43,14 @@ def faults(program, name):
                 yield f"{file} holds something else after the run"
 
 
+def all_examples():
+    """The folders that have a script, by their paths from here."""
+    return sorted(os.path.relpath(folder, HERE) for folder, _, files in os.walk(HERE) if "script.csv" in files)
+
+
 def main():
     program = os.path.abspath(sys.argv[1])
-    names = sys.argv[2:] or sorted(name for name in os.listdir(HERE) if os.path.isdir(os.path.join(HERE, name)))
+    names = sys.argv[2:] or all_examples()
     failed = 0
     for name in names:
         found = list(faults(program, name))

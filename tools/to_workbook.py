@@ -1,0 +1,66 @@
+#!/usr/bin/env python3
+"""The decision cells of the CSV files, put back into the workbook that they came from; all other cells of it stay as they are.
+
+usage: to_workbook.py BOOK.xlsx|BOOK.ods FOLDER OUT.xlsx|OUT.ods
+
+FOLDER is what from_workbook.py made of BOOK, after `save`: the decision cells that names.csv there states are written into a copy
+of BOOK, OUT, where they differ. A fraction such as =7/3 is written as that formula. The results that a workbook keeps beside its
+formulas are left out of OUT, so that the spreadsheet program computes them when it opens OUT. Prints each cell that is written;
+what the library doesn't keep of the workbook is told on standard error. Ends with 0 where OUT is written, and else with 1 and one line.
+"""
+import os
+import sys
+
+import workbooks
+from sheet_files import NUMERAL, cell_name, decision_cells, is_fraction, names_by_sheet, read_records
+
+
+def read_sheets(folder):
+    """The records of each CSV file of the folder, by the sheet's name in small letters."""
+    return {file[:-4].lower(): read_records(os.path.join(folder, file)) for file in sorted(os.listdir(folder)) if file.endswith(".csv")}
+
+
+def text_at(rows, row, column):
+    return rows[row][column] if row < len(rows) and column < len(rows[row]) else ""
+
+
+def changed(sheets, folder):
+    """The decision cells whose texts in the folder are others than in the workbook, with these texts."""
+    solved, before = read_sheets(folder), {sheet.lower(): rows for sheet, rows in sheets.items()}
+    texts = {}
+    for sheet, names in names_by_sheet(solved.pop("names", [])).items():
+        for cell in decision_cells(names, sheet) if "solver_adj" in names else []:
+            where, row, column = cell[0].lower(), *cell[1:]
+            if where not in solved or where not in before:
+                sys.exit(f"{cell_name(*cell)}: the folder or the workbook has no such sheet")
+            text = text_at(solved[where], row, column)
+            if text != text_at(before[where], row, column):
+                if text and not NUMERAL.match(text) and not is_fraction(text):
+                    sys.exit(f"{cell_name(*cell)} holds {text}, which is no number")
+                texts[where, row, column] = text
+    return texts
+
+
+def main(book, folder, out):
+    if workbooks.ending(book) != workbooks.ending(out) or os.path.abspath(book) == os.path.abspath(out):
+        sys.exit("OUT is another file than BOOK, of the same ending")
+    sheets, _, _ = workbooks.read(book)
+    titles = {sheet.lower(): sheet for sheet in sheets}
+    texts = changed(sheets, folder)
+    try:
+        told = workbooks.module_for(book).write(book, texts, out)
+    except LookupError as fault:
+        sys.exit(f"{out} is not written: {fault}")
+    for line in told:
+        print(line, file=sys.stderr)
+    for (where, row, column), text in texts.items():
+        print(cell_name(titles[where], row, column), text or "(empty)")
+
+
+if __name__ == "__main__":
+    if len(sys.argv) != 4:
+        sys.exit(__doc__)
+    try:
+        main(*sys.argv[1:])
+    except OSError as fault:
+        sys.exit(f"{fault.filename}: {fault.strerror}")
