@@ -1,20 +1,48 @@
-# What a newcomer runs. The toolchain's `rt` is on the PATH.
+# What a newcomer runs: make help lists it. The toolchain's `rt` is on the PATH.
 PREFIX ?= /usr/local
+PYTHON ?= python3
+
+# A folder with names.csv, script.csv and a sheet in each other CSV file. Folders and files may have blanks in their names.
+WORKBOOK ?= examples/mix
+export WORKBOOK
 
 program = crates/opensolver
+built = $(program)/out/opensolver
 
-# A folder with names.csv, script.csv and a sheet in each other CSV file.
-WORKBOOK ?= examples/mix
+# The programs of the repository; optcheck counts once its crate is there.
+programs = opensolver $(notdir $(wildcard crates/optcheck))
 
-folder = $(abspath $(WORKBOOK))
-sheets = $(filter-out $(folder)/names.csv $(folder)/script.csv,$(wildcard $(folder)/*.csv))
-words = --names $(folder)/names.csv $(sheets)
+bin = $(DESTDIR)$(PREFIX)/bin
+man = $(DESTDIR)$(PREFIX)/share/man/man1
+completions = $(DESTDIR)$(PREFIX)/share/bash-completion/completions
 
-.PHONY: run test try examples install
+# Runs the program over the workbook, by the words that stand before the program's own. No list of make's holds the files.
+define over_workbook
+folder=$$(cd "$$WORKBOOK" && pwd) || exit 2; \
+for file in names.csv script.csv; do test -f "$$folder/$$file" || { echo "$$folder has no $$file."; exit 2; }; done; \
+set --; for sheet in "$$folder"/*.csv; do \
+case "$$sheet" in "$$folder/names.csv" | "$$folder/script.csv") ;; *) set -- "$$@" "$$sheet" ;; esac; done; \
+cd $(program) && $(1) -- --names "$$folder/names.csv" "$$@" < "$$folder/script.csv"
+endef
+
+needs_build = test -x $(built) || { echo 'Nothing is built yet: make run proves and builds the program first.'; exit 1; }
+
+.PHONY: help run test try examples install uninstall
+
+help:
+	@echo 'make try         compiles the program without any proof and runs a workbook: three to five minutes, each time'
+	@echo 'make run         proves the program, builds it and runs a workbook: long from nothing, then seconds'
+	@echo 'make examples    runs the example workbooks and the scripts of tools/ with the program that make run built'
+	@echo 'make test        the gate: every proof, every edit that must be refused, every test and the run of the program'
+	@echo 'make install     copies what make run built, its manual page and its completion for bash below PREFIX'
+	@echo 'make uninstall   takes these files away'
+	@echo ''
+	@echo 'try and run take WORKBOOK=FOLDER (now $(WORKBOOK)): names.csv, script.csv and a CSV file for each sheet.'
+	@echo 'install and uninstall take PREFIX=FOLDER (now $(PREFIX)) and DESTDIR=FOLDER; examples takes PYTHON=PROGRAM.'
 
 # Proves the program, builds it and runs the workbook's script.
 run:
-	cd $(program) && rt run -- $(words) < $(folder)/script.csv
+	@$(call over_workbook,rt run)
 
 # The gate: every proof, every edit that must be refused, every test and the program's run.
 test:
@@ -23,12 +51,23 @@ test:
 # Compiles the program without any proof and runs the workbook's script.
 try:
 	@echo 'This run proves nothing: make run proves the program first.'
-	cd $(program) && rt try -- $(words) < $(folder)/script.csv
+	@$(call over_workbook,rt try)
 
-# Runs the example workbooks with the program that `make run` built, and compares what they print and save.
+# Runs the example workbooks and the tools with the program that `make run` built, and compares what they print and save.
 examples:
-	python3 examples/run.py $(program)/out/opensolver
+	@$(needs_build)
+	$(PYTHON) examples/run.py $(built)
+	$(PYTHON) examples/run_tools.py $(built)
 
-# Copies the program that `make run` built.
+# Copies the programs that are built, and what belongs to them.
 install:
-	install -D $(program)/out/opensolver $(DESTDIR)$(PREFIX)/bin/opensolver
+	@$(needs_build)
+	@for name in $(programs); do \
+	if test -x crates/$$name/out/$$name; then install -D crates/$$name/out/$$name "$(bin)/$$name"; else echo "$$name is not built, so it is left out."; fi; done
+	install -D -m 644 share/opensolver.1 "$(man)/opensolver.1"
+	install -D -m 644 share/opensolver.bash "$(completions)/opensolver"
+
+# Takes away what `make install` copied.
+uninstall:
+	@for name in $(programs); do rm -f "$(bin)/$$name"; done
+	rm -f "$(man)/opensolver.1" "$(completions)/opensolver"

@@ -136,14 +136,18 @@ def twin(element):
 
 
 def single(parent, kinds, what, place):
-    """The element of a row or a cell at a place, counted from 0; where it stands for several alike, these are parted first."""
-    first = 0
+    """The element of a row or a cell at a place, counted from 0; one that stands for several is parted, and one that isn't there is added."""
+    first, last = 0, None
     for element in list(within(parent, *kinds)):
         count = times(element, what)
         if place < first + count:
             return parted(element, what, place - first, count)
-        first += count
-    raise LookupError(f"the sheet ends before place {place + 1}")
+        first, last = first + count, element
+    for left in filter(None, (place - first, 1)):
+        element = Element(qname=kinds[0], qattributes={(TABLENS, f"number-{what}-repeated"): str(left)} if left > 1 else {}, check_grammar=False)
+        (last.parentNode if last else parent).insertBefore(element, last.nextSibling if last else None)
+        last = element
+    return last
 
 
 def parted(element, what, before, count):

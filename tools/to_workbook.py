@@ -47,11 +47,7 @@ def main(book, folder, out):
     sheets, _, _ = workbooks.read(book)
     titles = {sheet.lower(): sheet for sheet in sheets}
     texts = changed(sheets, folder)
-    try:
-        told = workbooks.module_for(book).write(book, texts, out)
-    except LookupError as fault:
-        sys.exit(f"{out} is not written: {fault}")
-    for line in told:
+    for line in workbooks.module_for(book).write(book, texts, out):
         print(line, file=sys.stderr)
     for (where, row, column), text in texts.items():
         print(cell_name(titles[where], row, column), text or "(empty)")
