@@ -32,7 +32,7 @@ needs_build = test -x $(built) || { echo 'Nothing is built yet: make run proves 
 help:
 	@echo 'make try         compiles the program without any proof and runs a workbook: three to five minutes, each time'
 	@echo 'make run         proves the program, builds it and runs a workbook: long from nothing, then seconds'
-	@echo 'make examples    runs the example workbooks and the scripts of tools/ with the program that make run built'
+	@echo 'make examples    runs the workbooks of examples/, the scripts of tools/ and the commands of the pages, and compares'
 	@echo 'make test        the gate: every proof, every edit that must be refused, every test and the run of the program'
 	@echo 'make install     copies what make run built, its manual page and its completion for bash below PREFIX'
 	@echo 'make uninstall   takes these files away'
@@ -53,11 +53,12 @@ try:
 	@echo 'This run proves nothing: make run proves the program first.'
 	@$(call over_workbook,rt try)
 
-# Runs the example workbooks and the tools with the program that `make run` built, and compares what they print and save.
+# Runs the example workbooks, the tools and the commands of the pages with the program that `make run` built, and compares.
 examples:
 	@$(needs_build)
 	$(PYTHON) examples/run.py $(built)
 	$(PYTHON) examples/run_tools.py $(built)
+	$(PYTHON) examples/run_pages.py $(built)
 
 # Copies the programs that are built, and what belongs to them.
 install:

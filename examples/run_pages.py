@@ -30,7 +30,7 @@ def blocks(page):
         yield text[:found.start()].count("\n") + 2, list(zip(parts[::2], parts[1::2]))
 
 
-def printed(commands, folder, program):
+def printed(commands, folder):
     """What the commands of a block print, one after the other in one shell."""
     script = "".join(f"printf '{MARK}'\n{command}\n" for command, _ in commands)
     path = os.path.join(folder, ".bin")
@@ -55,27 +55,28 @@ def needs(commands):
 
 
 def faults(page, program):
-    """What is wrong with a page, and what was left out of it, a line each."""
-    wrong, skipped, missing = [], [], set()
+    """What is wrong with a page, a line each; what is left out of it is printed."""
+    skipped, missing = 0, set()
     with tempfile.TemporaryDirectory() as folder:
         copy_to(folder, program)
         for line, commands in blocks(page):
             missing.update(name for name in needs(commands) if importlib.util.find_spec(name) is None)
             if missing and any("bakery" in command for command, _ in commands):
-                skipped.append(f"line {line} is left out, since {sys.executable} has no library {' or '.join(sorted(missing))}")
+                skipped += 1
                 continue
-            for (command, wanted), got in zip(commands, printed(commands, folder, program)):
+            for (command, wanted), got in zip(commands, printed(commands, folder)):
                 if wanted != got:
-                    wrong.append(f"line {line}: {command}: wanted {wanted!r}, printed {got!r}")
-    return wrong, skipped
+                    yield f"line {line}: {command}: wanted {wanted!r}, printed {got!r}"
+    if skipped:
+        print(f"{page}: {skipped} blocks are left out, since {sys.executable} has no library {' or '.join(sorted(missing))}")
 
 
 def main(program, pages):
     failed = 0
     for page in pages:
-        wrong, skipped = faults(page, program)
-        failed += bool(wrong)
-        print(f"{page}: {'; '.join(wrong + skipped) or 'as expected'}")
+        found = list(faults(page, program))
+        failed += bool(found)
+        print(f"{page}: {'; '.join(found) or 'as expected'}")
     sys.exit(f"{failed} of {len(pages)} failed" if failed else None)
 
 

@@ -32,7 +32,8 @@ def text_of(cell, epoch):
     if value is None:
         return ""
     if cell.data_type == "f":
-        return with_array_marks(getattr(value, "text", None) or str(value))
+        formula = getattr(value, "text", value)
+        return with_array_marks(formula) if isinstance(formula, str) else "="
     if cell.data_type == "e":
         return "=" + value
     if isinstance(value, bool):
