@@ -72,4 +72,4 @@ if __name__ == "__main__":
     try:
         main(sys.argv[1:])
     except OSError as fault:
-        sys.exit(f"{fault.filename}: {fault.strerror}")
+        sys.exit(f"{fault.filename or 'the output'}: {fault.strerror}")
