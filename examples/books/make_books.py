@@ -12,13 +12,13 @@ import os
 import subprocess
 import tempfile
 import time
-from decimal import Decimal
+import zipfile
 
 HERE = os.path.dirname(os.path.abspath(__file__))
 PLAN = [
     ["Item", "Bread", "Cake", "Used", "Available"],
     ["Batches", 0, 0],
-    ["Profit", 2.5, Decimal("4.0999999999999996"), "=SUMPRODUCT(B2:C2,B3:C3)"],
+    ["Profit", 2.5, 4.1, "=SUMPRODUCT(B2:C2,B3:C3)"],
     ["Flour", 2, 3, "=SUMPRODUCT($B$2:$C$2,B4:C4)", "=data!B1"],
     ["Oven", 1, 2, "=SUMPRODUCT($B$2:$C$2,B5:C5)", "=data!B2"],
 ]
@@ -47,6 +47,16 @@ def make_xlsx(path):
     for name, text in NAMES:
         book.defined_names.append(DefinedName(f"solver_{name}", localSheetId=0, hidden=True, attr_text=with_sheet(text, ("", "!"))))
     book.save(path)
+    write_as_excel(path)
+
+
+def write_as_excel(path):
+    """Writes the number 4.1 with the 17 digits with which Excel keeps it."""
+    with zipfile.ZipFile(path) as kept:
+        parts = {name: kept.read(name) for name in kept.namelist()}
+    with zipfile.ZipFile(path, "w", zipfile.ZIP_DEFLATED) as book:
+        for name, part in parts.items():
+            book.writestr(name, part.replace(b"<v>4.1</v>", b"<v>4.0999999999999996</v>"))
 
 
 def office(home):
