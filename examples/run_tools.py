@@ -84,6 +84,8 @@ def there_and_back(kind, program):
             file.write(wanted["plan.csv"].replace("Batches,0,0", "Batches,=7/3,2.5"))
         shutil.rmtree(folder + "_again")
         put_back(book, folder, out, wanted, ("=7/3", "2.5"))
+        tool("to_workbook", book, folder, book, status=1)
+        tool("from_workbook", os.path.join("mix", "plan.csv"), folder, status=1)
 
 
 def texts_of_models(program):

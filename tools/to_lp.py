@@ -10,6 +10,7 @@ so an objective that is to be greatest has its signs turned there. Ends with 1 a
 """
 import re
 import sys
+import textwrap
 from dataclasses import dataclass, field
 from fractions import Fraction
 from math import lcm
@@ -188,9 +189,15 @@ def mps(model, names):
     yield "ENDATA"
 
 
+def folded(line):
+    """A line of LP text in lines that are short enough for every reader."""
+    return textwrap.fill(line, 240, subsequent_indent="  ", break_long_words=False, break_on_hyphens=False)
+
+
 def main(kind):
     model = read(sys.stdin.read().splitlines())
-    print(*{"lp": lp, "mps": mps}[kind](model, names_of(model)), sep="\n")
+    names = names_of(model)
+    print(*(map(folded, lp(model, names)) if kind == "lp" else mps(model, names)), sep="\n")
 
 
 if __name__ == "__main__":
