@@ -16,22 +16,22 @@ fn square(alloc: Global) -> Result<Reference, Fail> {
 }
 
 #[test]
-fn cells_of_references(rt: HostRuntime) -> Result<(), Fail> {
+fn references_are_read_in_rows_and_columns(rt: HostRuntime) -> Result<(), Fail> {
     let alloc = rt.alloc();
     let grid = square(alloc)?;
     if grid.rows() != 2 || grid.cols() != 2 {
         return Err(Fail::from("no square"));
     }
-    assert!(rt; grid.cells() == [A1, B1, A2, B2].as_slice());
-    assert!(rt; grid.transpose(alloc)?.cells() == [A1, A2, B1, B2].as_slice());
-    assert!(rt; grid.first_column(alloc)?.as_slice() == [A1, A2].as_slice());
-    assert!(rt; grid.cells_in(alloc, Pick::Part(1, 0, 1, 1))?.as_slice() == [A2, B2].as_slice());
-    assert!(rt; grid.cell_at(0, 1) == B1);
+    assert_eq!(rt; grid.cells(), [A1, B1, A2, B2].as_slice());
+    assert_eq!(rt; grid.transpose(alloc)?.cells(), [A1, A2, B1, B2].as_slice());
+    assert_eq!(rt; grid.first_column(alloc)?.as_slice(), [A1, A2].as_slice());
+    assert_eq!(rt; grid.cells_in(alloc, Pick::Part(1, 0, 1, 1))?.as_slice(), [A2, B2].as_slice());
+    assert_eq!(rt; grid.cell_at(0, 1), B1);
     Ok(())
 }
 
 #[test]
-fn grids_of_one_element(rt: HostRuntime) -> Result<(), Fail> {
+fn grid_of_and_single_of_undo_each_other(rt: HostRuntime) -> Result<(), Fail> {
     let alloc = rt.alloc();
     let value = AbsArg::One(Abs::Known(Value::Logical(true)));
     let grid = grid_of(alloc, &value)?;

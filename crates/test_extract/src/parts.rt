@@ -45,19 +45,19 @@ fn is_without(part: &Part) -> bool {
 }
 
 #[test]
-fn parts_without_values(rt: HostRuntime) -> Result<(), Fail> {
+fn unread_and_table_part_give_no_values(rt: HostRuntime) -> Result<(), Fail> {
     let alloc = rt.alloc();
     let part = cells_part(alloc, &Sheet { is_empty: true }, A1, B1)?;
     assert!(rt; !is_without(&part));
     let part = unread(part);
     assert!(rt; is_without(&part));
-    assert!(rt; part.looks() == [A1, B1].as_slice());
+    assert_eq!(rt; part.looks(), [A1, B1].as_slice());
     let part = unread_cells(alloc, A1, B1)?;
     assert!(rt; is_without(&part));
-    assert!(rt; part.looks() == [A1, B1].as_slice());
+    assert_eq!(rt; part.looks(), [A1, B1].as_slice());
     let part = cells_part(alloc, &Sheet { is_empty: false }, A2, A2)?;
     assert!(rt; is_without(&part));
-    assert!(rt; part.looks() == [A2].as_slice());
+    assert_eq!(rt; part.looks(), [A2].as_slice());
     Ok(())
 }
 
@@ -70,23 +70,23 @@ fn number_and_cell(alloc: Global, sheet: &Sheet) -> Result<Vec<Part>, Fail> {
 }
 
 #[test]
-fn arguments_of_calls(rt: HostRuntime) -> Result<(), Fail> {
+fn all_looks_refused_by_and_values_of_take_all_arguments(rt: HostRuntime) -> Result<(), Fail> {
     let alloc = rt.alloc();
     let args = number_and_cell(alloc, &Sheet { is_empty: true })?;
-    assert!(rt; all_looks(alloc, &args)?.as_slice() == [A2].as_slice());
+    assert_eq!(rt; all_looks(alloc, &args)?.as_slice(), [A2].as_slice());
     let Outcome::Refused(at, _) = refused_by(WHOLE, &args, OpRefusal::Undecided(1))? else {
         return Err(Fail::from("not refused"));
     };
-    assert!(rt; at == SECOND);
+    assert_eq!(rt; at, SECOND);
     let Values::All(values) = values_of(alloc, &args)? else {
         return Err(Fail::from("no values"));
     };
-    assert!(rt; values.len() == 2);
+    assert_eq!(rt; values.len(), 2);
     Ok(())
 }
 
 #[test]
-fn values_stop_at_the_first_without(rt: HostRuntime) -> Result<(), Fail> {
+fn values_of_stops_at_the_first_without_a_value(rt: HostRuntime) -> Result<(), Fail> {
     let alloc = rt.alloc();
     let args = number_and_cell(alloc, &Sheet { is_empty: false })?;
     let Values::Stop(stop) = values_of(alloc, &args)? else {
@@ -100,18 +100,18 @@ fn values_stop_at_the_first_without(rt: HostRuntime) -> Result<(), Fail> {
 
 // Each operand's cells are looked at, also those of the one before.
 #[test]
-fn looks_of_operands(rt: HostRuntime) -> Result<(), Fail> {
+fn infix_part_looks_at_the_cells_of_both_operands(rt: HostRuntime) -> Result<(), Fail> {
     let alloc = rt.alloc();
     let sheet = Sheet { is_empty: true };
     let left = cells_part(alloc, &sheet, A1, B1)?;
     let right = cells_part(alloc, &sheet, A1, A1)?;
     let part = infix_part(alloc, WHOLE, Op::Add, left, right)?;
-    assert!(rt; part.looks() == [A1, B1, A1].as_slice());
+    assert_eq!(rt; part.looks(), [A1, B1, A1].as_slice());
     Ok(())
 }
 
 #[test]
-fn a_wide_product_is_refused_at_its_place(rt: HostRuntime) -> Result<(), Fail> {
+fn infix_part_refuses_a_wide_product_at_its_place(rt: HostRuntime) -> Result<(), Fail> {
     let alloc = rt.alloc();
     let left = number(alloc, FIRST, "1E38")?;
     let right = number(alloc, SECOND, "10")?;
@@ -119,6 +119,6 @@ fn a_wide_product_is_refused_at_its_place(rt: HostRuntime) -> Result<(), Fail> {
     let Outcome::Refused(at, Why::Wide) = part.outcome() else {
         return Err(Fail::from("not wide"));
     };
-    assert!(rt; *at == WHOLE);
+    assert_eq!(rt; *at, WHOLE);
     Ok(())
 }

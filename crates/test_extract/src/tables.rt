@@ -15,7 +15,7 @@ fn is_circular(table: &FormTable, place: Place) -> bool {
 }
 
 #[test]
-fn forms_are_put_and_taken(rt: HostRuntime) -> Result<(), Fail> {
+fn form_table_puts_and_takes_forms(rt: HostRuntime) -> Result<(), Fail> {
     let mut table = FormTable::new(rt.alloc());
     let place = Place::Cell(Cell {
         sheet: SheetId(0),
