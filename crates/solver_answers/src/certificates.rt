@@ -49,7 +49,8 @@ fn claim(alloc: Global, shown: &str) -> Result<Claim, Stop> {
     };
     let (point, direction) = ray.split_once("along").ok_or(Stop::Unread)?;
     let point = numbers(alloc, point)?;
-    Ok(Claim::Unbounded(point, numbers(alloc, direction)?))
+    let direction = numbers(alloc, direction)?;
+    Ok(Claim::Unbounded(point, direction))
 }
 
 fn show_checked(

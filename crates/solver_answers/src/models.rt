@@ -46,7 +46,8 @@ fn show_bounds(bounds: &[Option<Frac>], to: &mut String) -> Result<(), Memory> {
 // Appends the rows of the program without an objective, and the objective of the one with it, the constant first.
 fn show_programs(alloc: Global, model: &LinModel, to: &mut String) -> Result<(), Memory> {
     let _whole = model.whole();
-    show_rows(model.standard(alloc, model.bounds(), true)?.rows(), to)?;
+    let plain = model.standard(alloc, model.bounds(), true)?;
+    show_rows(plain.rows(), to)?;
     let program = model.standard(alloc, model.bounds(), false)?;
     show_numbers(" |", &[program.constant()], to)?;
     show_numbers("", program.objective(), to)
@@ -76,16 +77,16 @@ fn show_parts(alloc: Global, within: &BoundBox, to: &mut String) -> Result<(), M
     if within.least().len() != 3 || within.greatest().len() != 3 {
         return Ok(to.push_str("no three decisions")?);
     }
-    show_bounds(
-        within.at_most(alloc, 2, Frac::from_whole(9))?.greatest(),
-        to,
-    )?;
-    show_bounds(within.at_least(alloc, 0, Frac::from_whole(1))?.least(), to)
+    let below = within.at_most(alloc, 2, Frac::from_whole(9))?;
+    show_bounds(below.greatest(), to)?;
+    let above = within.at_least(alloc, 0, Frac::from_whole(1))?;
+    show_bounds(above.least(), to)
 }
 
 /// Appends the objective as it is to be greatest, and parts of a copy of the box.
 pub(crate) fn part_answer(alloc: Global, shown: &str, to: &mut String) -> Result<(), Stop> {
     let model = model(alloc, 3, shown)?;
     show_form(&model.greatest_form(alloc, false)?, to)?;
-    Ok(show_parts(alloc, &model.bounds().copy(alloc)?, to)?)
+    let copy = model.bounds().copy(alloc)?;
+    Ok(show_parts(alloc, &copy, to)?)
 }

@@ -55,8 +55,8 @@ pub(crate) fn pick_answer(alloc: Global, shown: &str, to: &mut String) -> Result
 /// A picker that follows no rule of the others: it takes the first node, the last one, or the two in turn.
 #[derive(Drop)]
 pub(crate) struct Ends {
-    last: bool,
-    turns: bool,
+    pub(crate) last: bool,
+    pub(crate) turns: bool,
 }
 
 impl Picker for Ends {
@@ -73,24 +73,4 @@ impl Picker for Ends {
     }
 
     fn told(&mut self, _event: NodeEvent) {}
-}
-
-/// The picker of a name.
-pub(crate) fn picker(alloc: Global, name: &str) -> Result<Box<dyn Picker>, Stop> {
-    let turns = false;
-    match name {
-        "depth" => Ok(Box::new(alloc, Depth)?),
-        "best" => Ok(Box::new(alloc, Best)?),
-        "oldest" => Ok(Box::new(alloc, Oldest)?),
-        "first" => Ok(Box::new(alloc, Ends { last: false, turns })?),
-        "last" => Ok(Box::new(alloc, Ends { last: true, turns })?),
-        "turns" => Ok(Box::new(
-            alloc,
-            Ends {
-                last: false,
-                turns: true,
-            },
-        )?),
-        _ => Err(Stop::Unread),
-    }
 }

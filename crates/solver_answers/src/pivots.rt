@@ -59,7 +59,8 @@ pub(crate) fn pivot_answer(alloc: Global, shown: &str, to: &mut String) -> Resul
     let (row, others) = shown.split_once(' ').ok_or(Stop::Unread)?;
     let (col, shown) = others.split_once(' ').ok_or(Stop::Unread)?;
     let (row, col) = (row.parse::<u16>()?, col.parse::<u16>()?);
-    let mut dict = start(alloc, &program(alloc, shown)?)?;
+    let program = program(alloc, shown)?;
+    let mut dict = start(alloc, &program)?;
     pivot(&mut dict, row, col, to)?;
     Ok(show_dictionary(&dict, to)?)
 }

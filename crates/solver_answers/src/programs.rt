@@ -35,7 +35,8 @@ pub(crate) fn program(alloc: Global, shown: &str) -> Result<Standard, Stop> {
     let (objective, rows) = shown.split_once(':').ok_or(Stop::Unread)?;
     let mut objective = numbers(alloc, objective)?;
     let constant = objective.pop().ok_or(Stop::Unread)?;
-    put_together(alloc, objective, constant, inequalities(alloc, rows)?)
+    let rows = inequalities(alloc, rows)?;
+    put_together(alloc, objective, constant, rows)
 }
 
 /// Appends the rows, each its coefficients and its bound.

@@ -55,15 +55,21 @@ fn show_at_end(
     show_more(alloc, program, dict, to)
 }
 
+// Appends the rows of a program, its end, and what is read there.
+fn show_program(alloc: Global, program: &Standard, to: &mut String) -> Result<(), Memory> {
+    show_rows(program.rows(), to)?;
+    to.push_str(" => ")?;
+    let mut work = Work { left: 10 };
+    show_end(&solve(alloc, program, &mut work), to)?;
+    to.push(';')?;
+    let mut dict = start(alloc, program)?;
+    show_at_end(alloc, program, &mut dict, to)
+}
+
 /// Appends the rows of the standard program of a statement of one decision, its end, and what is read there.
 pub(crate) fn reading_answer(alloc: Global, shown: &str, to: &mut String) -> Result<(), Stop> {
     let model = model(alloc, 1, shown)?;
     let _whole = model.whole();
     let program = model.standard(alloc, model.bounds(), false)?;
-    show_rows(program.rows(), to)?;
-    to.push_str(" => ")?;
-    show_end(&solve(alloc, &program, &mut Work { left: 10 }), to)?;
-    to.push(';')?;
-    let mut dict = start(alloc, &program)?;
-    Ok(show_at_end(alloc, &program, &mut dict, to)?)
+    Ok(show_program(alloc, &program, to)?)
 }

@@ -3,13 +3,13 @@
 ghost use Rattle.std.specs.Prelude.{◌≡◌, IfOk, false};
 
 use crate::numbers::show_numbers;
-use crate::pickers::picker;
+use crate::pickers::Ends;
 use crate::recording::Recording;
 use crate::statements::model;
 use crate::stop::Stop;
 use branch_bound::{Progress, Search, SearchStop};
 use memory::Memory;
-use node_pick::{Depth, Picker};
+use node_pick::{Best, Depth, Oldest, Picker};
 use std::alloc::Global;
 use std::cell::RefCell;
 use std::rc::Rc;
@@ -62,16 +62,56 @@ fn run_to_end(
     for _ in 0..1000 {
         let given = search.run(units, pick);
         match &given {
-            Ok(Progress::More) => {}
+            Ok(Progress::More) => {
+                spent = spent.saturating_add(units);
+                if search.units() != spent {
+                    return Ok(to.push_str("other units")?);
+                }
+            }
             _ => return show_given(&given, to),
-        }
-        spent = spent.saturating_add(units);
-        if search.units() != spent {
-            return Ok(to.push_str("other units")?);
         }
         units = others;
     }
     Ok(to.push_str("more")?)
+}
+
+// Appends how the search by a picker ends that is cut after the first number of units, and then after the second one again and again.
+fn show_end_by(
+    alloc: Global,
+    pick: Box<dyn Picker>,
+    cuts: (u64, u64),
+    statement: &str,
+    to: &mut String,
+) -> Result<(), Stop> {
+    let mut pick = pick;
+    let mut search = search_of(alloc, statement)?;
+    Ok(run_to_end(&mut search, &mut pick, cuts.0, cuts.1, to)?)
+}
+
+// The same by a picker that takes nodes at the ends of the list.
+fn show_end_at(
+    alloc: Global,
+    name: &str,
+    cuts: (u64, u64),
+    statement: &str,
+    to: &mut String,
+) -> Result<(), Stop> {
+    let pick = match name {
+        "first" => Ends {
+            last: false,
+            turns: false,
+        },
+        "last" => Ends {
+            last: true,
+            turns: false,
+        },
+        "turns" => Ends {
+            last: false,
+            turns: true,
+        },
+        _ => return Err(Stop::Unread),
+    };
+    show_end_by(alloc, Box::new(alloc, pick)?, cuts, statement, to)
 }
 
 /// Appends how a search ends that is cut after so many units, and then after others again and again. The picker's name, the two numbers
@@ -80,10 +120,13 @@ pub(crate) fn search_answer(alloc: Global, shown: &str, to: &mut String) -> Resu
     let (name, shown) = shown.split_once(", ").ok_or(Stop::Unread)?;
     let (first, shown) = shown.split_once(", ").ok_or(Stop::Unread)?;
     let (others, statement) = shown.split_once(", ").ok_or(Stop::Unread)?;
-    let (first, others) = (first.parse::<u64>()?, others.parse::<u64>()?);
-    let mut pick = picker(alloc, name)?;
-    let mut search = search_of(alloc, statement)?;
-    Ok(run_to_end(&mut search, &mut pick, first, others, to)?)
+    let cuts = (first.parse::<u64>()?, others.parse::<u64>()?);
+    match name {
+        "depth" => show_end_by(alloc, Box::new(alloc, Depth)?, cuts, statement, to),
+        "best" => show_end_by(alloc, Box::new(alloc, Best)?, cuts, statement, to),
+        "oldest" => show_end_by(alloc, Box::new(alloc, Oldest)?, cuts, statement, to),
+        _ => show_end_at(alloc, name, cuts, statement, to),
+    }
 }
 
 // Sets the budget before each run, and appends how far the search has come after it.
@@ -102,8 +145,8 @@ fn run_steps(
         show_given(&given, to)?;
         to.push_str("; ")?;
         match &given {
-            Ok(Progress::More) => {}
-            Err(SearchStop::Budget(_)) => {}
+            Ok(Progress::More) => continue,
+            Err(SearchStop::Budget(_)) => continue,
             _ => return Ok(()),
         }
     }
@@ -119,7 +162,7 @@ pub(crate) fn step_answer(
     to: &mut String,
 ) -> Result<(), Stop> {
     let (steps, statement) = shown.split_once(", ").ok_or(Stop::Unread)?;
-    let mut pick = picker(alloc, "depth")?;
+    let mut pick: Box<dyn Picker> = Box::new(alloc, Depth)?;
     let mut search = search_of(alloc, statement)?;
     run_steps(&mut search, &mut pick, steps, to)?;
     if call == "spent" {
@@ -136,9 +179,7 @@ pub(crate) fn told_answer(alloc: Global, statement: &str, to: &mut String) -> Re
         heard: heard.clone()?,
         depth,
     };
-    let mut pick: Box<dyn Picker> = Box::new(alloc, recording)?;
-    let mut search = search_of(alloc, statement)?;
-    run_to_end(&mut search, &mut pick, 2000, 0, to)?;
+    show_end_by(alloc, Box::new(alloc, recording)?, (2000, 0), statement, to)?;
     if let Ok(heard) = heard.try_borrow() {
         to.push_str(heard.as_str())?;
     }

@@ -18,11 +18,16 @@ fn unit(alloc: Global, place: u16) -> Form {
     }
 }
 
+fn add(alloc: Global, form: &mut Form, place: u16, shown: &str) -> Result<(), Stop> {
+    let part = unit(alloc, place);
+    Ok(form.add_product(number(shown)?, &part)?)
+}
+
 fn form(alloc: Global, shown: &str) -> Result<Form, Stop> {
     let mut form = Form::constant(alloc, Frac::zero());
     let mut place: u16 = 0;
     for one in shown.split_whitespace() {
-        form.add_product(number(one)?, &unit(alloc, place))?;
+        add(alloc, &mut form, place, one)?;
         place = place.saturating_add(1);
     }
     Ok(form)

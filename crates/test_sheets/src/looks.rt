@@ -138,6 +138,6 @@ fn the_last_place_of_the_largest_grid(rt: HostRuntime) -> Result<(), Fail> {
     let row = Arg::One(Value::Number(Frac::from_whole(i64::from(u32::MAX))));
     let column = Arg::One(Value::Number(Frac::read("4294967295.5")?));
     let found = index_at(u32::MAX, u32::MAX, &[row, column]);
-    assert!(rt; found == Pick::Part(last, last, last, last));
+    assert_eq!(rt; found, Pick::Part(last, last, last, last));
     Ok(())
 }
