@@ -25,7 +25,10 @@ fn references_are_read_in_rows_and_columns(rt: HostRuntime) -> Result<(), Fail> 
     assert_eq!(rt; grid.cells(), [A1, B1, A2, B2].as_slice());
     assert_eq!(rt; grid.transpose(alloc)?.cells(), [A1, A2, B1, B2].as_slice());
     assert_eq!(rt; grid.first_column(alloc)?.as_slice(), [A1, A2].as_slice());
-    assert_eq!(rt; grid.cells_in(alloc, Pick::Part(1, 0, 1, 1))?.as_slice(), [A2, B2].as_slice());
+    assert_eq!(rt;
+        grid.cells_in(alloc, Pick::Part(1, 0, 1, 1))?.as_slice(),
+        [A2, B2].as_slice()
+    );
     assert_eq!(rt; grid.cell_at(0, 1), B1);
     Ok(())
 }
