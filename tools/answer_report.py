@@ -10,7 +10,8 @@ infeasible and unbounded, which are printed alone.
 import subprocess
 import sys
 
-from sheet_files import cell_name, cells_of, decision_cells, names_by_sheet, number_of, read_records, spoken
+from sheet_files import (cell_name, cells_of, decision_cells, ending_in_a_line, names_by_sheet, number_of, read_records, spoken,
+                         text_of_record)
 
 RELATIONS = {"1": "<=", "2": "=", "3": ">="}
 LAST_ROW, LAST_COLUMN = 4095, 255
@@ -31,14 +32,14 @@ def constraints(names, sheet):
 def script(sheet, cells, expressions):
     """Solves, puts each expression into a spare cell in the sheet's last column, and shows the cells and these."""
     spare = {text: (sheet, LAST_ROW - place, LAST_COLUMN) for place, text in enumerate(expressions)}
-    quoted = {text: '"' + text.replace('"', '""') + '"' for text in expressions}
-    lines = [f"solve,{sheet}"] + [f"set,{cell_name(*cell)},{quoted[text]}" for text, cell in spare.items()]
-    return lines + [f"show,{cell_name(*cell)}" for cell in [*cells, *spare.values()]]
+    records = [["solve", sheet]] + [["set", cell_name(*cell), text] for text, cell in spare.items()]
+    return records + [["show", cell_name(*cell)] for cell in [*cells, *spare.values()]]
 
 
-def answers_of(program, files, lines):
+def answers_of(program, files, records):
     """What the program prints for a script, line by line, and its status."""
-    run = subprocess.run([program, "--names", *files], input="\n".join(lines) + "\n", stdout=subprocess.PIPE, encoding="utf-8")
+    text = "".join(map(text_of_record, records))
+    run = subprocess.run([program, "--names", *files], input=text, stdout=subprocess.PIPE, encoding="utf-8")
     return run.stdout.splitlines(), run.returncode
 
 
@@ -61,7 +62,7 @@ def report(decisions, rows, values):
 
 def main(program, sheet, *files):
     names = names_by_sheet(read_records(files[0])).get(sheet.lower(), {})
-    lines, status = answers_of(program, files, [f"solve,{sheet}"])
+    lines, status = answers_of(program, files, [["solve", sheet]])
     print(*lines, sep="\n")
     if status or not lines[0].startswith("optimal"):
         sys.exit(status)
@@ -78,7 +79,4 @@ def main(program, sheet, *files):
 if __name__ == "__main__":
     if len(sys.argv) < 5:
         sys.exit(__doc__)
-    try:
-        main(*sys.argv[1:])
-    except OSError as fault:
-        sys.exit(f"{fault.filename or 'the output'}: {fault.strerror}")
+    ending_in_a_line(main, *sys.argv[1:])

@@ -10,7 +10,7 @@ be wrong: only `model` shows what the program makes of a sheet.
 import re
 import sys
 
-from sheet_files import NUMERAL, address, is_formula, read_records
+from sheet_files import NUMERAL, address, ending_in_a_line, is_formula, read_records
 
 DIGITS = r"\d[\d.,'\u00a0\u202f]*"
 KINDS = [
@@ -25,6 +25,7 @@ KINDS = [
     ("a date", re.compile(r"\d{1,2}[-.\s]+[A-Za-z]{3,9}[-.,\s]+\d{2,4}\Z")),
     ("a negative number", re.compile(rf"[(\u2212\u2013]\s*[^\w\s]?\s*{DIGITS}\s*[)]?\Z|{DIGITS}-\Z")),
     ("a number with a currency", re.compile(rf"(?:[A-Z]{{3}}|[^\w\s\"'(+-]{{1,2}})\s*[+-]?{DIGITS}\Z|[+-]?{DIGITS}\s*[\u20ac\u00a3\u00a5$]\Z")),
+    ("a number in another spelling", re.compile(r"[+-]?[\d.,]*\d[\d.,]*%?\Z")),
     ("a number with a unit", re.compile(rf"[+-]?{DIGITS}\s*[^\d\s.,-]{{1,8}}\Z")),
 ]
 
@@ -69,7 +70,4 @@ def main(paths):
 if __name__ == "__main__":
     if len(sys.argv) < 2:
         sys.exit(__doc__)
-    try:
-        main(sys.argv[1:])
-    except OSError as fault:
-        sys.exit(f"{fault.filename or 'the output'}: {fault.strerror}")
+    ending_in_a_line(main, sys.argv[1:])

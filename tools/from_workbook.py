@@ -15,23 +15,42 @@ import shlex
 import sys
 
 import workbooks
-from sheet_files import write_records
+from sheet_files import REFERENCE, ending_in_a_line, write_records
 
 NAME = re.compile(r"[A-Za-z_\u0080-\U0010ffff][A-Za-z0-9_.\u0080-\U0010ffff]*\Z")
 
 
+def is_taken(sheets, sheet, name):
+    """Whether the program takes a name: a word, of a sheet that has a file or of the whole workbook."""
+    return NAME.match(name) is not None and sheet in ("", *sheets)
+
+
+def moves(name, text):
+    """Whether a name's text is a reference without dollar signs, which in a workbook depends on the cell that uses the name."""
+    reference = REFERENCE.match(text)
+    return not name.lower().startswith("solver_") and reference is not None and text.count("$") < 2
+
+
 def doubts(sheets, names):
     """What is to be told of the names, a line each."""
-    for sheet, name, _ in names:
-        if not NAME.match(name):
+    for sheet, name, text in names:
+        if not is_taken(sheets, sheet, name):
             yield f"the name {name} is left out: for the program it is none"
         elif not sheet and name.lower().startswith("solver_"):
             yield f"the name {name} belongs to the whole workbook and is not read as the Solver's: give it a sheet as its scope"
+        elif moves(name, text):
+            yield f"the name {name} is {text}, which in the workbook moves with the cell that uses it, and here does not"
     if not any(sheet and name.lower() == "solver_adj" for sheet, name, _ in names):
         yield "no sheet has the name solver_adj, so this workbook keeps no Solver model"
+
+
+def check(sheets):
+    """The end of the script where a sheet's name is none for a file of its own."""
     for sheet in sheets:
         if sheet.lower() == "names":
             sys.exit("a sheet is called names, and its file would be that of the names: give it another name")
+        if os.path.basename(sheet) != sheet or "\0" in sheet:
+            sys.exit(f"a sheet is called {sheet}, and no file can be called so: give it another name")
 
 
 def write(sheets, names, folder):
@@ -41,18 +60,24 @@ def write(sheets, names, folder):
         with open(os.path.join(folder, sheet + ".csv"), "w", newline="", encoding="utf-8") as file:
             write_records(file, [row or [""] for row in rows])
     with open(os.path.join(folder, "names.csv"), "w", newline="", encoding="utf-8") as file:
-        write_records(file, [name for name in names if NAME.match(name[1])])
+        write_records(file, [name for name in names if is_taken(sheets, *name[:2])])
+
+
+def word(sheet):
+    """The file of a sheet as a word of a command line."""
+    return shlex.quote(("./" if sheet.startswith("-") else "") + sheet + ".csv")
 
 
 def main(book, folder):
     sheets, names, told = workbooks.read(book)
+    check(sheets)
+    write(sheets, names, folder)
     for line in [*told, *doubts(sheets, names)]:
         print(line, file=sys.stderr)
-    write(sheets, names, folder)
-    print("opensolver --names names.csv", *(shlex.quote(sheet + ".csv") for sheet in sheets))
+    print("opensolver --names names.csv", *map(word, sheets))
 
 
 if __name__ == "__main__":
     if len(sys.argv) != 3:
         sys.exit(__doc__)
-    main(*sys.argv[1:])
+    ending_in_a_line(main, *sys.argv[1:])

@@ -1,6 +1,7 @@
 """Workbooks of LibreOffice (.ods): their sheets and names as texts, and numbers put into cells. The library odfpy reads and writes them."""
 import re
-from datetime import datetime
+from datetime import date
+from fractions import Fraction
 
 from odf.element import Element, Text
 from odf.namespaces import OFFICENS, TABLENS, TEXTNS
@@ -10,12 +11,19 @@ from sheet_files import as_text, is_fraction, number_of, shortest
 
 CELLS = ((TABLENS, "table-cell"), (TABLENS, "covered-table-cell"))
 ROW = (TABLENS, "table-row")
+PARAGRAPH = (TEXTNS, "p")
+NAMES = ((TABLENS, "named-range"), (TABLENS, "named-expression"))
 CALCEXT = "urn:org:documentfoundation:names:experimental:calc:xmlns:calcext:1.0"
 MOST_ROWS, MOST_COLUMNS = 4096, 256
 
 
 def kept(element, namespace, name, otherwise=None):
     return element.attributes.get((namespace, name), otherwise)
+
+
+def children(element, kind):
+    """The elements of a kind right below an element."""
+    return [child for child in element.childNodes if getattr(child, "qname", None) == kind]
 
 
 def within(element, *kinds):
@@ -31,14 +39,28 @@ def times(element, what):
     return int(kept(element, TABLENS, f"number-{what}-repeated", "1"))
 
 
-def days_of(moment):
-    """A date as the number of days since the end of 1899, as a spreadsheet counts them."""
-    return (datetime.fromisoformat(moment.rstrip("Z")) - datetime(1899, 12, 30)).total_seconds() / 86400
+def days_of(moment, day_0):
+    """A date as a number of days since the day 0, as a spreadsheet counts them."""
+    day, _, time = moment.rstrip("Z").partition("T")
+    hours, minutes, seconds = (time or "0:0:0").split(":")
+    return (date.fromisoformat(day) - day_0).days + parts_of_a_day(hours, minutes, seconds)
 
 
 def days_in(duration):
-    hours, minutes, seconds = re.match(r"-?PT(\d+)H(\d+)M([\d.,]+)S", duration).groups()
-    return (int(hours) * 3600 + int(minutes) * 60 + float(seconds.replace(",", "."))) / 86400
+    """A length of time as a number of days."""
+    sign, *parts = re.fullmatch(r"(-?)PT(\d+)H(\d+)M([\d.,]+)S", duration).groups()
+    return parts_of_a_day(*parts) * (-1 if sign else 1)
+
+
+def parts_of_a_day(hours, minutes, seconds):
+    return (int(hours) * 3600 + int(minutes) * 60 + Fraction(seconds.replace(",", "."))) / 86400
+
+
+def day_0_of(document):
+    """The day from which the document counts days: the end of 1899, or what its settings say."""
+    settings = children(document.spreadsheet, (TABLENS, "calculation-settings"))
+    days = [kept(day, TABLENS, "date-value") for setting in settings for day in children(setting, (TABLENS, "null-date"))]
+    return date.fromisoformat(next(filter(None, days), "1899-12-30"))
 
 
 def written(element):
@@ -47,12 +69,17 @@ def written(element):
         return str(element.data)
     if element.qname == (TEXTNS, "s"):
         return " " * int(kept(element, TEXTNS, "c", "1"))
-    if element.qname == (TEXTNS, "tab"):
-        return "\t"
+    if element.qname in ((TEXTNS, "tab"), (TEXTNS, "line-break")):
+        return "\t" if element.qname == (TEXTNS, "tab") else "\n"
     return "".join(written(child) for child in element.childNodes)
 
 
-def text_of(cell):
+def string_of(cell):
+    """The characters of a cell that holds a text."""
+    return kept(cell, OFFICENS, "string-value", "\n".join(map(written, children(cell, PARAGRAPH))))
+
+
+def text_of(cell, day_0):
     """The text of a cell: its formula, its number as it is kept, or its text."""
     formula, kind = kept(cell, TABLENS, "formula"), kept(cell, OFFICENS, "value-type")
     if formula is not None:
@@ -62,20 +89,19 @@ def text_of(cell):
     if kind == "boolean":
         return kept(cell, OFFICENS, "boolean-value").upper()
     if kind == "date":
-        return shortest(days_of(kept(cell, OFFICENS, "date-value")))
+        return shortest(days_of(kept(cell, OFFICENS, "date-value"), day_0))
     if kind == "time":
         return shortest(days_in(kept(cell, OFFICENS, "time-value")))
-    paragraphs = [child for child in cell.childNodes if getattr(child, "qname", None) == (TEXTNS, "p")]
-    return as_text("\n".join(written(paragraph) for paragraph in paragraphs)) if kind == "string" else ""
+    return as_text(str(string_of(cell))) if kind == "string" else ""
 
 
-def rows_of(table):
+def rows_of(table, day_0):
     """The texts of a sheet, row by row, each row to its last text."""
     rows = []
     for element in within(table, ROW):
         row = []
         for cell in within(element, *CELLS):
-            text = text_of(cell)
+            text = text_of(cell, day_0)
             row += [text] * (times(cell, "columns") if text else min(times(cell, "columns"), MOST_COLUMNS))
         while row and not row[-1]:
             row.pop()
@@ -101,25 +127,33 @@ def doubts_of(table):
     return told
 
 
+def without_brackets(text):
+    """References as spreadsheets show them: [.$A$1:.$B$2], or $plan.$A$1:.$B$2 as a name has it, is $A$1:$B$2 of its sheet."""
+    parts = re.split(r'("(?:[^"]|"")*")', text)
+    parts[::2] = [re.sub(r"\[\.?([^\]]*)\]", r"\1", part).replace(":.", ":") for part in parts[::2]]
+    return "".join(parts)
+
+
 def names_in(element, sheet):
     """The names that stand in a sheet's element or the workbook's, as (sheet, name, text)."""
-    for group in (child for child in element.childNodes if getattr(child, "qname", None) == (TABLENS, "named-expressions")):
-        for name in group.childNodes:
+    for group in children(element, (TABLENS, "named-expressions")):
+        for name in within(group, *NAMES):
             text = kept(name, TABLENS, "cell-range-address") or re.sub(r"^(of:)?=?", "", kept(name, TABLENS, "expression", ""))
-            yield sheet, str(kept(name, TABLENS, "name")), re.sub(r"\[\.?([^\]]*)\]", r"\1", text).replace(":.", ":")
+            yield sheet, str(kept(name, TABLENS, "name")), without_brackets(text)
 
 
 def tables_of(document):
-    return [child for child in document.spreadsheet.childNodes if getattr(child, "qname", None) == (TABLENS, "table")]
+    """The sheets; what LibreOffice keeps of other documents' sheets beside them is none."""
+    return [table for table in children(document.spreadsheet, (TABLENS, "table")) if "'#$" not in kept(table, TABLENS, "name")]
 
 
 def read(path):
     """The sheets with their rows of texts, the names, and what is to be told of the workbook."""
     document = load(path)
-    sheets, names, told = {}, list(names_in(document.spreadsheet, "")), []
+    sheets, names, told, day_0 = {}, list(names_in(document.spreadsheet, "")), [], day_0_of(document)
     for table in tables_of(document):
         sheet = str(kept(table, TABLENS, "name"))
-        sheets[sheet] = rows_of(table)
+        sheets[sheet] = rows_of(table, day_0)
         names += names_in(table, sheet)
         told += doubts_of(table)
     return sheets, names, told
@@ -162,12 +196,18 @@ def parted(element, what, before, count):
     return element
 
 
+def forget_result(cell):
+    """Drops what a cell holds but for its formula and its style."""
+    for key in [key for key in cell.attributes if key[0] in (OFFICENS, CALCEXT)]:
+        del cell.attributes[key]
+    for paragraph in children(cell, PARAGRAPH):
+        cell.removeChild(paragraph)
+
+
 def put(cell, text):
     """Makes the cell hold a number, or nothing; its style stays."""
-    for key in [key for key in cell.attributes if key[0] in (OFFICENS, CALCEXT) or key == (TABLENS, "formula")]:
-        del cell.attributes[key]
-    for child in [child for child in cell.childNodes if getattr(child, "qname", None) == (TEXTNS, "p")]:
-        cell.removeChild(child)
+    forget_result(cell)
+    cell.attributes.pop((TABLENS, "formula"), None)
     if text:
         cell.attributes[OFFICENS, "value-type"] = "float"
         cell.attributes[OFFICENS, "value"] = shortest(float(number_of(text)))
@@ -177,12 +217,10 @@ def put(cell, text):
 
 def forget_results(table):
     """Drops the results that are kept beside formulas, so that the spreadsheet program computes them when it opens the file."""
-    for cell in (cell for row in within(table, ROW) for cell in within(row, *CELLS)):
-        if kept(cell, TABLENS, "formula") is not None:
-            for key in [key for key in cell.attributes if key[0] in (OFFICENS, CALCEXT)]:
-                del cell.attributes[key]
-            for child in [child for child in cell.childNodes if getattr(child, "qname", None) == (TEXTNS, "p")]:
-                cell.removeChild(child)
+    for row in within(table, ROW):
+        for cell in within(row, *CELLS):
+            if kept(cell, TABLENS, "formula") is not None:
+                forget_result(cell)
 
 
 def write(path, texts, out):

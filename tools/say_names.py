@@ -18,11 +18,11 @@ import csv
 import re
 import sys
 
-from sheet_files import NUMERAL, PARTS, REFERENCE, names_by_sheet, write_records
+from sheet_files import NUMERAL, PARTS, REFERENCE, ending_in_a_line, names_by_sheet, write_records
 
 CODES = {"<=": "1", "=": "2", ">=": "3", "integer": "4", "binary": "5"}
 GOALS = {"max": "1", "min": "2", "reach": "3"}
-GOAL = re.compile(r"(max|min|reach)\s+(?:(\S+)\s+)?(\S.*)\Z")
+GOAL = re.compile(r"(?:(max|min)|reach\s+(\S+))\s+(\S.*)\Z")
 ROW = re.compile(r"(.+?)\s*(<=|>=|=)\s*(.+)\Z")
 WHOLE = re.compile(r"(.+?)\s+(integer|binary)\Z")
 
@@ -33,9 +33,9 @@ def reference(text, line):
 
 def aim(line, goal, value, cell):
     """The names of the objective's line."""
-    if (goal == "reach") != bool(value) or value and not NUMERAL.match(value):
-        sys.exit(f"not understood: {line} (reach has a number before its cell, max and min have none)")
-    return [("solver_opt", reference(cell, line)), ("solver_typ", GOALS[goal])] + ([("solver_val", value)] if value else [])
+    if value and not NUMERAL.match(value):
+        sys.exit(f"not understood: {line} ({value} is no number)")
+    return [("solver_opt", reference(cell, line)), ("solver_typ", GOALS[goal or "reach"])] + ([("solver_val", value)] if value else [])
 
 
 def constraint(line, number):
@@ -66,19 +66,29 @@ def write(sheet, lines):
     return [(sheet, name, text) for name, text in [*head, ("solver_num", str(count)), *rows]]
 
 
-def plain(text, sheet):
-    """A text without its equals sign; a reference on the sheet itself also without the sheet and the dollar signs."""
-    text = text[1:] if text.startswith("=") else text
-    parts = PARTS.findall(text)
-    if not all(REFERENCE.match(part) for part in parts):
+def plain_reference(text, sheet):
+    """A reference without dollar signs, and without its sheet where that is the sheet itself; another text as it stands."""
+    found = REFERENCE.match(text)
+    if not found:
         return text
-    own = re.compile(r"\$?(?:%s|'%s')[!.]" % (re.escape(sheet), re.escape(sheet.replace("'", "''"))), re.IGNORECASE)
-    return ", ".join(re.sub(r"\$(?=[A-Za-z0-9])", "", own.sub("", part)).strip() for part in parts)
+    where, letters, row, where_last, letters_last, row_last = found.groups()
+    named = where[1:-1].replace("''", "'") if where and where.startswith("'") else where
+    mark = "" if not where or named.lower() == sheet.lower() else where + "!"
+    if where_last and where_last.lower() != (where or "").lower():
+        return text
+    return f"{mark}{letters}{row}" + (f":{letters_last}{row_last}" if letters_last else "")
+
+
+def plain(name, text, sheet):
+    """A name's text without its equals sign, references as in words."""
+    text = text.removeprefix("=")
+    parts = PARTS.findall(text) if name == "solver_adj" else [text]
+    return ", ".join(plain_reference(part, sheet) for part in parts)
 
 
 def read(sheet, records):
     """The lines of the model that the names of a sheet state."""
-    names = {name: plain(text, sheet) for name, text in names_by_sheet(records).get(sheet.lower(), {}).items()}
+    names = {name: plain(name, text, sheet) for name, text in names_by_sheet(records).get(sheet.lower(), {}).items()}
     words = {code: word for word, code in CODES.items()}
     goals = {code: word for word, code in GOALS.items()}
     try:
@@ -107,4 +117,4 @@ def main(words):
 
 
 if __name__ == "__main__":
-    main(sys.argv[1:])
+    ending_in_a_line(main, sys.argv[1:])

@@ -1,14 +1,15 @@
 """What the tools share: addresses and references, numbers, the CSV files that the program reads, and the Solver's names in them."""
 import csv
+import io
 import re
 import sys
 from fractions import Fraction
 
-NUMERAL = re.compile(r"[+-]?(\d+\.?\d*|\.\d+)([eE][+-]?\d+)?%?\Z")
+NUMERAL = re.compile(r"[+-]?(\d+\.?\d*|\.\d+)([eE][+-]?\d+)?%?\Z", re.ASCII)
 PLAIN_WORD = re.compile(r"[A-Za-z_\u0080-\U0010ffff][A-Za-z0-9_\u0080-\U0010ffff]*\Z")
 PARTS = re.compile(r"(?:'(?:[^']|'')*'|[^,;~'])+")
 CORNER = r"(?:\$?('(?:[^']|'')*'|[^\s'!.:$\[\]()+*/-]+)[!.]|\.)?\$?([A-Za-z]{1,3})\$?(\d{1,7})"
-REFERENCE = re.compile(rf"\s*\[?{CORNER}(?::{CORNER})?\]?\s*\Z")
+REFERENCE = re.compile(rf"\s*\[?{CORNER}(?::{CORNER})?\]?\s*\Z", re.ASCII)
 
 
 def column_letters(column):
@@ -68,15 +69,34 @@ def read_records(path):
         return [record for record in csv.reader(file) if record]
 
 
+def ending_in_a_line(work, *words):
+    """Does a script's work; where a file can't be read or written, it ends with 1 and one line."""
+    try:
+        work(*words)
+    except OSError as fault:
+        sys.exit(f"{fault.filename or 'the output'}: {fault.strerror}")
+    except (UnicodeError, csv.Error) as fault:
+        sys.exit(f"a file is no CSV text in UTF-8: {fault}")
+
+
+def text_of_record(record):
+    """A record as a line of CSV. A field with a carriage return stands in quotes, as csv sees to where lines end in one."""
+    line = io.StringIO(newline="")
+    csv.writer(line, lineterminator="\r\n").writerow(record)
+    return line.getvalue().removesuffix("\r\n") + "\n"
+
+
 def write_records(file, records):
-    csv.writer(file, lineterminator="\n").writerows(records)
+    file.writelines(map(text_of_record, records))
 
 
 def names_by_sheet(records):
     """The names of each sheet, as small letters, with their texts: from the records of a file of names."""
     sheets = {}
-    for sheet, name, text in records:
-        sheets.setdefault(sheet.lower(), {})[name.lower()] = text
+    for number, record in enumerate(records, 1):
+        if len(record) != 3:
+            sys.exit(f"record {number} of the names has not three fields: {record}")
+        sheets.setdefault(record[0].lower(), {})[record[1].lower()] = record[2]
     return sheets
 
 

@@ -85,8 +85,8 @@ def read(lines):
             take(model, line)
         except (TypeError, ValueError):
             sys.exit(f"no line of a model: {line}")
-    if not model.objective or not model.kinds or lines[-1] != "end":
-        sys.exit("no model: it begins with the objective, has a line for each decision cell and ends with end")
+    if not model.objective or not model.kinds or lines[-1] != "end" or lines.count("end") > 1:
+        sys.exit("no model, or several: one begins with the objective, has a line for each decision cell and ends with end")
     for cell, bounds in model.bounds.items():
         for place, relation in enumerate((">=", "<=")):
             if bounds[place] is not None and "/" in spoken(bounds[place]):
@@ -190,8 +190,8 @@ def mps(model, names):
 
 
 def folded(line):
-    """A line of LP text in lines that are short enough for every reader."""
-    return textwrap.fill(line, 240, subsequent_indent="  ", break_long_words=False, break_on_hyphens=False)
+    """A line of LP text in lines that are short enough for every reader; a comment has to stay one line."""
+    return line if line.startswith("\\") else textwrap.fill(line, 240, subsequent_indent="  ", break_long_words=False, break_on_hyphens=False)
 
 
 def main(kind):

@@ -5,14 +5,15 @@ usage: to_workbook.py BOOK.xlsx|BOOK.ods FOLDER OUT.xlsx|OUT.ods
 
 FOLDER is what from_workbook.py made of BOOK, after `save`: the decision cells that names.csv there states are written into a copy
 of BOOK, OUT, where they differ. A fraction such as =7/3 is written as that formula. The results that a workbook keeps beside its
-formulas are left out of OUT, so that the spreadsheet program computes them when it opens OUT. Prints each cell that is written;
-what the library doesn't keep of the workbook is told on standard error. Ends with 0 where OUT is written, and else with 1 and one line.
+formulas are left out of OUT, so that the spreadsheet program computes them when it opens OUT. Prints each cell that is written.
+OUT is read again and compared with BOOK; what the library doesn't keep of the workbook, and a number of more digits than a workbook
+holds, is told on standard error. Ends with 0 where OUT is written, and else with 1 and one line.
 """
 import os
 import sys
 
 import workbooks
-from sheet_files import NUMERAL, cell_name, decision_cells, is_fraction, names_by_sheet, read_records
+from sheet_files import NUMERAL, cell_name, decision_cells, ending_in_a_line, is_fraction, names_by_sheet, number_of, read_records
 
 
 def read_sheets(folder):
@@ -41,13 +42,34 @@ def changed(sheets, folder):
     return texts
 
 
+def texts_of(sheets):
+    """The texts of the sheets by their cells."""
+    return {(sheet.lower(), row, column): text
+            for sheet, rows in sheets.items() for row, texts in enumerate(rows) for column, text in enumerate(texts) if text}
+
+
+def is_same(text, other):
+    return text == other or all(NUMERAL.match(one) for one in (text, other)) and number_of(text) == number_of(other)
+
+
+def differences(wanted, copied, titles):
+    """A line for each cell of the copy that holds another text than it should."""
+    for where, row, column in sorted(wanted.keys() | copied.keys()):
+        text, other = (texts.get((where, row, column), "") for texts in (wanted, copied))
+        if not is_same(text, other) and other != "of:" + text:
+            yield f"{cell_name(titles[where], row, column)} is {other or 'empty'} in the copy, in place of {text or 'nothing'}"
+
+
 def main(book, folder, out):
     if workbooks.ending(book) != workbooks.ending(out) or os.path.abspath(book) == os.path.abspath(out):
         sys.exit("OUT is another file than BOOK, of the same ending")
-    sheets, _, _ = workbooks.read(book)
+    sheets, names, _ = workbooks.read(book)
     titles = {sheet.lower(): sheet for sheet in sheets}
     texts = changed(sheets, folder)
-    for line in workbooks.module_for(book).write(book, texts, out):
+    told = workbooks.module_for(book).write(book, texts, out)
+    copied, names_of_copy, _ = workbooks.read(out)
+    lost = [f"the name {name} is not as it was" for _, name, _ in sorted(set(names) ^ set(names_of_copy))]
+    for line in [*told, *differences({**texts_of(sheets), **texts}, texts_of(copied), titles), *dict.fromkeys(lost)]:
         print(line, file=sys.stderr)
     for (where, row, column), text in texts.items():
         print(cell_name(titles[where], row, column), text or "(empty)")
@@ -56,7 +78,4 @@ def main(book, folder, out):
 if __name__ == "__main__":
     if len(sys.argv) != 4:
         sys.exit(__doc__)
-    try:
-        main(*sys.argv[1:])
-    except OSError as fault:
-        sys.exit(f"{fault.filename or 'the output'}: {fault.strerror}")
+    ending_in_a_line(main, *sys.argv[1:])
