@@ -64,7 +64,7 @@ examples:
 install:
 	@$(needs_build)
 	@for name in $(programs); do \
-	if test -x crates/$$name/out/$$name; then install -D crates/$$name/out/$$name "$(bin)/$$name"; else echo "$$name is not built, so it is left out."; fi; done
+	if test -x crates/$$name/out/$$name; then install -D crates/$$name/out/$$name "$(bin)/$$name" || exit 1; else echo "$$name is not built, so it is left out."; fi; done
 	install -D -m 644 share/opensolver.1 "$(man)/opensolver.1"
 	install -D -m 644 share/opensolver.bash "$(completions)/opensolver"
 

@@ -22,11 +22,14 @@ title
     "it's.me.csv": "8\n",
     "names.csv": '''plan,solver_adj,'plan'!$A$1:$B$1
 My Plan,solver_opt,'My Plan'!$A$1
+,solver_adj,#REF!
 ,cost,'it''s.me'!$A$1
 ,beside,plan!B2
 ''',
 }
-XLSX_TOLD = "the name beside is plan!B2, which in the workbook moves with the cell that uses it, and here does not\n"
+XLSX_TOLD = """the name solver_adj belongs to the whole workbook and is not read as the Solver's: give it a sheet as its scope
+the name beside is plan!B2, which in the workbook moves with the cell that uses it, and here does not
+"""
 
 
 def make_xlsx(path):
@@ -52,7 +55,7 @@ def make_xlsx(path):
     for title, number in (("My Plan", 7), ("it's.me", 8)):
         book.create_sheet(title).append([number])
     for name, sheet, text in (("solver_adj", 0, "'plan'!$A$1:$B$1"), ("solver_opt", 1, "'My Plan'!$A$1"),
-                              ("cost", None, "'it''s.me'!$A$1"), ("beside", None, "plan!B2")):
+                              ("solver_adj", None, "#REF!"), ("cost", None, "'it''s.me'!$A$1"), ("beside", None, "plan!B2")):
         book.defined_names.append(DefinedName(name, localSheetId=sheet, hidden=sheet is not None, attr_text=text))
     book.calculation.fullCalcOnLoad = False
     book.save(path)

@@ -30,7 +30,7 @@ def changed(sheets, folder):
     solved, before = read_sheets(folder), {sheet.lower(): rows for sheet, rows in sheets.items()}
     texts = {}
     for sheet, names in names_by_sheet(solved.pop("names", [])).items():
-        for cell in decision_cells(names, sheet) if "solver_adj" in names else []:
+        for cell in decision_cells(names, sheet) if sheet and "solver_adj" in names else []:
             where, row, column = cell[0].lower(), *cell[1:]
             if where not in solved or where not in before:
                 sys.exit(f"{cell_name(*cell)}: the folder or the workbook has no such sheet")
@@ -61,7 +61,7 @@ def differences(wanted, copied, titles):
 
 
 def main(book, folder, out):
-    if workbooks.ending(book) != workbooks.ending(out) or os.path.abspath(book) == os.path.abspath(out):
+    if workbooks.ending(book) != workbooks.ending(out) or os.path.realpath(book) == os.path.realpath(out):
         sys.exit("OUT is another file than BOOK, of the same ending")
     sheets, names, _ = workbooks.read(book)
     titles = {sheet.lower(): sheet for sheet in sheets}
