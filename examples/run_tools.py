@@ -18,7 +18,6 @@ import odd_books
 
 HERE = os.path.dirname(os.path.abspath(__file__))
 TOOLS = os.path.join(HERE, "..", "tools")
-MODELS = os.path.join(HERE, "models")
 LIBRARIES = {"xlsx": "openpyxl", "ods": "odf"}
 
 
@@ -146,7 +145,9 @@ def texts_of_models(program):
         for kind in ("lp", "mps"):
             same(f"{name}.{kind}", read("models", f"{name}.{kind}"), tool("to_lp", kind, text=read("models", name + ".model")))
     tool("to_lp", "lp", text="infeasible\n", status=1)
-    tool("to_lp", "lp", text=2 * read("models", "bakery.model"), status=1)
+    bakery = read("models", "bakery.model")
+    for text in (2 * bakery, bakery.replace("4*plan!C2 + 0", "4*plan!C2 + ? + 0"), bakery.replace("cell plan!C2 integer 0 -\n", "")):
+        tool("to_lp", "mps", text=text, status=1)
 
 
 def words_and_names(program):

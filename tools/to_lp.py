@@ -15,10 +15,11 @@ from dataclasses import dataclass, field
 from fractions import Fraction
 from math import lcm
 
-from sheet_files import spoken
+from sheet_files import ending_in_a_line, spoken
 
 CELL = r"(?:'(?:[^']|'')*'|[^\s'!*]+)![A-Z]+\d+"
 TERM = re.compile(rf"(\S+?)\*({CELL})")
+FORM = re.compile(rf"(?:\S+?\*{CELL} \+ )*[^\s*]+\Z")
 GOAL = re.compile(r"(max|min|none|reach (\S+))(?: (.*))?\Z")
 ROW = re.compile(r"row (\d+) (.*) (<=|>=|=) 0\Z")
 INTEGERS = {True: "'INTORG'", False: "'INTEND'"}
@@ -54,7 +55,9 @@ class Model:
 
 
 def form(text):
-    """The terms and the constant of a form as `model` prints it."""
+    """The terms and the constant of a form as `model` prints it; ValueError where it is none."""
+    if not FORM.match(text):
+        raise ValueError(text)
     return {cell: Fraction(number) for number, cell in TERM.findall(text)}, Fraction(text.rsplit(" + ", 1)[-1])
 
 
@@ -87,14 +90,23 @@ def read(lines):
             sys.exit(f"no line of a model: {line}")
     if not model.objective or not model.kinds or lines[-1] != "end" or lines.count("end") > 1:
         sys.exit("no model, or several: one begins with the objective, has a line for each decision cell and ends with end")
-    for cell, bounds in model.bounds.items():
-        for place, relation in enumerate((">=", "<=")):
-            if bounds[place] is not None and "/" in spoken(bounds[place]):
-                model.rows.append(Row(f"{'least' if place == 0 else 'most'}_{name_of(cell)}", {cell: Fraction(1)}, relation, bounds[place]))
-                bounds[place] = None
+    for row in (model.objective, *model.rows):
+        if not row.terms.keys() <= model.kinds.keys():
+            sys.exit(f"no model: {row.name} has a cell without a line: {', '.join(row.terms.keys() - model.kinds.keys())}")
+    model.rows += bounds_in_rows(model)
     model.scale = model.objective.scale()
     model.objective, model.rows = model.objective.scaled(), [row.scaled() for row in model.rows]
     return model
+
+
+def bounds_in_rows(model):
+    """Rows for the bounds that have no short decimal, in the place of these bounds."""
+    names = names_of(model)
+    for cell, bounds in model.bounds.items():
+        for place, (word, relation) in enumerate((("least", ">="), ("most", "<="))):
+            if bounds[place] is not None and "/" in spoken(bounds[place]):
+                yield Row(f"{word}_{names[cell]}", {cell: Fraction(1)}, relation, bounds[place])
+                bounds[place] = None
 
 
 def name_of(cell):
@@ -203,4 +215,4 @@ def main(kind):
 if __name__ == "__main__":
     if len(sys.argv) != 2 or sys.argv[1] not in ("lp", "mps"):
         sys.exit(__doc__)
-    main(sys.argv[1])
+    ending_in_a_line(main, sys.argv[1])
