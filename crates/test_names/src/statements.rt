@@ -2,11 +2,10 @@
 use crate::texts::{tell_fault, tell_statement};
 use crate::workbooks::open_workbook;
 use cell_refs::SheetId;
-use solver_names::{Statement, side_trees, statement};
+use solver_names::{side_trees, statement};
 use std::alloc::Global;
 use std::fmt::Write;
 use std::test::Fail;
-use workbook::Workbook;
 
 // Names, and what they state on the first sheet.
 const CASES: &[(&str, &str)] = &[
@@ -257,20 +256,7 @@ const SIDES: &[(&str, usize, usize, &str)] = &[
     ),
 ];
 
-// Appends the right sides that are expressions.
-fn tell_sides(
-    alloc: Global,
-    book: &Workbook,
-    stated: &Statement,
-    to: &mut String,
-) -> Result<(), Fail> {
-    for (k, tree) in &side_trees(alloc, book, stated)? {
-        write!(to, "{}: {} to {}; ", *k, tree.span.start, tree.span.end)?;
-    }
-    Ok(())
-}
-
-// How many cells are to be decided and how many rows there are; and the right sides that are expressions.
+// How many cells are to be decided and how many rows there are. Appends the right sides that are expressions.
 fn count(alloc: Global, names: &str, to: &mut String) -> Result<(usize, usize), Fail> {
     let book = open_workbook(alloc, names.as_bytes())?;
     if book.sheets().len() == 0 {
@@ -279,7 +265,9 @@ fn count(alloc: Global, names: &str, to: &mut String) -> Result<(usize, usize), 
     let Ok(stated) = statement(alloc, &book, SheetId(0)) else {
         return Err(Fail::new("there is a fault"));
     };
-    tell_sides(alloc, &book, &stated, to)?;
+    for (k, tree) in &side_trees(alloc, &book, &stated)? {
+        write!(to, "{}: {} to {}; ", *k, tree.span.start, tree.span.end)?;
+    }
     Ok((stated.adj.cells().len(), stated.rows.len()))
 }
 

@@ -23,15 +23,22 @@ fn value_by_definition(alloc: Global, workbook: &Workbook) -> Result<Option<Valu
     Ok(known_in_rounds(alloc, workbook, &deps, cell)?)
 }
 
-// A value as a text, or none.
-fn show_value(value: Option<Value>, to: &mut String) -> Result<(), Memory> {
-    Ok(match value {
-        Some(Value::Number(number)) => number.write(to)?,
-        Some(Value::Logical(true)) => to.push_str("TRUE")?,
-        Some(Value::Error(kind)) => to.push_str(kind.text())?,
-        Some(_) => to.push_str("another value")?,
-        None => to.push_str("none")?,
-    })
+// Appends a value.
+fn show_value(value: &Value, to: &mut String) -> Result<(), Memory> {
+    match value {
+        Value::Number(number) => number.write(to),
+        Value::Logical(holds) => Ok(to.push_str(if *holds { "TRUE" } else { "FALSE" })?),
+        Value::Error(kind) => Ok(to.push_str(kind.text())?),
+        Value::Text(_) | Value::Empty => Ok(to.push_str("another value")?),
+    }
+}
+
+// Appends a value, or that there is none.
+fn show_found(value: Option<Value>, to: &mut String) -> Result<(), Memory> {
+    match value {
+        Some(value) => show_value(&value, to),
+        None => Ok(to.push_str("none")?),
+    }
 }
 
 // What the first sheet has, and the value of its first cell.
@@ -58,7 +65,7 @@ fn known_in_rounds_is_the_value_by_the_definition(rt: HostRuntime) -> Result<(),
     for (sheet, want) in SHEETS {
         let workbook = open_workbook(rt.alloc(), sheet.as_bytes(), b"", b"")?;
         let mut found = String::new(rt.alloc());
-        show_value(value_by_definition(rt.alloc(), &workbook)?, &mut found)?;
+        show_found(value_by_definition(rt.alloc(), &workbook)?, &mut found)?;
         assert_eq!(rt; found.as_str(), *want, "{sheet}");
     }
     Ok(())
