@@ -1,10 +1,14 @@
 #!/usr/bin/env python3
 """Lists the definitions on which statements rest: those that a reader must believe.
 
-usage: believed.py [CRATE.FILE.NAME..]
+usage: believed.py [--as-read] [CRATE.FILE.NAME..]
 
 A statement is named by its crate, its file of specs/ and its name. Without words it is the contract of the program's call `run`. Each
 line printed has a crate, how many of its definitions are reached and how many lines they have, and the files that hold them.
+
+A value has to be one, so a formula's tree and a reference's area are also functions of their texts, and these go through a text in
+the order of the reading. A reader need not believe them: laws that are proved say that they give exactly what the grammar spells, a
+relation. So these laws are listed in their place, with what they say. With `--as-read` the functions themselves are listed.
 """
 import collections
 import os
@@ -13,6 +17,12 @@ import sys
 
 CRATES = os.path.join(os.path.dirname(os.path.abspath(__file__)), "..", "crates")
 HEADLINE = ["opensolver_cli.Headline.RunsAs", "opensolver_cli.Completeness.EndsExactly", "opensolver_cli.Headline.IsCounted"]
+
+# functions of a text, the law that says what they give, and the function whose contract it is
+LAWS = {
+    ("formula_parser", "TextTrees", "tree_in"): (("formula_parser", "TextTrees", "TreesAreSpelled"), "formula_parser::trees_are_spelled"),
+    ("formula_parser", "TextTrees", "area_in"): (("text_laws", "Areas", "AreasAreSpelled"), "text_laws::areas_are_spelled"),
+}
 
 NAMED = re.compile(r"use Rattle\.(\w+)\.specs\.([\w.]+?)\.\{(.*)\}$")
 FILE = re.compile(r"use Rattle\.(\w+)\.specs\.([\w.]+) as (\w+)$")
@@ -79,11 +89,12 @@ class Specs:
         if point and module in imports and imports[module][2] is None:
             yield self.found((*imports[module][:2], name))
 
-    def reached(self, starts):
-        """The definitions on which these rest, and they themselves."""
+    def reached(self, starts, laws):
+        """The definitions on which these rest, and they themselves; in the place of what has a law stands that law."""
         seen, left = set(), list(starts)
         while left:
             key = left.pop()
+            key = laws[key][0] if key in laws else key
             if key is None or key in seen:
                 continue
             seen.add(key)
@@ -94,17 +105,23 @@ class Specs:
 
 def main():
     specs = Specs()
-    starts = [tuple(word.split(".")) for word in sys.argv[1:] or HEADLINE]
+    words = [word for word in sys.argv[1:] if word != "--as-read"]
+    laws = {} if "--as-read" in sys.argv[1:] else LAWS
+    starts = [tuple(word.split(".")) for word in words or HEADLINE]
     lacking = [".".join(key) for key in starts if key not in specs.lines]
     if lacking:
         sys.exit(f"there is no statement {lacking[0]}")
     count, lines, files = collections.Counter(), collections.Counter(), collections.defaultdict(set)
-    for key in specs.reached(starts):
+    reached = specs.reached(starts, laws)
+    for key in reached:
         count[key[0]] += 1
         lines[key[0]] += len(specs.lines[key])
         files[key[0]].add(key[1])
     for crate in sorted(count):
         print(f"{crate}: {count[crate]} definitions, {lines[crate]} lines ({', '.join(sorted(files[crate]))})")
+    for function, (law, said_by) in sorted(laws.items()):
+        if law in reached:
+            print(f"in the place of {'.'.join(function)}: {'.'.join(law)}, as {said_by} proves")
     print(f"altogether {count.total()} of {len(specs.lines)} definitions, {lines.total()} of {sum(map(len, specs.lines.values()))} lines")
 
 
