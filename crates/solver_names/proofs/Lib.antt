@@ -3,6 +3,10 @@ pub mod PartLists
 pub mod RowLists
 pub mod CellLists
 pub mod MarkedCells
+pub mod Sums
+pub mod ColumnRows
+pub mod Counting
+pub mod AreaCells
 pub mod Gathered
 pub mod ReadFaults
 pub mod NoFaults

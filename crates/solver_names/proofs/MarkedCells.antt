@@ -29,7 +29,7 @@ second_true : (p q : Bool) → (p && q) ≡ true → q ≡ true
 second_true true q h = h
 second_true false q h = absurd cc
 
-same_is : (a b : Cell) → is_same_cell a b ≡ true → a ≡ b
+pub same_is : (a b : Cell) → is_same_cell a b ≡ true → a ≡ b
 same_is a b h =
     let more = second_true (a.sheet.0 == b.sheet.0) ((a.row == b.row) && (a.col == b.col)) h in
     let sheet : a.sheet.0 ≡ b.sheet.0 = eqb-true a.sheet.0 b.sheet.0 (first_true (a.sheet.0 == b.sheet.0) ((a.row == b.row) && (a.col == b.col)) h) in
@@ -37,7 +37,7 @@ same_is a b h =
     let col : a.col ≡ b.col = eqb-true a.col b.col (second_true (a.row == b.row) (a.col == b.col) more) in
     λ i. record { sheet = record { 0 = sheet i }; row = row i; col = col i }
 
-same_itself : (a : Cell) → is_same_cell a a ≡ true
+pub same_itself : (a : Cell) → is_same_cell a a ≡ true
 same_itself a = ap₂ (λ x y. x && y) (eq-eqb a.sheet.0 a.sheet.0 refl) (ap₂ (λ x y. x && y) (eq-eqb a.row a.row refl) (eq-eqb a.col a.col refl))
 
 -- ---- the cells of an area are those within it
@@ -56,7 +56,7 @@ or_false : (p : Bool) → (p || false) ≡ p
 or_false true = refl
 or_false false = refl
 
-among_area : (a : Area) (c : Cell) → is_among (cells_of a) c ≡ within a c
+pub among_area : (a : Area) (c : Cell) → is_among (cells_of a) c ≡ within a c
 among_area a c =
     let law = referred_are_cells (tree.Reference (record { start = 0; end = 0 }) (Listed a ∷ [])) c in
     let all : cells_of a ++ [] ≡ cells_of a = append-nil (cells_of a) in
@@ -80,7 +80,7 @@ or_assoc : (p q r : Bool) → ((p || q) || r) ≡ (p || (q || r))
 or_assoc true q r = refl
 or_assoc false q r = refl
 
-cells_more : (cells ds : List Cell) (c : Cell) → is_among (fold with_cell cells ds) c ≡ (is_among cells c || is_among ds c)
+pub cells_more : (cells ds : List Cell) (c : Cell) → is_among (fold with_cell cells ds) c ≡ (is_among cells c || is_among ds c)
 cells_more cells [] c = sym (or_false (is_among cells c))
 cells_more cells (d ∷ ds) c = cells_more (with_cell cells d) ds c ∙ ap (λ p. p || is_among ds c) (cell_more cells d c) ∙ or_assoc (is_among cells c) (is_same_cell c d) (is_among ds c)
 

@@ -1,10 +1,11 @@
 -- The rows of constraints, one after the other.
 use Rattle.std.proofs.Common.{◌≡◌, ◌≤◌, ◌+◌, ◌-◌, ℕ, List, [], ◌∷◌, ◌++◌, length, map, sym, ap, ap₂, ◌∙◌, arith, append_assoc}
 use Rattle.std.specs.List.{range_with_len}
+use Rattle.std.proofs.lemmas.Nat.{mul-le}
 use Rattle.std.proofs.lemmas.List.FromFn.{length-map-range_with_len, map-range_with_len_more}
 use Rattle.lin_model.specs.declared.kinds.Relation.{Relation}
 use Rattle.cell_refs.specs.declared.cell.Cell.{Cell}
-use Rattle.cell_refs.specs.Areas.{Area, area_len}
+use Rattle.cell_refs.specs.Areas.{Area, IsOnSheet, area_height, area_len, area_width}
 use Rattle.workbook.specs.declared.place.Place.{Place}
 use Rattle.solver_names.specs.declared.constraints.Code.TheVariants as code
 use Rattle.solver_names.specs.declared.constraints.Constraint.{Constraint}
@@ -14,6 +15,13 @@ use Rattle.solver_names.specs.Faults.{row_at, rows_by, rows_of}
 -- one row for each left cell
 pub rows_counted : (c : Constraint) (r : Relation) (a : Area) → c.code ≡ Says (code.Related r) → c.left ≡ Says a → length (rows_of c) ≡ area_len a
 rows_counted c r a e f = ap₂ (λ x y. length (rows_by c x y)) e f ∙ length-map-range_with_len (row_at c r a) 0 (area_len a)
+
+-- an area has at most the cells of a sheet
+pub few_cells : (a : Area) → IsOnSheet a → area_len a ≤ 1048576
+few_cells a on =
+    let rows : area_height a ≤ 4096 = omega (arith, on.last_row) in
+    let columns : area_width a ≤ 256 = omega (arith, on.last_column) in
+    mul-le (area_height a) (area_width a) 4096 256 rows columns
 
 -- one row more
 pub one_row : (c : Constraint) (r : Relation) (a : Area) (start old new : List (Relation × Cell × Place)) (i : ℕ) → old ≡ start ++ map (row_at c r a) (range_with_len 0 i)

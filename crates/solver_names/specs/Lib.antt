@@ -1,4 +1,5 @@
 pub mod Statement
+pub mod Counts
 pub mod Texts
 pub mod Constraints
 pub mod Read

@@ -1,6 +1,5 @@
 // The first fault in what the names of a sheet say: by its kind, and then by its constraint.
 ghost use Rattle.std.specs.Prelude.{◌≡◌, ◌≤◌, ◌<◌, [], IfOk, length, string_bytes, unwrap_or};
-ghost use Rattle.cell_refs.specs.Areas.{cells_of};
 ghost use Rattle.solver_names.specs.Answers.{IsTold};
 ghost use Rattle.solver_names.specs.Constraints as said;
 ghost use Rattle.solver_names.specs.Faults as found;
@@ -19,7 +18,7 @@ use crate::name::Name;
 use crate::names::Names;
 use crate::rows::row_count;
 use crate::said::Said;
-use cell_refs::{Area, Cell, SheetId};
+use cell_refs::{Cell, SheetId};
 use memory::Memory;
 use std::alloc::Global;
 use workbook::Workbook;
@@ -40,8 +39,8 @@ pub(crate) enum Fault {
     NotDecision(u16, Cell),
     /// The option isn't of its form.
     Option(Name),
-    TooManyDecisions(usize),
-    TooManyRows(usize),
+    TooManyDecisions(u32),
+    TooManyRows(u32),
 }
 
 /// What is asked of each constraint.
@@ -120,19 +119,6 @@ fn is_mark(code: &Said<Code>) -> bool
     matches!(code, Said::Says(Code::Whole | Code::Binary))
 }
 
-// The first cell of an area that isn't to be decided.
-fn other_cell(decisions: &Cells, area: Area) -> Option<Cell>
-    ensures { result ≡ found.other_cell decisions.now (cells_of area) }
-{
-    for place in 0..area.len() {
-        let cell = area.at(place);
-        if !decisions.has(cell) {
-            return Some(cell);
-        }
-    }
-    None
-}
-
 // A cell that is to be whole, or 0 or 1, and isn't to be decided.
 fn decision_fault(decisions: &Cells, constraint: &Constraint) -> Option<Fault>
     ensures { result ≡ first (no_decision decisions.now constraint.now) }
@@ -143,7 +129,7 @@ fn decision_fault(decisions: &Cells, constraint: &Constraint) -> Option<Fault>
     let Said::Says(left) = &constraint.left else {
         return None;
     };
-    match other_cell(decisions, *left) {
+    match decisions.other_in(*left) {
         Some(cell) => Some(Fault::NotDecision(constraint.k, cell)),
         None => None,
     }
@@ -226,11 +212,11 @@ fn count_fault(decisions: &Cells, constraints: &[Constraint]) -> Option<Fault>
     ensures { result ≡ first (too_many decisions.now constraints.now) }
 {
     let cells = decisions.len();
-    if cells > MOST_DECISIONS {
+    if cells > MOST_DECISIONS as u32 {
         return Some(Fault::TooManyDecisions(cells));
     }
     let rows = row_count(constraints);
-    if rows > MOST_ROWS {
+    if rows > MOST_ROWS as u32 {
         return Some(Fault::TooManyRows(rows));
     }
     None
@@ -283,18 +269,8 @@ pub(crate) fn named_fault(
         Fault::Sizes(k, left, right) => Ok(NamesFault::SizeMismatch(k, left, right)),
         Fault::NotDecision(k, cell) => Ok(NamesFault::NotDecision(k, cell)),
         Fault::Option(name) => Ok(NamesFault::BadOption(name.text(alloc)?)),
-        Fault::TooManyDecisions(count) => Ok(NamesFault::TooManyDecisions(as_count(count)?)),
-        Fault::TooManyRows(count) => Ok(NamesFault::TooManyRows(as_count(count)?)),
-    }
-}
-
-// How many cells or rows there are: 32 sheets have far fewer cells than 2^32, and so have the rows of 256 constraints.
-fn as_count(count: usize) -> Result<u32, Memory>
-    ensures { IfOk result (λ many. many ≡ count) }
-{
-    match u32::try_from(count) {
-        Ok(many) => Ok(many),
-        Err(_) => Err(Memory),
+        Fault::TooManyDecisions(count) => Ok(NamesFault::TooManyDecisions(count)),
+        Fault::TooManyRows(count) => Ok(NamesFault::TooManyRows(count)),
     }
 }
 

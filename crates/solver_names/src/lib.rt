@@ -2,6 +2,7 @@
 #![tactic(auto)]
 
 mod cells;
+mod columns;
 mod constraints;
 mod fault;
 mod faults;

@@ -19,9 +19,10 @@ use std::alloc::Global;
 use workbook::Place;
 
 // How many rows a constraint has.
-#[tactic(auto, using(crate::proofs::RowLists::rows_counted))]
+#[tactic(auto, using(crate::proofs::RowLists::rows_counted, crate::proofs::RowLists::few_cells))]
 fn rows_in(constraint: &Constraint) -> u32
-    ensures { result ≡ length (found.rows_of constraint.now) }
+    ensures rows { result ≡ length (found.rows_of constraint.now) }
+    ensures within { result ≤ 1048576 }
 {
     let Said::Says(Code::Related(_)) = constraint.code else {
         return 0;
@@ -29,17 +30,18 @@ fn rows_in(constraint: &Constraint) -> u32
     let Said::Says(left) = &constraint.left else {
         return 0;
     };
+    let _top = left.top();
     left.len()
 }
 
 /// How many rows there are.
-pub(crate) fn row_count(constraints: &[Constraint]) -> usize
+pub(crate) fn row_count(constraints: &[Constraint]) -> u32
     requires { length constraints.now ≤ MOST_CONSTRAINTS }
     ensures { result ≡ length (found.all_rows constraints.now) }
 {
     let mut count = 0;
     for constraint in constraints {
-        count += rows_in(constraint) as usize;
+        count += rows_in(constraint);
     }
     count
 }

@@ -1,5 +1,5 @@
 // The statement of a sheet's names.
-ghost use Rattle.std.specs.Prelude.{◌≡◌, ◌≤◌, ◌<◌, ◌==◌, ◌||◌, [], IfOk, None, OnOk, length};
+ghost use Rattle.std.specs.Prelude.{◌≡◌, ◌≤◌, ◌<◌, ◌==◌, ◌||◌, [], IfOk, None, length};
 ghost use Rattle.workbook.specs.declared.adj.TheConstants.{DECISIONS};
 ghost use Rattle.fractions.specs.Rational.{zero_ℚ};
 ghost use Rattle.cell_refs.specs.declared.cell.Cell.{Cell};
@@ -63,18 +63,19 @@ fn is_code(code: Code, said: &Said<Code>) -> bool
     }
 }
 
-// Puts the cells on the left of a constraint, where it is of this code.
-fn put_left(cells: &mut Cells, code: Code, constraint: &Constraint) -> Result<(), Memory>
-    ensures { OnOk result ((c : Cell) → is_among cells.new c
-        ≡ (is_among cells.old c || told.is_marked_by code c constraint.now)) }
+// With the cells on the left of a constraint, where it is of this code.
+fn with_left(cells: Cells, code: Code, constraint: &Constraint) -> Result<Cells, Memory>
+    ensures { IfOk result (λ more. (c : Cell) → is_among more c
+        ≡ (is_among cells c || told.is_marked_by code c constraint.now)) }
 {
     let Said::Says(left) = &constraint.left else {
-        return Ok(());
+        return Ok(cells);
     };
-    if is_code(code, &constraint.code) {
-        cells.put_all(*left)?;
+    if !is_code(code, &constraint.code) {
+        return Ok(cells);
     }
-    Ok(())
+    let more = cells.with_area(*left)?;
+    Ok(more)
 }
 
 // The cells on the left of the constraints of this code.
@@ -84,7 +85,7 @@ fn left_cells(alloc: Global, code: Code, constraints: &[Constraint]) -> Result<C
 {
     let mut cells = Cells::new(alloc);
     for constraint in constraints {
-        put_left(&mut cells, code, constraint)?;
+        cells = with_left(cells, code, constraint)?;
     }
     Ok(cells)
 }
@@ -158,7 +159,7 @@ fn statement_by(alloc: Global, sheet: SheetId, names: Names) -> Result<Statement
     let objective = objective_of(&names.objective);
     let not_negative = is_not_negative(&names.negative);
     let constraints = names.constraints;
-    let adj = decisions_of(alloc, names.decisions).into_adj();
+    let adj = decisions_of(alloc, names.decisions).into_adj(alloc)?;
     let rows = rows_of(alloc, &constraints)?;
     let whole = numbers_of_code(alloc, Code::Whole, &constraints, adj.cells())?;
     let binary = numbers_of_code(alloc, Code::Binary, &constraints, adj.cells())?;

@@ -141,7 +141,7 @@ pub(crate) fn cells_in(
     let all = parts(alloc, behind_equals(text))?;
     for part in &all {
         match parse_reference(alloc, part.as_str(), sheet, book.sheets())? {
-            Some(area) => cells.put_all(area)?,
+            Some(area) => cells = cells.with_area(area)?,
             None => return Ok(None),
         }
     }

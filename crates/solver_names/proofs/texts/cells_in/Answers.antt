@@ -39,7 +39,7 @@ loop-part-preserved c =
     ∙ ap (λ s. area_in (record { text = string_bytes c.part-item.result; home = c.args.sheet.0; sheets = s })) c.sheets.ensures in
     let e = c.in-Some.is in
     area_more f c.deref-part-items.result.now c.loop-part.part-index c.part-item.result c.loop-part.cells c.loop-part-test.true c.part-item.is
-    (cells_in c.args.book.now c.args.sheet.0 c.args.text.now) c.loop-part.invariant c.in-Some.area c.put_all.new.self (cc (e, is)) c.in_ok-put_all-in-Some.ensures
+    (cells_in c.args.book.now c.args.sheet.0 c.args.text.now) c.loop-part.invariant c.in-Some.area c.in_ok-cells-in-Some.cells (cc (e, is)) c.in_ok-cells-in-Some.ensures
 
 pub returns : goal.returns
 returns c =
