@@ -6,8 +6,8 @@ use Rattle.std.proofs.lemmas.List.Elements.{All-cons, All-head, All-nil, All-tai
 use Rattle.fractions.specs.Rational.{ℚ}
 use Rattle.fractions.specs.Vectors.{at}
 use Rattle.cell_refs.specs.declared.cell.Cell.{Cell}
-use Rattle.optimality.specs.Problem.{Assignment, Row}
-use Rattle.optimality.specs.Optimal.{Has, IsNotNegative, IsWhole, IsZeroOrOne, Meets, Permitted}
+use Rattle.optimality.specs.Problem.{Assignment, Goal, Row, greatest, least, reach}
+use Rattle.optimality.specs.Optimal.{Has, IsNotNegative, IsWhole, IsZeroOrOne, Meets, Permitted, Reaches}
 use Rattle.recalculation.specs.Entries.{no_overriding}
 use Rattle.workbook.specs.Kinds.{book_of}
 use Rattle.workbook.specs.State.{State}
@@ -21,7 +21,7 @@ use Rattle.sheet_problems.proofs.Numbers.{decision_is_its_number}
 use Rattle.write_back.specs.Writing.{AreDistinct, with_numbers}
 use Rattle.write_back.proofs.Contents.{own_place}
 use Rattle.sheet_solving.specs.Inner.{IsWritten, told_of}
-use Rattle.sheet_solving.specs.Solving.{DecisionHas, Holds, IsSolved, MeetsAll, number_now}
+use Rattle.sheet_solving.specs.Solving.{DecisionHas, Holds, IsReached, IsSolved, MeetsAll, number_now}
 use Rattle.sheet_solving.proofs.Meaning.{IsBest}
 
 -- ---- lists
@@ -86,12 +86,21 @@ module _ (before after : State) (s : Statement) (numbers : Assignment) (is : IsW
           decision_is_its_number (book_of before) (sides_in before s.sheet) s.decisions c j (own_place s.decisions j c distinct e) numbers in
           (c, h.0, e, keeps_number (place.Cell c) ∙ (own ∙ ap Some (at_of numbers j h.0 h.1)), h.2)
 
+  -- a value that the objective reaches under the numbers it has in the workbook as it is now
+  is_reached : (goal : Goal) (objective : Option Cell)
+      → Reaches goal (option_map (λ c. worth_at (book_of before) (sides_in before s.sheet) s.decisions (place.Cell c)) objective) numbers → IsReached after s goal objective
+  is_reached greatest objective h = tt
+  is_reached least objective h = tt
+  is_reached (reach v) None h = tt
+  is_reached (reach v) (Some c) h = keeps_number (place.Cell c) ∙ h
+
   -- so what is permitted holds in the workbook
   meets_all : AreDistinct s.decisions → Permitted (problem_in before s) numbers → MeetsAll after s
   meets_all distinct permitted = record {
     rows = rows_hold s.rows permitted.rows;
     whole = All-weaker (Has IsWhole numbers) (DecisionHas IsWhole after s) (decision_has distinct permitted.one_each IsWhole) s.whole permitted.whole;
     binary = All-weaker (Has IsZeroOrOne numbers) (DecisionHas IsZeroOrOne after s) (decision_has distinct permitted.one_each IsZeroOrOne) s.binary permitted.binary;
+    reached = is_reached s.goal s.objective permitted.reached;
     not_negative =
         All-weaker (Has IsNotNegative numbers) (DecisionHas IsNotNegative after s) (decision_has distinct permitted.one_each IsNotNegative) (not_negative_in s) permitted.not_negative;
   }

@@ -2,7 +2,7 @@
 use Rattle.std.specs.Prelude.{◌≡◌, ◌<◌, ◌≤◌, ℕ, ℤ, Bool, List, All, length, map, Option, Some, None, slice_get, slice_index_or, ⊤}
 use Rattle.std.specs.Option.{option_and_then}
 use Rattle.fractions.specs.Rational.{ℚ}
-use Rattle.optimality.specs.Problem.{Assignment}
+use Rattle.optimality.specs.Problem.{Assignment, Goal, greatest, least, reach}
 use Rattle.optimality.specs.Optimal.{IsNotNegative, IsWhole, IsZeroOrOne, Optimal, Infeasible, Stand, Unbounded, objective_at}
 use Rattle.cell_refs.specs.declared.cell.Cell.{Cell}
 use Rattle.linear_models.specs.Model.{Model}
@@ -60,15 +60,23 @@ pub record Holds (book : State) (s : Statement) (r : RowOf) : Type 0 where
 abbrev pub DecisionHas : (ℚ → Type 0) → State → Statement → ℕ → Type 0
 DecisionHas P book s decision = (c : Cell) × (x : ℚ) × (slice_get s.decisions decision ≡ Some c) × (number_now book s (place.Cell c) ≡ Some x) × P x
 
--- every row and every mark holds in the workbook as it is
+-- where a value is to be reached, the objective is that value in the workbook as it is
+abbrev pub IsReached : State → Statement → Goal → Option Cell → Type 0
+IsReached book s greatest objective = ⊤
+IsReached book s least objective = ⊤
+IsReached book s (reach v) None = ⊤
+IsReached book s (reach v) (Some c) = number_now book s (place.Cell c) ≡ Some v
+
+-- every row, every mark and the wanted value holds in the workbook as it is
 pub record MeetsAll (book : State) (s : Statement) : Type 0 where
   pub rows : All (Holds book s) s.rows
   pub whole : All (DecisionHas IsWhole book s) s.whole
   pub binary : All (DecisionHas IsZeroOrOne book s) s.binary
   pub not_negative : All (DecisionHas IsNotNegative book s) (not_negative_in s)
+  pub reached : IsReached book s s.goal s.objective
 
 -- an optimal assignment was found and is written into the cells to be decided; recalculated, every cell and every right side is what
--- it was under it, and so the workbook meets every constraint
+-- it was under it, and so the workbook meets every constraint and reaches a wanted value
 pub record IsSolved (before after : State) (s : Statement) (numbers : Assignment) (value : Option ℚ) : Type 0 where
   pub optimal : Optimal (problem_in before s) numbers
   pub worth : objective_at (problem_in before s) numbers ≡ value
