@@ -7,9 +7,11 @@ use Rattle.formula_ast.specs.Tree.{Tree}
 use Rattle.recalculation.specs.Entries.{Book, Entry, Constant, Formula, Malformed, entry}
 use Rattle.recalculation.specs.Recalculation.{val}
 use Rattle.recalculation.specs.Walks.{has_walk, is_circular, is_formula, steps_to}
+use Rattle.affine_forms.specs.Forms.{decision_form}
+use Rattle.form_values.specs.declared.abs.Abs.TheVariants.{Affine}
 use Rattle.workbook.specs.declared.place.Place.{Place}
 use Rattle.workbook.specs.declared.place.Place.TheVariants as place
-use Rattle.form_extraction.specs.declared.forms.CellForm.TheVariants.{Circular}
+use Rattle.form_extraction.specs.declared.forms.CellForm.TheVariants.{Circular, Form}
 use Rattle.form_extraction.specs.Formulas.{part_of}
 use Rattle.form_extraction.specs.Places.{Decisions, decision_or, entry_form, form_in, form_of, formula_form, numbered_in, overriding}
 use Rattle.form_extraction.specs.Looked.{forms_of, LooksFrom}
@@ -22,7 +24,7 @@ use Rattle.form_extraction.proofs.Refuted.{refusals_are_right}
 use Rattle.form_extraction.proofs.States.{decision_is_itself}
 use Rattle.extract.specs.Tables.{Table, form_at}
 use Rattle.extract.specs.Knowing.{form_kept, form_said, decided_or, known_form, is_open_text}
-use Rattle.extract.specs.Places.{IsTreeOf, IsUndecided, is_in_circle, place_form, HasForms, IsTheValue, IsRightly, PlaceLooksAt}
+use Rattle.extract.specs.Places.{IsTreeOf, decision_at, is_in_circle, place_form, HasForms, IsTheValue, IsRightly, PlaceLooksAt}
 
 module _ (book : Book) (adj : List Cell) (table : Table) where
   abbrev decisions : Decisions
@@ -56,7 +58,7 @@ module _ (book : Book) (adj : List Cell) (table : Table) where
     same_looks = (depends_on_looked (forms_of book decisions) (known_form book adj table) t agreed).1
 
     -- the form of a place
-    pub formed_is : (p : Place) → IsTreeOf book p t → IsUndecided decisions p → is_in_circle book decisions p t ≡ false → formula_form (known_form book adj table) t ≡ place_form book decisions p t
+    pub formed_is : (p : Place) → IsTreeOf book p t → decision_at decisions p ≡ None → is_in_circle book decisions p t ≡ false → formula_form (known_form book adj table) t ≡ place_form book decisions p t
     formed_is (place.Cell a) is undecided free =
         sym same_form
         ∙ sym (form_is book decisions a ∙ (λ i. decision_or (undecided i) (if free i then Circular else entry_form (forms_of book decisions) (is i))))
@@ -77,17 +79,26 @@ module _ (book : Book) (adj : List Cell) (table : Table) where
         → LooksFrom (is_circular book (λ c. is_some (decisions c)) a) (forms_of book decisions) (entry book a) b ≡ Contains (part_of (known_form book adj table) t).looks b
     looking a b is free = (λ i. LooksFrom (free i) (forms_of book decisions) (is i) b) ∙ ap (λ cells. Contains cells b) same_looks
 
-    pub looks_there : (p : Place) → IsTreeOf book p t → IsUndecided decisions p → is_in_circle book decisions p t ≡ false
+    pub looks_there : (p : Place) → IsTreeOf book p t → decision_at decisions p ≡ None → is_in_circle book decisions p t ≡ false
         → (b : Cell) → Contains (part_of (known_form book adj table) t).looks b × (is_open_text book adj b ≡ true) → PlaceLooksAt book decisions p t b
     looks_there (place.Cell a) is undecided free b h =
         let o = opened b h.1 in
         (undecided, o.0, o.1, subst (λ T. T) (sym (looking a b is free)) h.0)
     looks_there (place.Side k) is undecided free b h = let o = opened b h.1 in (o.0, o.1, subst (λ cells. Contains cells b) (sym same_looks) h.0)
 
-    pub there_looks : (p : Place) → IsTreeOf book p t → IsUndecided decisions p → is_in_circle book decisions p t ≡ false
+    pub there_looks : (p : Place) → IsTreeOf book p t → decision_at decisions p ≡ None → is_in_circle book decisions p t ≡ false
         → (b : Cell) → PlaceLooksAt book decisions p t b → Contains (part_of (known_form book adj table) t).looks b × (is_open_text book adj b ≡ true)
     there_looks (place.Cell a) is undecided free b h = (subst (λ T. T) (looking a b is free) h.3, is_opened b h.1 h.2)
     there_looks (place.Side k) is undecided free b h = (subst (λ cells. Contains cells b) same_looks h.2, is_opened b h.0 h.1)
+
+-- ---- a cell that is to be decided is its number, and looks at nothing
+pub decided_is : (book : Book) (decisions : Decisions) (p : Place) (t : Tree) (j : ℕ) → decision_at decisions p ≡ Some j → Form (Affine (decision_form j)) ≡ place_form book decisions p t
+decided_is book decisions (place.Cell a) t j e = sym (decision_is_itself book decisions a j e)
+decided_is book decisions (place.Side k) t j e = cc
+
+pub decided_looks : (book : Book) (decisions : Decisions) (p : Place) (t : Tree) (j : ℕ) → decision_at decisions p ≡ Some j → (b : Cell) → PlaceLooksAt book decisions p t b → ⊥
+decided_looks book decisions (place.Cell a) t j e b h = let n : decisions a ≡ None = h.0 in cc
+decided_looks book decisions (place.Side k) t j e b h = cc
 
 -- ---- what a form is under every assignment
 pub value_of_place : (book : Book) (decisions : Decisions) (p : Place) (t : Tree) → IsTheValue book decisions p t (place_form book decisions p t)

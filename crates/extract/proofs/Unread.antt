@@ -16,6 +16,7 @@ use Rattle.form_values.specs.declared.abs.AbsArg.{AbsArg}
 use Rattle.form_values.specs.declared.abs.AbsArg.TheVariants.{One}
 use Rattle.fractions.specs.Whole.{whole_ℚ}
 use Rattle.sheet_model.specs.declared.value.Value.TheVariants.{Number}
+use Rattle.form_table.specs.Certain.{index_error}
 use Rattle.form_table.specs.Picks.{pick_form}
 use Rattle.form_table.specs.Wanted.{value_of, number_of}
 use Rattle.form_table.specs.Lookups.{record_form, kinds_in}
@@ -25,7 +26,7 @@ use Rattle.form_extraction.specs.declared.forms.Outcome.TheVariants.{Gives, Refu
 use Rattle.form_extraction.specs.Parts.{Part, argument, tried, on_part, on_parts}
 use Rattle.form_extraction.specs.declared.forms.Why.TheVariants as why
 use Rattle.form_extraction.specs.Sources.{Source, in_source, in_turned, taken, key_places, exchanged}
-use Rattle.form_extraction.specs.Calls.{picked_from, record_from, lookup_by, size_of, call_outcome}
+use Rattle.form_extraction.specs.Calls.{unless_error, seen_before, picked_from, record_from, lookup_by, size_of, call_outcome}
 use Rattle.form_extraction.specs.Formulas.{call_part}
 use Rattle.form_parts.specs.Steps.{unread}
 use Rattle.extract.specs.Unread.{table_place, unread_from, unread_at, is_place, read_at}
@@ -69,8 +70,8 @@ module _ (forms : Cell → Option Abs) (at : Span) where
   index_unread (p ∷ places) =
       called_alike func.Index (unread p ∷ places) (p ∷ places)
       (same_unread (λ q o. index_of_looks by_form (argument q) (map argument places) o) p (λ g. refl))
-      (same_unread (λ q o. in_source o forms q (λ s. on_parts places (λ args. tried at (q ∷ places) (picked_from s) (narrow (pick_form s.rows s.columns args))))) p
-      (λ g i. in_source (Some g) forms p (λ s. on_parts places (λ args. tried_alike at (unread p ∷ places) (p ∷ places) (picked_from s) (narrow (pick_form s.rows s.columns args)) refl i))))
+      (same_unread (λ q o. in_source o forms q (λ s. on_parts places (λ args. unless_error (index_error s.rows s.columns (seen_before o q.outcome) args) (tried at (q ∷ places) (picked_from s) (narrow (pick_form s.rows s.columns args)))))) p
+      (λ g i. in_source (Some g) forms p (λ s. on_parts places (λ args. unless_error (index_error s.rows s.columns [] args) (tried_alike at (unread p ∷ places) (p ∷ places) (picked_from s) (narrow (pick_form s.rows s.columns args)) refl i)))))
 
   -- VLOOKUP and HLOOKUP
   module _ (cells : CellGrid → CellGrid) (turned : Source → Source) where

@@ -1,5 +1,5 @@
 -- The forms of places, which are cells and sides, and what places look at.
-use Rattle.std.specs.Prelude.{◌≡◌, Bool, true, Some, None, is_some, Contains, ⊤}
+use Rattle.std.specs.Prelude.{◌≡◌, ℕ, Bool, true, Option, Some, None, is_some, Contains, ⊤}
 use Rattle.std.specs.FinMap.{contains_key}
 use Rattle.cell_refs.specs.declared.cell.Cell.{Cell}
 use Rattle.cell_refs.specs.declared.span.Span.{Span}
@@ -28,10 +28,10 @@ abbrev pub IsTreeOf : Book → Place → Tree → Type 0
 IsTreeOf book (place.Cell a) t = entry book a ≡ Some (Formula t)
 IsTreeOf book (place.Side k) t = ⊤
 
--- a side, or a cell that isn't to be decided
-abbrev pub IsUndecided : Decisions → Place → Type 0
-IsUndecided decisions (place.Cell a) = decisions a ≡ None
-IsUndecided decisions (place.Side k) = ⊤
+-- the number of a cell that is to be decided; a side has none
+abbrev pub decision_at : Decisions → Place → Option ℕ
+decision_at decisions (place.Cell a) = decisions a
+decision_at decisions (place.Side k) = None
 
 -- whether a cell is circular, and whether a side refers to such a cell, where the cells to be decided refer to nothing
 abbrev pub is_in_circle : Book → Decisions → Place → Tree → Bool

@@ -1,6 +1,7 @@
 //! The forms of cells and of sides: each over the forms of the cells at which it looks.
 #![tactic(auto)]
 
+mod decided;
 mod formula;
 mod known;
 mod least;

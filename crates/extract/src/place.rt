@@ -1,25 +1,29 @@
 // The forms of places.
-ghost use Rattle.std.specs.Prelude.{◌≡◌, ◌+◌, IfOk, false};
+ghost use Rattle.std.specs.Prelude.{◌≡◌, ◌+◌, IfOk, None, false};
 ghost use Rattle.form_extraction.specs.Places.{by_looks, by_outcome, least_without, numbered_in};
 ghost use Rattle.workbook.specs.Kinds.{book_of};
 ghost use Rattle.extract.specs.Knowing.{known_form};
-ghost use Rattle.extract.specs.Places.{HasForms, IsRightly, IsTheValue, IsTreeOf, IsUndecided, is_in_circle, place_form};
+ghost use Rattle.extract.specs.Places.{HasForms, IsRightly, IsTheValue, IsTreeOf, decision_at, is_in_circle, place_form};
 
+use crate::decided::decision_at;
 use crate::formula::form_part;
 use crate::known::Known;
 use crate::least::least_without;
 use crate::left::left_by;
 use crate::steps::Steps;
 use crate::table::FormTable;
+use affine_forms::Form;
 use form_extraction::{CellForm, Outcome};
 use form_parts::Part;
+use form_values::Abs;
 use formula_ast::Expr;
 use memory::Memory;
 use std::alloc::Global;
 use std::sync::ledger::Ledger;
 use workbook::{Adj, Place, Workbook};
 
-/// The form of a cell, or of a side, that isn't circular, over those of the formula cells at which it looks. A call is one step.
+/// The form of a cell, or of a side, that isn't circular, over those of the formula cells at which it looks; a cell to be decided is
+/// its number, whatever it says. A call is one step.
 pub fn form_of<L: Ledger>(
     alloc: Global,
     book: &Workbook,
@@ -30,7 +34,6 @@ pub fn form_of<L: Ledger>(
     steps: &mut Steps<L>,
 ) -> Result<CellForm, Memory>
     requires tree { IsTreeOf (book_of book.now) place tree.now }
-    requires undecided { IsUndecided (numbered_in adj.now) place }
     requires free { is_in_circle (book_of book.now) (numbered_in adj.now) place tree.now ≡ false }
     requires forms { HasForms (book_of book.now) (numbered_in adj.now) got.now tree.now }
     ensures form { IfOk result (λ form. form
@@ -41,11 +44,33 @@ pub fn form_of<L: Ledger>(
     ensures step { steps.new ≡ steps.old + 1 }
 {
     steps.tick();
-    let form = formula_form(alloc, book, adj, place, tree, got)?;
+    let form = place_form(alloc, book, adj, place, tree, got)?;
     Ok(form)
 }
 
 // The same without a count.
+#[tactic(auto, using(crate::proofs::Placing::decided_is))]
+fn place_form(
+    alloc: Global,
+    book: &Workbook,
+    adj: &Adj,
+    place: Place,
+    tree: &Expr,
+    got: &FormTable,
+) -> Result<CellForm, Memory>
+    requires tree { IsTreeOf (book_of book.now) place tree.now }
+    requires free { is_in_circle (book_of book.now) (numbered_in adj.now) place tree.now ≡ false }
+    requires forms { HasForms (book_of book.now) (numbered_in adj.now) got.now tree.now }
+    ensures { IfOk result (λ form. form
+        ≡ place_form (book_of book.now) (numbered_in adj.now) place tree.now) }
+{
+    match decision_at(adj, place) {
+        Some(number) => Ok(CellForm::Form(Abs::Affine(Form::decision(alloc, number)))),
+        None => formula_form(alloc, book, adj, place, tree, got),
+    }
+}
+
+// The form of a formula cell that isn't to be decided, or of a side.
 fn formula_form(
     alloc: Global,
     book: &Workbook,
@@ -55,7 +80,7 @@ fn formula_form(
     got: &FormTable,
 ) -> Result<CellForm, Memory>
     requires tree { IsTreeOf (book_of book.now) place tree.now }
-    requires undecided { IsUndecided (numbered_in adj.now) place }
+    requires undecided { decision_at (numbered_in adj.now) place ≡ None }
     requires free { is_in_circle (book_of book.now) (numbered_in adj.now) place tree.now ≡ false }
     requires forms { HasForms (book_of book.now) (numbered_in adj.now) got.now tree.now }
     ensures { IfOk result (λ form. form

@@ -27,7 +27,7 @@ use Rattle.form_extraction.specs.Places.{decision_or, entry_form, form_of, formu
 use Rattle.form_extraction.specs.Looked.{forms_of, LooksFrom, refers_to_circle, side_form}
 use Rattle.form_extraction.proofs.Agreeing.{form_is}
 use Rattle.form_extraction.proofs.Cells.{looked_is_referred}
-use Rattle.extract.specs.Places.{HasForms, IsTreeOf, IsUndecided, is_in_circle, place_form}
+use Rattle.extract.specs.Places.{HasForms, IsTreeOf, is_in_circle, place_form}
 use Rattle.extract.specs.Tables.{Table, form_at, form_count, with_form}
 use Rattle.sheet_problems.specs.Forms.{form_at as form_of_place}
 use Rattle.sheet_problems.specs.Places.{Sides, tree_of}
@@ -276,10 +276,6 @@ module _ (book : Book) (adj : List Cell) (sides : Sides) where
   pub free_place : (p : Place) (t : Tree) → IsTreeIn book sides p t → is_in_circle book (numbered_in adj) p t ≡ false → is_circular_place book sides adj p ≡ false
   free_place (place.Cell a) t is free = free
   free_place (place.Side k) t is free = ap (is_circular_side book adj) is ∙ free
-
-  pub undecided_place : (table : Table) (p : Place) → IsStale book (kept_in adj sides table) p → IsUndecided (numbered_in adj) p
-  undecided_place table (place.Cell a) stale = stale.entry.1
-  undecided_place table (place.Side k) stale = tt
 
   pub formed : (p : Place) (t : Tree) (form : CellForm) → IsTreeIn book sides p t → form ≡ place_form book (numbered_in adj) p t → form_of_place book sides adj p ≡ Some form
   formed (place.Cell a) t form tree is = ap Some (sym is)

@@ -9,7 +9,5 @@ pub mod MatrixProducts
 pub mod Placing
 pub mod KnownKeys
 pub mod Meeting
-pub mod Sizes
-pub mod SumIfTruth
 pub mod NeverFound
 pub mod Certain

@@ -1,8 +1,6 @@
-pub mod Conditional
 pub mod Counted
 pub mod Kinds
 pub mod Matrices
-pub mod Met
 pub mod Places
 pub mod Truths
 pub mod Undecided

@@ -1,5 +1,5 @@
 // The numbers of some arguments, and what stands in the way of a sum.
-ghost use Rattle.std.specs.Prelude.{◌≡◌, ◌≤◌, ◌^◌, ◌∷◌, [], flat_map, length, option_to_list};
+ghost use Rattle.std.specs.Prelude.{◌≡◌, ◌∷◌, [], flat_map, length, option_to_list};
 ghost use Rattle.std.specs.List.{filter_map};
 ghost use Rattle.std.specs.Result.{result_map_both};
 ghost use Rattle.affine_forms.specs.Answers.{Answers};
@@ -64,13 +64,12 @@ pub(crate) fn error_among(items: &[Abs]) -> Option<ErrorKind>
 }
 
 /// The first argument that is an open logical by itself, where a number is wanted.
-pub(crate) fn first_open(args: &[AbsArg]) -> Option<u16>
-    requires { length args.now ≤ 2 ^ 16 }
+pub(crate) fn first_open(args: &[AbsArg]) -> Option<usize>
     ensures { result ≡ first_open 0 args.now }
 {
     for (index, arg) in args.iter().enumerate() {
         if is_open(arg) {
-            return Some(index as u16);
+            return Some(index);
         }
     }
     None
@@ -128,8 +127,8 @@ pub(crate) fn add_elements(total: &mut Form, alloc: Global, items: &[Abs]) -> Re
     Ok(())
 }
 
-/// Adds an element, if it is a number.
-pub(crate) fn add_element(total: &mut Form, alloc: Global, item: &Abs) -> Result<(), FormStop>
+// Adds an element, if it is a number.
+fn add_element(total: &mut Form, alloc: Global, item: &Abs) -> Result<(), FormStop>
     ensures { Answers
         (through added total.old (filter_map form_in (option_to_list (item_at item.now))))
         (result_map_both (λ _. total.new) (λ stop. stop) result) }

@@ -15,9 +15,9 @@ mod searches;
 mod sums;
 mod values;
 
-pub use conditional::{countif, sumif};
+pub use conditional::countif;
 pub use grids::size_of;
-pub use indexing::index_at;
+pub use indexing::{index_at, index_error};
 pub use lookups::lookup_at;
 pub use matrices::{mmult, transpose, transpose_elements};
 pub use met_places::{places_met, sum_elements, summed_error};

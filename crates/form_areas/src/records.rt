@@ -122,7 +122,7 @@ fn kind_of(value: &Abs) -> Result<Option<MatchKind>, ErrorKind>
 }
 
 // The argument that decides where the field is open.
-fn open_field(field: &Operand, key: &Abs, keys: &[Abs]) -> u16
+fn open_field(field: &Operand, key: &Abs, keys: &[Abs]) -> usize
     ensures { open_field (wanted_in field.now) key.now keys.now ≡ undecided result }
 {
     if let Operand::Test = field {

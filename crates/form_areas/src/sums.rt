@@ -1,5 +1,5 @@
 // SUM, AVERAGE and COUNT.
-ghost use Rattle.std.specs.Prelude.{◌≡◌, ◌≤◌, ◌^◌, IsOk, false, length};
+ghost use Rattle.std.specs.Prelude.{◌≡◌, IsOk, false, length};
 ghost use Rattle.std.specs.List.{list_all};
 ghost use Rattle.form_ops.specs.Truths.{IsTrueCall};
 ghost use Rattle.form_table.specs.Items.{average_form, forms_of, mean, sum_form};
@@ -20,7 +20,6 @@ use std::alloc::Global;
 /// SUM: the sum of the numbers of all arguments; an open logical in an area is skipped, and one by itself is undecided.
 pub fn sum(alloc: Global, args: &[AbsArg]) -> Result<AbsArg, OpRefusal>
     requires takes { Takes func.Sum (length args.now) }
-    requires few { length args.now ≤ 2 ^ 16 }
     requires open_argument { list_all all_known args.now ≡ false }
     ensures answer { Answers (row_of func.Sum args.now) result }
     ensures right { IsTrueCall func.Sum args.now result }
@@ -30,7 +29,6 @@ pub fn sum(alloc: Global, args: &[AbsArg]) -> Result<AbsArg, OpRefusal>
 
 // What is made of the sum: an error among the numbers, or an open logical in the place of one, comes first.
 fn sum_of(alloc: Global, args: &[AbsArg]) -> Result<AbsArg, OpRefusal>
-    requires { length args.now ≤ 2 ^ 16 }
     ensures { Answers (sum_form args.now) result }
 {
     if let Some(kind) = first_error(args) {
@@ -45,7 +43,6 @@ fn sum_of(alloc: Global, args: &[AbsArg]) -> Result<AbsArg, OpRefusal>
 /// AVERAGE: the sum divided by how many numbers there are; an open logical in an area is skipped, and one by itself is undecided.
 pub fn average(alloc: Global, args: &[AbsArg]) -> Result<AbsArg, OpRefusal>
     requires takes { Takes func.Average (length args.now) }
-    requires few { length args.now ≤ 2 ^ 16 }
     requires open_argument { list_all all_known args.now ≡ false }
     ensures answer { Answers (row_of func.Average args.now) result }
     ensures right { IsTrueCall func.Average args.now result }
@@ -55,7 +52,6 @@ pub fn average(alloc: Global, args: &[AbsArg]) -> Result<AbsArg, OpRefusal>
 
 // What is made of the mean: an error among the numbers, or an open logical in the place of one, comes first.
 fn average_of(alloc: Global, args: &[AbsArg]) -> Result<AbsArg, OpRefusal>
-    requires { length args.now ≤ 2 ^ 16 }
     ensures { Answers (average_form args.now) result }
 {
     if let Some(kind) = first_error(args) {

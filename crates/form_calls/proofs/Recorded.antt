@@ -1,15 +1,20 @@
 -- Lookups and INDEX by the table: a reference, or another argument.
-use Rattle.std.proofs.Common.{◌≡◌, refl, sym, ap, ◌∙◌, append-nil, ℕ, List, [], ◌∷◌, ◌++◌, map, Option, Some, None}
+use Rattle.std.specs.Prelude.{◌&&◌, ◌==◌}
+use Rattle.std.proofs.Common.{◌≡◌, refl, sym, ap, ◌∙◌, append-nil, Bool, true, false, if◌then◌else◌, ℕ, List, [], ◌∷◌, ◌++◌, map, Option, Some, None}
+use Rattle.cell_refs.specs.declared.error_kind.ErrorKind.{ErrorKind}
+use Rattle.cell_refs.specs.declared.error_kind.ErrorKind.TheVariants as kind
 use Rattle.cell_refs.specs.declared.cell.Cell.{Cell}
 use Rattle.cell_refs.specs.declared.span.Span.{Span}
 use Rattle.sheet_funcs.specs.declared.pick.Pick.{Pick}
+use Rattle.sheet_funcs.specs.declared.pick.Pick.TheVariants.{Part as Picked, Fault}
 use Rattle.recalculation.specs.Evaluation.{CellGrid}
 use Rattle.recalculation.specs.Looks.{all_looks, index_looks, index_of_looks, lookup_looks, outcomes, picked_cells, record_looks, table_looks, then_cells}
 use Rattle.form_values.specs.declared.abs.Abs.{Abs}
 use Rattle.form_values.specs.declared.abs.AbsArg.{AbsArg}
+use Rattle.form_table.specs.Certain.{pick_in_range, picks_ref_error, index_error}
 use Rattle.form_table.specs.Picks.{pick_form}
 use Rattle.form_table.specs.Wanted.{grid_of}
-use Rattle.form_extraction.specs.Calls.{index_outcome, lookup_by, lookup_outcome, picked_from}
+use Rattle.form_extraction.specs.Calls.{seen_before, picked_at, index_outcome, lookup_by, lookup_outcome}
 use Rattle.form_extraction.specs.Deciding.{by_form, given_by, record_by}
 use Rattle.form_extraction.specs.Parts.{Part, argument, on_outcome, on_part, on_parts, tried_on, value_in}
 use Rattle.form_extraction.specs.Sources as grids
@@ -17,9 +22,10 @@ use Rattle.form_extraction.specs.Sources.{elements_at, in_source, in_turned, key
 use Rattle.form_extraction.specs.declared.forms.Outcome.{Outcome}
 use Rattle.form_extraction.specs.declared.forms.Outcome.TheVariants.{Gives, Refused, Without}
 use Rattle.form_calls.specs.Lookups.{found_cells, found_outcome}
-use Rattle.form_calls.specs.Sources.{cells_picked, columns_of, source_of}
+use Rattle.form_calls.specs.Sources.{cells_picked, columns_of, read_before, rows_of, source_of}
 use Rattle.form_calls.specs.declared.source.Source.{Source}
-use Rattle.form_calls.proofs.Outcomes.{goes_on}
+use Rattle.form_calls.specs.declared.source.Source.TheVariants.{Cells, Values}
+use Rattle.form_calls.proofs.Outcomes.{goes_on, seen_values}
 
 -- what goes on alike
 alike : (o : Outcome) (f g : AbsArg → Outcome) → ((a : AbsArg) → f a ≡ g a) → on_outcome o f ≡ on_outcome o g
@@ -65,16 +71,16 @@ module _ (forms : Cell → Option Abs) (cells : CellGrid → CellGrid) (turned :
 
 -- ---- INDEX
 module _ (forms : Cell → Option Abs) (whole : Span) (table : Part) (places : List Part) where
-  abbrev picked_by : grids.Source → Outcome
-  picked_by s = on_parts places (λ args. tried_on whole (table ∷ places) (pick_form s.rows s.columns args) (picked_from s))
+  abbrev picked_by : List Abs → grids.Source → Outcome
+  picked_by seen s = on_parts places (picked_at whole (table ∷ places) s seen)
 
   pub index_cells : (g : CellGrid) → table.reference ≡ Some g
       → all_looks (map argument places) ++ then_cells (outcomes (map argument places)) (λ vs. then_cells (given_by (pick_form g.rows g.columns vs)) (picked_cells g))
       ≡ index_looks by_form (argument table ∷ map argument places)
   index_cells g e = sym (ap (index_of_looks by_form (argument table) (map argument places)) e)
 
-  pub index_in_cells : (g : CellGrid) → table.reference ≡ Some g → picked_by (of_cells forms g) ≡ index_outcome forms whole (table ∷ places)
-  index_in_cells g e = sym (ap (λ r. in_source r forms table picked_by) e)
+  pub index_in_cells : (g : CellGrid) → table.reference ≡ Some g → picked_by [] (of_cells forms g) ≡ index_outcome forms whole (table ∷ places)
+  index_in_cells g e = sym (ap (λ r. in_source r forms table (picked_by (seen_before r table.outcome))) e)
 
   pub index_all : (s : Source) (rows columns : ℕ) → ((p : Pick) → cells_picked s p ≡ []) → table.reference ≡ None
       → all_looks (argument table ∷ map argument places) ++ then_cells (outcomes (map argument places)) (λ vs. then_cells (given_by (pick_form rows columns vs)) (cells_picked s))
@@ -87,5 +93,26 @@ module _ (forms : Cell → Option Abs) (whole : Span) (table : Part) (places : L
       by None = refl
       by (Some vs) = none_picked (given_by (pick_form rows columns vs)) s h
 
-  pub index_in_values : (v : AbsArg) → table.reference ≡ None → value_in table.outcome ≡ Some v → picked_by (of_raster (grid_of v)) ≡ index_outcome forms whole (table ∷ places)
-  index_in_values v e d = sym (ap (λ r. in_source r forms table picked_by) e ∙ goes_on table.outcome (λ a. picked_by (of_raster (grid_of a))) v d)
+  pub index_in_values : (v : AbsArg) → table.reference ≡ None → value_in table.outcome ≡ Some v → picked_by (grid_of v).items (of_raster (grid_of v)) ≡ index_outcome forms whole (table ∷ places)
+  index_in_values v e d =
+      sym (ap (λ r. in_source r forms table (picked_by (seen_before r table.outcome))) e
+      ∙ goes_on table.outcome (λ a. picked_by (seen_before None table.outcome) (of_raster (grid_of a))) v d
+      ∙ ap (λ seen. picked_by seen (of_raster (grid_of v))) (seen_values table.outcome v d))
+
+-- ---- an error that is certainly picked
+and_never : (a b : Bool) → (a && (b && false)) ≡ false
+and_never true true = refl
+and_never true false = refl
+and_never false b = refl
+
+nothing_picked : (columns : ℕ) (pick : Option Pick) → picks_ref_error columns [] pick ≡ false
+nothing_picked columns (Some (Picked top left bottom right)) = and_never (bottom == top) (right == left)
+nothing_picked columns (Some (Fault k)) = refl
+nothing_picked columns None = refl
+
+-- of a reference there is none, and of another argument there are no cells
+pub error_cells : (s : Source) (at : List AbsArg) (k : ErrorKind) → index_error (rows_of s) (columns_of s) (read_before s) at ≡ Some k → (o : Option Pick) → then_cells o (cells_picked s) ≡ []
+error_cells (Values a) at k e o = none_picked o (Values a) (λ p. refl)
+error_cells (Cells g) at k e o =
+    let n : index_error g.now.rows g.now.columns [] at ≡ None = ap (λ b. if b then Some kind.Ref else None) (nothing_picked g.now.columns (pick_in_range g.now.rows g.now.columns at)) in
+    cc

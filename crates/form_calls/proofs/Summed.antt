@@ -24,13 +24,7 @@ use Rattle.form_extraction.specs.declared.forms.Outcome.TheVariants.{Gives, Refu
 use Rattle.form_calls.specs.Criteria.{cells_seen, met_unless, sum_cells}
 use Rattle.form_calls.specs.Sources.{cells_in}
 use Rattle.form_calls.specs.declared.source.Source.{Source}
-use Rattle.form_calls.proofs.Outcomes.{goes_on}
-
--- what is seen before of a part that is no reference
-seen_values : (o : Outcome) (v : AbsArg) → value_in o ≡ Some v → seen_before None o ≡ (grid_of v).items
-seen_values (Gives w) v e = let s : w ≡ v = cc in ap (λ v. (grid_of v).items) s
-seen_values (Refused at cause) v e = cc
-seen_values Without v e = cc
+use Rattle.form_calls.proofs.Outcomes.{goes_on, seen_values}
 
 module _ (forms : Cell → Option Abs) (whole : Span) (ps : List Part) (t c s : Part) (a q : AbsArg) (e : value_in t.outcome ≡ Some a) (d : value_in c.outcome ≡ Some q) where
   abbrev sum_in : List Abs → grids.Source → Outcome

@@ -1,16 +1,18 @@
 // IFERROR and CHOOSE, and what is chosen of the arguments behind the first.
 ghost use Rattle.std.specs.Prelude.{◌≡◌, ◌++◌, IfOk, None, Some, map, option_map};
+ghost use Rattle.std.specs.List.{list_all};
 ghost use Rattle.form_calls.specs.Steps.{looks_of_chosen};
-ghost use Rattle.form_extraction.specs.Calls.{by_error, by_place, choose_outcome, chosen_or, iferror_outcome};
+ghost use Rattle.form_extraction.specs.Calls.{by_error, by_place, choose_outcome, chosen_or, iferror_outcome, is_no_argument, is_no_choice_in};
 ghost use Rattle.form_extraction.specs.Deciding.{by_form, is_known_error, place_in};
 ghost use Rattle.form_extraction.specs.Parts.{argument};
+ghost use Rattle.form_table.specs.Certain.{is_no_choice};
 ghost use Rattle.form_table.specs.Wanted.{known_number, number_of, single, wanted};
 ghost use Rattle.form_values.specs.declared.abs.Abs.TheVariants.{Affine, Known};
 ghost use Rattle.formula_ast.specs.declared.func.Func.TheVariants as func;
 ghost use Rattle.recalculation.specs.Evaluation.{at_chosen, choose_place, choose_without, iferror_place};
 ghost use Rattle.recalculation.specs.Looks.{chosen_looks, choosing_looks};
 
-use crate::ends::{miscounted_part, valueless_part};
+use crate::ends::{error_part, miscounted_part, valueless_part};
 use affine_forms::Form;
 use cell_refs::{Cell, ErrorKind, Span};
 use form_extraction::{Outcome, Why};
@@ -74,7 +76,7 @@ fn is_known_error(value: &AbsArg) -> bool
 }
 
 /// CHOOSE: the argument at the place that the first one says, counted from 1. It looks at the first and then at the chosen one; an
-/// open place is refused.
+/// open place is refused, unless each argument is certainly the error that stands where none is chosen.
 #[tactic(auto, using(crate::proofs::Outcomes::stays))]
 pub(crate) fn choose_part(alloc: Global, whole: Span, args: &[Part]) -> Result<Part, Memory>
     ensures { IfOk result (λ part. part ≡ record {
@@ -112,11 +114,64 @@ fn placed_part(
     }) }
 {
     let Some(place) = place else {
-        let undecided = Outcome::Refused(first.span(), Why::Undecided);
-        return Ok(Part::new(whole, looks, undecided, None));
+        return Ok(open_part(whole, looks, first, others));
     };
     let without = AbsArg::One(Abs::Known(without_place(place)));
     chosen_part(alloc, whole, looks, at_place(others, place), without)
+}
+
+// A call of CHOOSE with an open place in its first argument: it is refused, unless each of the others is certainly the error that
+// stands where none is chosen.
+fn open_part(whole: Span, looks: Vec<Cell>, first: &Part, others: &[Part]) -> Part
+    ensures { result ≡ record {
+      span = whole;
+      looks = looks.items;
+      outcome = by_place first.now others.now None;
+      reference = None;
+    } }
+{
+    if are_no_arguments(others) {
+        return error_part(whole, looks, ErrorKind::Value);
+    }
+    let undecided = Outcome::Refused(first.span(), Why::Undecided);
+    Part::new(whole, looks, undecided, None)
+}
+
+// Whether each argument is the error that stands where none is chosen, without a look at a cell.
+fn are_no_arguments(arguments: &[Part]) -> bool
+    ensures { result ≡ list_all is_no_argument arguments.now }
+{
+    arguments.iter().all(|argument| is_no_argument(argument))
+}
+
+// Whether an argument is that error.
+fn is_no_argument(argument: &Part) -> bool
+    ensures { result ≡ is_no_argument argument.now }
+{
+    if argument.looks().is_empty() {
+        return is_no_choice_in(argument.value());
+    }
+    false
+}
+
+// Whether there is a value and it is that error.
+fn is_no_choice_in(value: Option<&AbsArg>) -> bool
+    ensures { result ≡ is_no_choice_in (option_map (λ a. a.now) value.entry) }
+{
+    match value {
+        Some(value) => is_no_choice(value),
+        None => false,
+    }
+}
+
+// Whether it is that error.
+fn is_no_choice(value: &AbsArg) -> bool
+    ensures { result ≡ is_no_choice value.now }
+{
+    match value.elements() {
+        [Abs::Known(Value::Error(kind))] => matches!(kind, ErrorKind::Value),
+        _ => false,
+    }
 }
 
 // The known place that a value is, or the error in its stead.

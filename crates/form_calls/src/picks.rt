@@ -1,7 +1,7 @@
 // INDEX, and what is picked.
 ghost use Rattle.std.specs.Prelude.{◌≡◌, ◌<◌, ◌*◌, ◌++◌, ◌∷◌, IfOk, length, map};
-ghost use Rattle.form_calls.specs.Sources.{cells_in, cells_picked, columns_of, rows_of, source_of};
-ghost use Rattle.form_extraction.specs.Calls.{index_outcome, picked_from, raster};
+ghost use Rattle.form_calls.specs.Sources.{cells_in, cells_picked, columns_of, read_before, rows_of, source_of};
+ghost use Rattle.form_extraction.specs.Calls.{index_outcome, picked_at, picked_from, raster};
 ghost use Rattle.form_extraction.specs.Deciding.{by_form, given_by};
 ghost use Rattle.form_extraction.specs.Parts.{argument, on_parts, tried_on};
 ghost use Rattle.form_extraction.specs.Sources.{taken};
@@ -16,7 +16,7 @@ use crate::ends::{error_part, miscounted_part, refused_part, valueless_part};
 use crate::places::part_places;
 use crate::source::{Source, elements_at};
 use cell_refs::{Cell, ErrorKind, Span};
-use form_areas::index_at;
+use form_areas::{index_at, index_error};
 use form_extraction::Outcome;
 use form_parts::{FormsOfCells, Part, Values, all_looks, values_of};
 use form_values::{Abs, AbsArg, AbsGrid, OpRefusal};
@@ -90,8 +90,8 @@ fn indexed_part<C: FormsOfCells>(
       looks = looks.items ++ then_cells (outcomes (map argument places.now))
           (λ at. then_cells (given_by (pick_form (rows_of source.now) (columns_of source.now) at))
           (cells_picked source.now));
-      outcome = on_parts places.now (λ at. tried_on whole args.now (pick_form (rows_of source.now)
-          (columns_of source.now) at) (picked_from (source_of (C.forms forms.now) source.now)));
+      outcome = on_parts places.now (picked_at whole args.now
+          (source_of (C.forms forms.now) source.now) (read_before source.now));
       reference = None;
     }) }
 {
@@ -99,7 +99,54 @@ fn indexed_part<C: FormsOfCells>(
         Values::All(at) => at,
         Values::Stop(outcome) => return Ok(Part::new(whole, looks, outcome, None)),
     };
-    match pick_at(source.rows(), source.cols(), &at) {
+    placed_part(alloc, forms, whole, args, looks, source, &at)
+}
+
+// The same by the values of the places.
+fn placed_part<C: FormsOfCells>(
+    alloc: Global,
+    forms: &C,
+    whole: Span,
+    args: &[Part],
+    looks: Vec<Cell>,
+    source: &Source,
+    at: &[AbsArg],
+) -> Result<Part, Memory>
+    ensures { IfOk result (λ part. part ≡ record {
+      span = whole;
+      looks = looks.items ++ then_cells (given_by (pick_form (rows_of source.now)
+          (columns_of source.now) at.now)) (cells_picked source.now);
+      outcome = picked_at whole args.now (source_of (C.forms forms.now) source.now)
+          (read_before source.now) at.now;
+      reference = None;
+    }) }
+{
+    if let Some(kind) = index_error(source.rows(), source.cols(), source.read_before(), at) {
+        return Ok(error_part(whole, looks, kind));
+    }
+    tried_part(alloc, forms, whole, args, looks, source, at)
+}
+
+// The same where no error is certain.
+fn tried_part<C: FormsOfCells>(
+    alloc: Global,
+    forms: &C,
+    whole: Span,
+    args: &[Part],
+    looks: Vec<Cell>,
+    source: &Source,
+    at: &[AbsArg],
+) -> Result<Part, Memory>
+    ensures { IfOk result (λ part. part ≡ record {
+      span = whole;
+      looks = looks.items ++ then_cells (given_by (pick_form (rows_of source.now)
+          (columns_of source.now) at.now)) (cells_picked source.now);
+      outcome = tried_on whole args.now (pick_form (rows_of source.now) (columns_of source.now)
+          at.now) (picked_from (source_of (C.forms forms.now) source.now));
+      reference = None;
+    }) }
+{
+    match pick_at(source.rows(), source.cols(), at) {
         Ok(pick) => picked_part(alloc, forms, whole, looks, source, pick),
         Err(refusal) => refused_part(whole, looks, args, refusal),
     }

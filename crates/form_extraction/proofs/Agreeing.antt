@@ -82,7 +82,7 @@ module _ (f g : Cell → Option Abs) where
   index_alike : (s : Span) (ps : List Part) → AllByRecursion (OfPart Same) ps → calls.index_outcome f s ps ≡ calls.index_outcome g s ps
   index_alike s [] h = refl
   index_alike s (p ∷ places) h =
-      ap (λ (on : (Source → Outcome) → Outcome). on (λ src. on_parts places (λ args. tried_on s (p ∷ places) (Rattle.form_table.specs.Picks.pick_form src.rows src.columns args) (calls.picked_from src)))) (on_alike p h.0)
+      ap (λ (on : (Source → Outcome) → Outcome). on (λ src. on_parts places (calls.picked_at s (p ∷ places) src (calls.seen_before p.reference p.outcome)))) (on_alike p h.0)
 
   size_alike : (count : Source → ℕ) (ps : List Part) → AllByRecursion (OfPart Same) ps → calls.size_of count f ps ≡ calls.size_of count g ps
   size_alike count [] h = refl

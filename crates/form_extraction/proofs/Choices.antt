@@ -1,6 +1,8 @@
 -- IF, IFERROR and CHOOSE under an assignment.
 use Rattle.std.specs.Prelude.{slice_get, ℤ}
-use Rattle.std.proofs.Common.{◌≡◌, refl, sym, ap, ◌∙◌, subst, Bool, true, false, if◌then◌else◌, ◌∷◌, Option, Some, None, Result, Ok, Err, ℕ, zero, suc}
+use Rattle.std.specs.List.{list_all}
+use Rattle.std.proofs.Common.{◌≡◌, refl, sym, ap, ◌∙◌, subst, Bool, true, false, true≢false, if◌then◌else◌, List, [], ◌∷◌, Option, Some, None, Result, Ok, Err, ℕ, zero, suc}
+use Rattle.std.proofs.lemmas.Bool.{and_parts}
 use Rattle.std.specs.Result.{result_map_both}
 use Rattle.fractions.specs.Rational.{ℚ}
 use Rattle.fractions.specs.Floor.{floor_ℚ}
@@ -34,7 +36,9 @@ use Rattle.form_values.specs.declared.abs.AbsArg.TheVariants.{One, Area}
 use Rattle.form_table.specs.Wanted.{Wanted, form, open_test, known_number}
 use Rattle.form_table.specs.Wanted as wanted
 use Rattle.form_table.specs.Choosing.{if_test}
+use Rattle.form_table.specs.Certain.{is_no_choice}
 use Rattle.form_truth.proofs.Arguments.{value_at, value_sound}
+use Rattle.form_truth.proofs.Chosen.{no_choice_at}
 use Rattle.form_truth.proofs.Choosing.{single_sound}
 use Rattle.form_truth.proofs.Fitting.{constant_is, Fits, is_none, is_form, is_open, fits}
 use Rattle.form_truth.proofs.SingleRows.{not_zero}
@@ -42,9 +46,10 @@ use Rattle.form_truth.proofs.Singles.{single_at}
 use Rattle.form_truth.proofs.Table.{table_right}
 use Rattle.form_extraction.specs.Parts.{Part, outcome_by}
 use Rattle.form_extraction.specs.declared.forms.Outcome.{Outcome}
-use Rattle.form_extraction.specs.declared.forms.Outcome.TheVariants.{Gives}
+use Rattle.form_extraction.specs.declared.forms.Outcome.TheVariants.{Gives, Refused, Without}
+use Rattle.form_extraction.specs.declared.forms.Why.TheVariants as why
 use Rattle.form_extraction.specs.Deciding.{is_known_error, place_in}
-use Rattle.form_extraction.specs.Calls.{fails, chosen_or, on_branch, both_branches, by_test, if_outcome, by_error, iferror_outcome, by_place, choose_outcome}
+use Rattle.form_extraction.specs.Calls.{fails, chosen_or, on_branch, both_branches, by_test, if_outcome, by_error, iferror_outcome, is_unlooked_error, is_no_argument, by_place, choose_outcome}
 use Rattle.form_extraction.specs.Formulas.{part_of, parts_of}
 use Rattle.form_extraction.proofs.Parts.{given_first, tried_first, gives_same}
 use Rattle.form_extraction.proofs.Worth.{IsWorth, PartIsTrue, ArePartsTrue}
@@ -163,14 +168,47 @@ module _ (x : Assignment) (forms : Cell → Option Abs) (values : Cell → Value
       subst (λ n. IsWorth x (choose_value ts n) a) (sym d)
       (choice_true ts h (choose_place m) (arg.One (choose_without m)) (One (Known (choose_without m))) a ((tt, tt), refl) e)
 
+  -- arguments that are certainly the error for none
+  record NoArgument (o : Outcome) : Type 0 where
+    value : AbsArg
+    is : o ≡ Gives value
+    error : is_no_choice value ≡ true
+
+  no_argument : (l : List Cell) (o : Outcome) → is_unlooked_error l o ≡ true → NoArgument o
+  no_argument [] (Gives a) h = record { value = a; is = refl; error = h }
+  no_argument [] (Refused at cause) h = absurd (true≢false (sym h))
+  no_argument [] Without h = absurd (true≢false (sym h))
+  no_argument (c ∷ l) o h = absurd (true≢false (sym h))
+
+  certain_at : (ts : Trees) → ArePartsTrue x forms values ts → list_all is_no_argument (parts_of forms ts) ≡ true → (n : ℕ)
+      → exact (evaluation.chosen_or (arg.One (Error kind.Value)) (slice_get (all_evaluated values ts) n)) ≡ arg.One (Error kind.Value)
+  certain_at none h e n = refl
+  certain_at (more t ts) h e zero =
+      let p = no_argument (part_of forms t).looks (part_of forms t).outcome (and_parts (is_no_argument (part_of forms t)) (list_all is_no_argument (parts_of forms ts)) e).0 in
+      exact-turned_into single (evaluated values t) ∙ ap single (h.0 p.value p.is).1 ∙ no_choice_at x p.value p.error
+  certain_at (more t ts) h e (suc n) = certain_at ts h.1 (and_parts (is_no_argument (part_of forms t)) (list_all is_no_argument (parts_of forms ts)) e).1 n
+
+  certain_choice : (ts : Trees) → ArePartsTrue x forms values ts → list_all is_no_argument (parts_of forms ts) ≡ true → (o : Option ℕ)
+      → exact (evaluation.chosen_or (arg.One (Error kind.Value)) (at_chosen (all_evaluated values ts) o)) ≡ arg.One (Error kind.Value)
+  certain_choice ts h e (Some n) = certain_at ts h e n
+  certain_choice ts h e None = refl
+
+  open_place : (ts : Trees) → ArePartsTrue x forms values ts → (at : Span) (q : ℚ) (n : Result ℚ ErrorKind) → n ≡ Ok q → (b : Bool) → list_all is_no_argument (parts_of forms ts) ≡ b
+      → (a : AbsArg) → (if b then fails kind.Value else Refused at why.Undecided) ≡ Gives a → IsWorth x (choose_value ts (result_map_both floor_ℚ (λ k. k) n)) a
+  open_place ts h at q n d true e a g =
+      let s : One (Known (Error kind.Value)) ≡ a = cc in
+      subst (IsWorth x (choose_value ts (result_map_both floor_ℚ (λ k. k) n))) s
+      ((tt, tt), ap (λ r. choose_value ts (result_map_both floor_ℚ (λ k. k) r)) d ∙ certain_choice ts h e (choose_place (Ok (floor_ℚ q))))
+  open_place ts h at q n d false e a g = cc
+
   place_true : (ts : Trees) → ArePartsTrue x forms values ts → (p : Part) (b : Abs) (w : Wanted) → Fits b w → (c : Option ℚ) → known_number w ≡ c → (a : AbsArg) → by_place p (parts_of forms ts) (place_in w c) ≡ Gives a
       → IsWorth x (choose_value ts (result_map_both floor_ℚ (λ k. k) (number_in (abs_at x b)))) a
   place_true ts h p b (wanted.none k) (is_none l d) c q a e = known_place ts h _ (Err l) (ap (result_map_both floor_ℚ (λ k. k)) (d x)) a e
   place_true ts h p b (form f) (is_form g i u d) (Some y) q a e =
       known_place ts h _ (Ok (floor_ℚ y)) (ap (result_map_both floor_ℚ (λ k. k)) (d x ∙ ap Ok (constant_is g y q x))) a e
-  place_true ts h p b (form f) (is_form g i u d) None q a e = cc
+  place_true ts h p b (form f) (is_form g i u d) None q a e = open_place ts h p.span (worth x g) _ (d x) (list_all is_no_argument (parts_of forms ts)) refl a e
   place_true ts h p b open_test (is_open d v) (Some y) q a e = cc
-  place_true ts h p b open_test (is_open d v) None q a e = cc
+  place_true ts h p b open_test (is_open d v) None q a e = open_place ts h p.span (d x).0 _ (d x).1 (list_all is_no_argument (parts_of forms ts)) refl a e
 
   pub choose_true : (ts : Trees) → ArePartsTrue x forms values ts → (a : AbsArg) → choose_outcome (parts_of forms ts) ≡ Gives a
       → IsWorth x (exact (choosing func.Choose (all_evaluated values ts))) a

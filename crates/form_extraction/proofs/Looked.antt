@@ -1,7 +1,7 @@
 -- Calls and formulas depend on the forms of the cells at which they look alone.
 use Rattle.std.specs.Prelude.{◌<◌, length, ◌*◌, ◌&&◌, ◌==◌, ◌++◌, slice_get, option_map, is_some, ℤ, pos, ⊤, Contains}
 use Rattle.std.proofs.Common.{◌≡◌, refl, sym, ap, ap₂, ◌∙◌, subst, Bool, true, false, if◌then◌else◌, List, [], ◌∷◌, map, Option, Some, None, Result, Ok, Err, ℕ, zero, suc, arith}
-use Rattle.std.specs.List.{AllByRecursion}
+use Rattle.std.specs.List.{AllByRecursion, list_all}
 use Rattle.cell_refs.specs.declared.cell.Cell.{Cell}
 use Rattle.cell_refs.specs.declared.span.Span.{Span}
 use Rattle.cell_refs.specs.declared.error_kind.ErrorKind.{ErrorKind}
@@ -26,14 +26,16 @@ use Rattle.form_values.specs.declared.abs.AbsArg.TheVariants.{One}
 use Rattle.sheet_funcs.specs.declared.lookups.MatchKind.{MatchKind}
 use Rattle.form_table.specs.Wanted.{Wanted, value_of, number_of, known_number, single, grid_of}
 use Rattle.form_table.specs.Picks.{pick_form}
+use Rattle.form_table.specs.Certain.{index_error}
 use Rattle.form_table.specs.Lookups.{record_form, kinds_in, known_value, error_of}
 use Rattle.form_table.specs.Criteria.{met_places, sum_of_elements, summed_error_by}
 use Rattle.form_extraction.specs.Parts.{Part, value_in, argument, tried_on, outcome_by, on_outcome, on_part, on_parts}
 use Rattle.form_extraction.specs.declared.forms.Outcome.{Outcome}
 use Rattle.form_extraction.specs.declared.forms.Outcome.TheVariants.{Gives, Refused, Without}
+use Rattle.form_extraction.specs.declared.forms.Why.TheVariants as why
 use Rattle.form_extraction.specs.Deciding.{given_by, truth_in, is_known_error, place_in, record_picked, record_by, cells_at, summed_by, by_form}
 use Rattle.form_extraction.specs.Sources.{Source, of_cells, in_source, in_turned, elements_at, on_elements, taken, key_places, exchanged}
-use Rattle.form_extraction.specs.Calls.{chosen_or, by_test, by_error, by_place, picked_from, index_outcome, record_from, lookup_by, lookup_outcome, unless_error, seen_before, sum_at, sumif_outcome, size_of, call_outcome}
+use Rattle.form_extraction.specs.Calls.{fails, chosen_or, by_test, by_error, is_unlooked_error, is_no_argument, by_place, picked_from, picked_at, index_outcome, record_from, lookup_by, lookup_outcome, unless_error, seen_before, sum_at, sumif_outcome, size_of, call_outcome}
 use Rattle.form_extraction.specs.Formulas.{part_of, parts_of, of_forms, signed, turned, joined}
 use Rattle.form_table.specs.Operators.{minus_form, percent_form}
 use Rattle.form_extraction.specs.Laws.{DependsOnLooked}
@@ -95,6 +97,15 @@ module _ (f g : Cell → Option Abs) where
 
   abbrev args_g : Trees → List (Argument AbsArg)
   args_g ts = map argument (parts_of g ts)
+
+  -- whether an argument is certainly the error that stands where none is chosen: it is so with both forms, or with neither
+  abbrev AreAlike : Trees → Type 0
+  AreAlike none = ⊤
+  AreAlike (more t ts) = (is_no_argument (part_of f t) ≡ is_no_argument (part_of g t)) × AreAlike ts
+
+  all_alike : (ts : Trees) → AreAlike ts → list_all is_no_argument (parts_of f ts) ≡ list_all is_no_argument (parts_of g ts)
+  all_alike none h = refl
+  all_alike (more t ts) h = ap₂ (λ b c. b && c) h.0 (all_alike ts h.1)
 
   -- what a call looks at, and its outcome
   abbrev IsCallSame : Span → Func → Trees → Type 0
@@ -158,16 +169,16 @@ module _ (f g : Cell → Option Abs) where
       choice_same s func.IfError t ts (λ p others v. by_error others (single v))
       (λ p v k. let e = chosen_same ts h.1 (iferror_place (is_known_error (single v))) k in (ap looks_of e.1, ap (chosen_or (single v)) e.0)) h.0 k
 
-  choose_step : (ts : Trees) → AreSame ts → (p : Part) (o : Option (Result ℤ ErrorKind)) → All f g (chosen_looks func.Choose (args_f ts) (option_map choose_place o))
+  choose_step : (ts : Trees) → AreSame ts → AreAlike ts → (p : Part) (o : Option (Result ℤ ErrorKind)) → All f g (chosen_looks func.Choose (args_f ts) (option_map choose_place o))
       → (chosen_looks func.Choose (args_f ts) (option_map choose_place o) ≡ chosen_looks func.Choose (args_g ts) (option_map choose_place o)) × (by_place p (parts_of f ts) o ≡ by_place p (parts_of g ts) o)
-  choose_step ts h p (Some n) k = let e = chosen_same ts h (choose_place n) k in (ap looks_of e.1, ap (chosen_or (One (Known (choose_without n)))) e.0)
-  choose_step ts h p None k = (refl, refl)
+  choose_step ts h l p (Some n) k = let e = chosen_same ts h (choose_place n) k in (ap looks_of e.1, ap (chosen_or (One (Known (choose_without n)))) e.0)
+  choose_step ts h l p None k = (refl, ap (λ b. if b then fails kind.Value else Refused p.span why.Undecided) (all_alike ts l))
 
-  choose_same : (s : Span) (ts : Trees) → AreSame ts → All f g (call_looks by_form f func.Choose (args_f ts)) → IsCallSame s func.Choose ts
-  choose_same s none h k = (refl, refl)
-  choose_same s (more t ts) h k =
+  choose_same : (s : Span) (ts : Trees) → AreSame ts → AreAlike ts → All f g (call_looks by_form f func.Choose (args_f ts)) → IsCallSame s func.Choose ts
+  choose_same s none h l k = (refl, refl)
+  choose_same s (more t ts) h l k =
       choice_same s func.Choose t ts (λ p others v. by_place p others (place_in (number_of v) (known_number (number_of v))))
-      (λ p v k. choose_step ts h.1 p (place_in (number_of v) (known_number (number_of v))) k) h.0 k
+      (λ p v k. choose_step ts h.1 l.1 p (place_in (number_of v) (known_number (number_of v))) k) h.0 k
 
   -- ---- functions that look at all their arguments
   plain_same : (s : Span) (fn : Func) (ts : Trees) → AreSame ts → All f g (all_looks (args_f ts)) → (call_looks by_form f fn (args_f ts) ≡ call_looks by_form g fn (args_f ts))
@@ -183,8 +194,8 @@ module _ (f g : Cell → Option Abs) where
     where
       none_same : (p : Part) (ps : List Part) → p.reference ≡ None → index_outcome f s (p ∷ ps) ≡ index_outcome g s (p ∷ ps)
       none_same p ps d =
-          ap (λ r. in_source r f p (λ src. on_parts ps (λ args. tried_on s (p ∷ ps) (pick_form src.rows src.columns args) (picked_from src)))) d
-          ∙ sym (ap (λ r. in_source r g p (λ src. on_parts ps (λ args. tried_on s (p ∷ ps) (pick_form src.rows src.columns args) (picked_from src)))) d)
+          ap (λ r. in_source r f p (λ src. on_parts ps (picked_at s (p ∷ ps) src (seen_before r p.outcome)))) d
+          ∙ sym (ap (λ r. in_source r g p (λ src. on_parts ps (picked_at s (p ∷ ps) src (seen_before r p.outcome)))) d)
 
       by_reference : (r : Option CellGrid) → (part_of f t).reference ≡ r → All f g (index_of_looks by_form (argument (part_of f t)) (args_f ts) r) → IsCallSame s func.Index (more t ts)
       by_reference None d k = plain_same s func.Index (more t ts) h k refl (none_same (part_of f t) (parts_of f ts) d)
@@ -195,16 +206,16 @@ module _ (f g : Cell → Option Abs) where
           let there : All f g (picks (args_g ts)) = subst (λ ps. All f g (picks (map argument ps))) e (each_right (Same f g) (all_looks (args_f ts)) (picks (args_f ts)) k) in (
             ap (index_of_looks by_form (argument (part_of f t)) (args_f ts)) d ∙ ap (λ ps. all_looks (map argument ps) ++ picks (map argument ps)) e
                 ∙ sym (ap (index_of_looks by_form (argument (part_of g t)) (args_g ts)) q),
-            ap (λ r. in_source r f (part_of f t) (λ src. on_parts (parts_of f ts) (λ args. tried_on s (part_of f t ∷ parts_of f ts) (pick_form src.rows src.columns args) (picked_from src)))) d
-                ∙ ap (λ ps. on_parts ps (λ args. tried_on s (part_of f t ∷ ps) (pick_form grid.rows grid.columns args) (picked_from (of_cells f grid)))) e
-                ∙ parts_same (parts_of g ts) (λ args. tried_on s (part_of f t ∷ parts_of g ts) (pick_form grid.rows grid.columns args) (picked_from (of_cells f grid)))
-                (λ args. tried_on s (part_of g t ∷ parts_of g ts) (pick_form grid.rows grid.columns args) (picked_from (of_cells g grid)))
-                (λ args a. spans_same s (part_of f t ∷ parts_of g ts) (part_of g t ∷ parts_of g ts) (ap (λ sp. sp ∷ map (λ (p : Part). p.span) (parts_of g ts)) (place_of_part t)) (pick_form grid.rows grid.columns args) (picked_from (of_cells f grid))
+            ap (λ r. in_source r f (part_of f t) (λ src. on_parts (parts_of f ts) (picked_at s (part_of f t ∷ parts_of f ts) src (seen_before r (part_of f t).outcome)))) d
+                ∙ ap (λ ps. on_parts ps (picked_at s (part_of f t ∷ ps) (of_cells f grid) [])) e
+                ∙ parts_same (parts_of g ts) (picked_at s (part_of f t ∷ parts_of g ts) (of_cells f grid) []) (picked_at s (part_of g t ∷ parts_of g ts) (of_cells g grid) [])
+                (λ args a. ap (unless_error (index_error grid.rows grid.columns [] args))
+                (spans_same s (part_of f t ∷ parts_of g ts) (part_of g t ∷ parts_of g ts) (ap (λ sp. sp ∷ map (λ (p : Part). p.span) (parts_of g ts)) (place_of_part t)) (pick_form grid.rows grid.columns args) (picked_from (of_cells f grid))
                 ∙ trial_same s (part_of g t ∷ parts_of g ts) (pick_form grid.rows grid.columns args) (picked_from (of_cells f grid)) (picked_from (of_cells g grid))
                 (λ pick b. picked_same f g grid pick
                 (subst (λ o. All f g (then_cells o (picked_cells grid))) b
-                (subst (λ o. All f g (then_cells o (λ vs. then_cells (given_by (pick_form grid.rows grid.columns vs)) (picked_cells grid)))) a there))))
-                ∙ sym (ap (λ r. in_source r g (part_of g t) (λ src. on_parts (parts_of g ts) (λ args. tried_on s (part_of g t ∷ parts_of g ts) (pick_form src.rows src.columns args) (picked_from src)))) q),
+                (subst (λ o. All f g (then_cells o (λ vs. then_cells (given_by (pick_form grid.rows grid.columns vs)) (picked_cells grid)))) a there)))))
+                ∙ sym (ap (λ r. in_source r g (part_of g t) (λ src. on_parts (parts_of g ts) (picked_at s (part_of g t ∷ parts_of g ts) src (seen_before r (part_of g t).outcome)))) q),
           )
 
   -- ---- ROWS and COLUMNS
@@ -434,43 +445,59 @@ module _ (f g : Cell → Option Abs) where
   sumif_same s (more t (more u (more v (more w ts)))) h k = let e = all_same (more t (more u (more v (more w ts)))) h k in (ap (λ ps. all_looks (map argument ps)) e, refl)
 
   -- ---- all calls
-  call_same : (s : Span) (fn : Func) (ts : Trees) → AreSame ts → All f g (call_looks by_form f fn (args_f ts)) → IsCallSame s fn ts
-  call_same s func.If ts h k = if_same s ts h k
-  call_same s func.IfError ts h k = iferror_same s ts h k
-  call_same s func.Choose ts h k = choose_same s ts h k
-  call_same s func.Index ts h k = index_same s ts h k
-  call_same s func.VLookup ts h k = lookups_same s (λ grid. grid) (λ grid w. w) (λ src. src) ts h k
-  call_same s func.HLookup ts h k = lookups_same s exchanged_cells exchanged_whole exchanged ts h k
-  call_same s func.SumIf ts h k = sumif_same s ts h k
-  call_same s func.Rows ts h k = size_same s func.Rows (λ src. src.rows) (λ grid. refl) ts h k
-  call_same s func.Columns ts h k = size_same s func.Columns (λ src. src.columns) (λ grid. refl) ts h k
-  call_same s fn ts h k = plain_same s fn ts h k refl refl
+  pub call_same : (s : Span) (fn : Func) (ts : Trees) → AreSame ts → AreAlike ts → All f g (call_looks by_form f fn (args_f ts)) → IsCallSame s fn ts
+  call_same s func.If ts h l k = if_same s ts h k
+  call_same s func.IfError ts h l k = iferror_same s ts h k
+  call_same s func.Choose ts h l k = choose_same s ts h l k
+  call_same s func.Index ts h l k = index_same s ts h k
+  call_same s func.VLookup ts h l k = lookups_same s (λ grid. grid) (λ grid w. w) (λ src. src) ts h k
+  call_same s func.HLookup ts h l k = lookups_same s exchanged_cells exchanged_whole exchanged ts h k
+  call_same s func.SumIf ts h l k = sumif_same s ts h k
+  call_same s func.Rows ts h l k = size_same s func.Rows (λ src. src.rows) (λ grid. refl) ts h k
+  call_same s func.Columns ts h l k = size_same s func.Columns (λ src. src.columns) (λ grid. refl) ts h k
+  call_same s fn ts h l k = plain_same s fn ts h k refl refl
 
-  -- ---- formulas
-  mutual
-    pub part_is_same : (t : Tree) → IsSame t
-    part_is_same (tree.Number s y) k = refl
-    part_is_same (tree.Text s y) k = refl
-    part_is_same (tree.Logical s y) k = refl
-    part_is_same (tree.Fault s y) k = refl
-    part_is_same (tree.Missing s) k = refl
-    part_is_same (tree.Array s rows columns items) k = refl
-    part_is_same (tree.Reference s areas) k =
-        let o = ap (of_forms (grid_of_areas (listed areas))) (elements_same f g (grid_of_areas (listed areas)).cells k) in
-        λ i. record { span = s; looks = (grid_of_areas (listed areas)).cells; outcome = o i; reference = Some (grid_of_areas (listed areas)) }
-    part_is_same (tree.Call s fn args) k = let e = call_same s fn args (parts_are_same args) k in λ i. record { span = s; looks = e.0 i; outcome = e.1 i; reference = None }
-    part_is_same (tree.Plus s t) k = ap (signed s) (part_is_same t k)
-    part_is_same (tree.Minus s t) k = ap (turned s minus_form) (part_is_same t k)
-    part_is_same (tree.Percent s t) k = ap (turned s percent_form) (part_is_same t k)
-    part_is_same (tree.Infix s o t u) k =
-        ap₂ (joined s o) (part_is_same t (each_left (Same f g) (part_of f t).looks (part_of f u).looks k)) (part_is_same u (each_right (Same f g) (part_of f t).looks (part_of f u).looks k))
-    part_is_same (tree.WideNumber s y) k = refl
-    part_is_same (tree.Name s n) k = refl
-    part_is_same (tree.Unknown s n args) k = refl
+-- ---- formulas
+-- a part that looks at nothing with some forms is the same with others, so it is certainly an error with both or with neither
+alike : (f g : Cell → Option Abs) (t : Tree) → IsSame f g t → IsSame g f t → is_no_argument (part_of f t) ≡ is_no_argument (part_of g t)
+alike f g t h k = by (part_of f t).looks refl (part_of g t).looks refl
+  where
+    by : (l : List Cell) → (part_of f t).looks ≡ l → (m : List Cell) → (part_of g t).looks ≡ m → is_no_argument (part_of f t) ≡ is_no_argument (part_of g t)
+    by [] d m e = ap is_no_argument (h (subst (All f g) (sym d) tt))
+    by (c ∷ l) d [] e = sym (ap is_no_argument (k (subst (All g f) (sym e) tt)))
+    by (c ∷ l) d (b ∷ m) e =
+        ap (λ looks. is_unlooked_error looks (part_of f t).outcome) d ∙ sym (ap (λ looks. is_unlooked_error looks (part_of g t).outcome) e)
 
-    pub parts_are_same : (ts : Trees) → AreSame ts
-    parts_are_same none = tt
-    parts_are_same (more t ts) = (λ k. part_is_same t k, parts_are_same ts)
+mutual
+  pub part_is_same : (f g : Cell → Option Abs) (t : Tree) → IsSame f g t
+  part_is_same f g (tree.Number s y) k = refl
+  part_is_same f g (tree.Text s y) k = refl
+  part_is_same f g (tree.Logical s y) k = refl
+  part_is_same f g (tree.Fault s y) k = refl
+  part_is_same f g (tree.Missing s) k = refl
+  part_is_same f g (tree.Array s rows columns items) k = refl
+  part_is_same f g (tree.Reference s areas) k =
+      let o = ap (of_forms (grid_of_areas (listed areas))) (elements_same f g (grid_of_areas (listed areas)).cells k) in
+      λ i. record { span = s; looks = (grid_of_areas (listed areas)).cells; outcome = o i; reference = Some (grid_of_areas (listed areas)) }
+  part_is_same f g (tree.Call s fn args) k =
+      let e = call_same f g s fn args (parts_are_same f g args) (parts_alike f g args) k in
+      λ i. record { span = s; looks = e.0 i; outcome = e.1 i; reference = None }
+  part_is_same f g (tree.Plus s t) k = ap (signed s) (part_is_same f g t k)
+  part_is_same f g (tree.Minus s t) k = ap (turned s minus_form) (part_is_same f g t k)
+  part_is_same f g (tree.Percent s t) k = ap (turned s percent_form) (part_is_same f g t k)
+  part_is_same f g (tree.Infix s o t u) k =
+      ap₂ (joined s o) (part_is_same f g t (each_left (Same f g) (part_of f t).looks (part_of f u).looks k)) (part_is_same f g u (each_right (Same f g) (part_of f t).looks (part_of f u).looks k))
+  part_is_same f g (tree.WideNumber s y) k = refl
+  part_is_same f g (tree.Name s n) k = refl
+  part_is_same f g (tree.Unknown s n args) k = refl
+
+  pub parts_are_same : (f g : Cell → Option Abs) (ts : Trees) → AreSame f g ts
+  parts_are_same f g none = tt
+  parts_are_same f g (more t ts) = (λ k. part_is_same f g t k, parts_are_same f g ts)
+
+  parts_alike : (f g : Cell → Option Abs) (ts : Trees) → AreAlike f g ts
+  parts_alike f g none = tt
+  parts_alike f g (more t ts) = (alike f g t (λ k. part_is_same f g t k) (λ k. part_is_same g f t k), parts_alike f g ts)
 
 -- what holds of each element
 pub each_of : {A : Type 0} (P : A → Type 0) (xs : List A) → ((x : A) → Contains xs x → P x) → AllByRecursion P xs

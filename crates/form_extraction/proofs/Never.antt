@@ -1,7 +1,7 @@
 -- Where all that a formula looks at has a form, the formula has one or a part of it is refused.
 use Rattle.std.specs.Prelude.{◌+◌, ◌-◌, ◌*◌, ◌&&◌, ◌==◌, slice_get, ℤ, is_some}
 use Rattle.std.proofs.Common.{◌≡◌, refl, sym, ap, ap₂, ◌∙◌, Bool, true, false, if◌then◌else◌, List, [], ◌∷◌, map, Option, Some, None, Result, Ok, Err, ℕ, zero, suc}
-use Rattle.std.specs.List.{AllByRecursion}
+use Rattle.std.specs.List.{AllByRecursion, list_all}
 use Rattle.calculations.specs.Calculation.{narrow}
 use Rattle.cell_refs.specs.declared.cell.Cell.{Cell}
 use Rattle.cell_refs.specs.declared.span.Span.{Span}
@@ -31,6 +31,7 @@ use Rattle.affine_forms.specs.declared.rel.Rel.{Rel}
 use Rattle.affine_forms.specs.declared.rel.Rel.TheVariants as rel
 use Rattle.form_table.specs.Wanted.{value_of, number_of, known_number, single, grid_of}
 use Rattle.form_table.specs.Picks.{pick_form}
+use Rattle.form_table.specs.Certain.{index_error}
 use Rattle.form_table.specs.Lookups.{record_form, kinds_in, known_value, error_of}
 use Rattle.form_table.specs.Criteria.{met_places, sum_of_elements, summed_error_by}
 use Rattle.form_table.specs.Operators.{infix_form, minus_form, percent_form}
@@ -38,12 +39,13 @@ use Rattle.form_table.specs.Choosing.{if_test}
 use Rattle.form_table.specs.Table.{form_called}
 use Rattle.form_extraction.specs.declared.forms.CellForm.TheVariants.{Circular}
 use Rattle.form_extraction.specs.declared.forms.Why.{Why}
+use Rattle.form_extraction.specs.declared.forms.Why.TheVariants as why
 use Rattle.form_extraction.specs.Parts.{Part, tried, tried_on, outcome_by, on_outcome, on_part, on_parts}
 use Rattle.form_extraction.specs.declared.forms.Outcome.{Outcome}
 use Rattle.form_extraction.specs.declared.forms.Outcome.TheVariants.{Gives, Refused, Without}
 use Rattle.form_extraction.specs.Deciding.{is_known_error, place_in}
 use Rattle.form_extraction.specs.Sources.{Source, of_cells, of_raster, in_source, on_source, in_turned, on_turned, element, elements_at, on_elements, taken, part_places, exchanged}
-use Rattle.form_extraction.specs.Calls.{chosen_or, on_branch, both_branches, by_test, by_error, by_place, fails, raster, picked_from, record_from, lookup_by, lookup_outcome, unless_error, seen_before, sum_at, sum_over, sumif_outcome, size_of, call_outcome}
+use Rattle.form_extraction.specs.Calls.{chosen_or, on_branch, both_branches, by_test, by_error, is_no_argument, by_place, fails, raster, picked_from, picked_at, record_from, lookup_by, lookup_outcome, unless_error, seen_before, sum_at, sum_over, sumif_outcome, size_of, call_outcome}
 use Rattle.form_extraction.specs.Formulas.{part_of, parts_of, of_forms}
 use Rattle.form_extraction.specs.Laws.{CircularWhereCircle}
 use Rattle.form_extraction.specs.Looked.{forms_of}
@@ -75,6 +77,10 @@ trial_never s ps c f k = by (narrow c)
     by (Some (Ok a)) e = k a e
     by (Some (Err Breaks)) e = refused_never s _ e
     by (Some (Err (Undecided i))) e = refused_never _ _ e
+
+unless_never : (k : Option ErrorKind) (o : Outcome) → Never o → Never (unless_error k o)
+unless_never (Some k) o h e = gives_never _ e
+unless_never None o h e = h e
 
 abbrev HasForm : Part → Type 0
 HasForm p = Never p.outcome
@@ -170,7 +176,11 @@ module _ (forms : Cell → Option Abs) (total : (c : Cell) → (b : Abs) × (for
 
   place_never : (p : Part) (ps : List Part) → HaveForms ps → (o : Option (Result ℤ ErrorKind)) → Never (by_place p ps o)
   place_never p ps h (Some n) e = chosen_never ps h (choose_place n) _ e
-  place_never p ps h None e = refused_never _ _ e
+  place_never p ps h None e = open_never (list_all is_no_argument ps) e
+    where
+      open_never : (b : Bool) → Never (if b then fails kind.Value else Refused p.span why.Undecided)
+      open_never true e = gives_never _ e
+      open_never false e = refused_never _ _ e
 
   lookup_never : (s : Span) (ps : List Part) (src : Source) → IsTotal src → (keys : List Abs) (args : List AbsArg) → Never (lookup_by s ps src keys args)
   lookup_never s ps src h keys [] e = gives_never _ e
@@ -230,9 +240,10 @@ module _ (forms : Cell → Option Abs) (total : (c : Cell) → (b : Abs) × (for
       first_never p.outcome (λ a. by_place p ps (place_in (number_of a) (known_number (number_of a)))) h.0 (λ a. place_never p ps h.1 (place_in (number_of a) (known_number (number_of a)))) e
   call_never s func.Index [] h e = gives_never _ e
   call_never s func.Index (p ∷ ps) h e =
-      source_never p h.0 (λ src. on_parts ps (λ args. tried_on s (p ∷ ps) (pick_form src.rows src.columns args) (picked_from src)))
-      (λ src t. parts_never ps h.1 (λ args. tried_on s (p ∷ ps) (pick_form src.rows src.columns args) (picked_from src))
-      (λ args. trial_never s (p ∷ ps) (pick_form src.rows src.columns args) (picked_from src) (picked_never src t))) e
+      source_never p h.0 (λ src. on_parts ps (picked_at s (p ∷ ps) src (seen_before p.reference p.outcome)))
+      (λ src t. parts_never ps h.1 (picked_at s (p ∷ ps) src (seen_before p.reference p.outcome))
+      (λ args. unless_never (index_error src.rows src.columns (seen_before p.reference p.outcome) args) (tried_on s (p ∷ ps) (pick_form src.rows src.columns args) (picked_from src))
+      (trial_never s (p ∷ ps) (pick_form src.rows src.columns args) (picked_from src) (picked_never src t)))) e
   call_never s func.VLookup ps h e = lookups_never s (λ g. g) (λ src. src) (λ src t. t) ps h e
   call_never s func.HLookup ps h e = lookups_never s exchanged_cells exchanged exchanged_total ps h e
   call_never s func.SumIf ps h e = sumif_never s ps h e

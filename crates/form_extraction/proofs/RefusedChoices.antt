@@ -1,11 +1,13 @@
 -- Refusals of IF, IFERROR and CHOOSE are right.
 use Rattle.std.specs.Prelude.{slice_get, ℤ}
+use Rattle.std.specs.List.{list_all}
 use Rattle.std.proofs.Common.{◌≡◌, refl, sym, ap, ◌∙◌, subst, Bool, true, false, if◌then◌else◌, [], ◌∷◌, Option, Some, None, Result, Ok, Err, ℕ, zero, suc, ◌⊎◌, inl, inr}
 use Rattle.fractions.specs.Rational.{ℚ}
 use Rattle.calculations.specs.Calculation.{exact, done}
 use Rattle.cell_refs.specs.declared.cell.Cell.{Cell}
 use Rattle.cell_refs.specs.declared.span.Span.{Span}
 use Rattle.cell_refs.specs.declared.error_kind.ErrorKind.{ErrorKind}
+use Rattle.cell_refs.specs.declared.error_kind.ErrorKind.TheVariants as kind
 use Rattle.formula_ast.specs.Tree.{Tree, Trees, none, more}
 use Rattle.formula_ast.specs.Tree as tree
 use Rattle.formula_ast.specs.declared.func.Func.TheVariants as func
@@ -42,7 +44,7 @@ use Rattle.form_extraction.specs.Parts.{span_at, outcome_by}
 use Rattle.form_extraction.specs.declared.forms.Outcome.{Outcome}
 use Rattle.form_extraction.specs.declared.forms.Outcome.TheVariants.{Gives, Refused}
 use Rattle.form_extraction.specs.Deciding.{is_known_error, place_in}
-use Rattle.form_extraction.specs.Calls.{chosen_or, on_branch, both_branches, by_test, if_outcome, by_error, iferror_outcome, by_place, choose_outcome}
+use Rattle.form_extraction.specs.Calls.{chosen_or, on_branch, both_branches, by_test, if_outcome, by_error, iferror_outcome, fails, is_no_argument, by_place, choose_outcome}
 use Rattle.form_extraction.specs.Formulas.{part_of, parts_of}
 use Rattle.form_extraction.specs.Refuted.{first, IsRefuted}
 use Rattle.form_extraction.proofs.Worth.{Agree}
@@ -216,10 +218,15 @@ module _ (forms : Cell → Option Abs) (values : Assignment → Cell → Value) 
           → ArgumentVaries arg_at (a ∷ []) 0
       by r e h = subst (IsPick (λ x. Rattle.form_truth.specs.Picks.chosen_by [] (Rattle.sheet_funcs.specs.Rounding.number_of (arg_at x a))) (a ∷ [])) (sym e ∙ is_open) h
 
+  only_open : (place at : Span) (cause : Why) (b : Bool) → (if b then fails kind.Value else Refused place why.Undecided) ≡ Refused at cause → Refused place why.Undecided ≡ Refused at cause
+  only_open place at cause true e = absurd (gives_never _ at cause e)
+  only_open place at cause false e = e
+
   choose_at : (s : Span) (t : Tree) (ts : Trees) → ArePartsRefuted forms values agree ts → (a : AbsArg) → IsOf forms values agree t a → (o : Option (Result ℤ ErrorKind))
       → place_in (wanted.number_of a) (known_number (wanted.number_of a)) ≡ o → (at : Span) (cause : Why) → by_place (part_of forms t) (parts_of forms ts) o ≡ Refused at cause → Refuted (more t ts) at cause
   choose_at s t ts h a k (Some n) q at cause e = later_refuted values t ts at cause (chosen_refuted ts h (choose_place n) (One (Known (choose_without n))) at cause e)
   choose_at s t ts h a k None q at cause e =
+      let only : Refused (part_of forms t).span why.Undecided ≡ Refused at cause = only_open (part_of forms t).span at cause (list_all is_no_argument (parts_of forms ts)) e in
       let here : (part_of forms t).span ≡ at = cc in
       let so : why.Undecided ≡ cause = cc in
       let r = argument_varies forms values agree s (more t none) (a ∷ []) (k, tt) 0 (place_varies a k.0 (wanted.number_of a) refl (known_number (wanted.number_of a)) refl q) at here cause (sym so) in

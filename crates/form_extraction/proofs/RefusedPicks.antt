@@ -38,6 +38,7 @@ use Rattle.form_values.specs.declared.abs.AbsArg.TheVariants.{One, Area}
 use Rattle.form_table.specs.Wanted.{value_of, number_of, grid_of}
 use Rattle.form_table.specs.Items.{item_at, form_in, first_error}
 use Rattle.form_table.specs.Picks.{pick_form}
+use Rattle.form_table.specs.Certain.{index_error}
 use Rattle.form_table.specs.Lookups.{record_form, kinds_in, known_value, error_of}
 use Rattle.form_table.specs.Criteria.{met_places, sum_of_elements, summed_error_by}
 use Rattle.form_table.specs.Products.{or_fault}
@@ -53,7 +54,7 @@ use Rattle.form_extraction.specs.Parts.{Part, span_at, outcome_by, on_part, on_p
 use Rattle.form_extraction.specs.declared.forms.Outcome.{Outcome}
 use Rattle.form_extraction.specs.declared.forms.Outcome.TheVariants.{Gives, Refused}
 use Rattle.form_extraction.specs.Sources.{Source, of_cells, of_raster, element, elements_at, on_source, in_turned, on_turned, taken, part_places, key_places}
-use Rattle.form_extraction.specs.Calls.{fails, raster, picked_from, index_outcome, record_from, lookup_by, lookup_outcome, unless_error, seen_before, sum_at, sum_over, sumif_outcome, size_of}
+use Rattle.form_extraction.specs.Calls.{fails, raster, picked_from, picked_at, index_outcome, record_from, lookup_by, lookup_outcome, unless_error, seen_before, sum_at, sum_over, sumif_outcome, size_of}
 use Rattle.form_extraction.specs.Formulas.{part_of, parts_of}
 use Rattle.form_extraction.specs.Refuted.{IsPart, in_call, IsAmong, first, later, IsRefuted}
 use Rattle.form_extraction.proofs.Worth.{Agree}
@@ -194,15 +195,20 @@ module _ (forms : Cell → Option Abs) (values : Assignment → Cell → Value) 
       in_arguments values s func.Index (more t ts) at cause
       (later_refuted values t ts at cause (argument_varies forms values agree s ts args k i (index_varies g.rows g.columns args (are_sound forms values agree ts args k) (Undecided (suc i)) d i refl) at e cause c))
 
+  abbrev picked_by : Span → Tree → Trees → Source → List AbsArg → Outcome
+  picked_by s t ts g = picked_at s (part_of forms t ∷ parts_of forms ts) g (seen_before (part_of forms t).reference (part_of forms t).outcome)
+
+  index_unless : (s : Span) (t : Tree) (ts : Trees) (g : Source) (args : List AbsArg) → AreOf forms values agree ts args → (at : Span) (cause : Why) (o : Option ErrorKind)
+      → unless_error o (tried_on s (part_of forms t ∷ parts_of forms ts) (pick_form g.rows g.columns args) (picked_from g)) ≡ Refused at cause → IsRefuted values (tree.Call s func.Index (more t ts)) at cause
+  index_unless s t ts g args k at cause (Some n) e = absurd (gives_never _ at cause e)
+  index_unless s t ts g args k at cause None e =
+      index_own s t ts g args k at cause (tried_own s (part_of forms t ∷ parts_of forms ts) (pick_form g.rows g.columns args) (picked_from g) at cause e)
+
   index_places : (s : Span) (t : Tree) (ts : Trees) (g : Source) (at : Span) (cause : Why)
-      → Refuted ts at cause ⊎ Behind (AreOf forms values agree ts) (λ args. tried_on s (part_of forms t ∷ parts_of forms ts) (pick_form g.rows g.columns args) (picked_from g)) at cause
-      → IsRefuted values (tree.Call s func.Index (more t ts)) at cause
+      → Refuted ts at cause ⊎ Behind (AreOf forms values agree ts) (picked_by s t ts g) at cause → IsRefuted values (tree.Call s func.Index (more t ts)) at cause
   index_places s t ts g at cause (inl r) = in_arguments values s func.Index (more t ts) at cause (later_refuted values t ts at cause r)
   index_places s t ts g at cause (inr b) =
-      index_own s t ts g b.value b.is at cause (tried_own s (part_of forms t ∷ parts_of forms ts) (pick_form g.rows g.columns b.value) (picked_from g) at cause b.goes)
-
-  abbrev picked_by : Span → Tree → Trees → Source → List AbsArg → Outcome
-  picked_by s t ts g args = tried_on s (part_of forms t ∷ parts_of forms ts) (pick_form g.rows g.columns args) (picked_from g)
+      index_unless s t ts g b.value b.is at cause (index_error g.rows g.columns (seen_before (part_of forms t).reference (part_of forms t).outcome) b.value) b.goes
 
   pub index_refuted : (s : Span) (ts : Trees) → ArePartsRefuted forms values agree ts → (at : Span) (cause : Why) → index_outcome forms s (parts_of forms ts) ≡ Refused at cause
       → IsRefuted values (tree.Call s func.Index ts) at cause

@@ -1,5 +1,6 @@
 -- The outcome of calls over their parts.
-use Rattle.std.specs.Prelude.{ℕ, ◌+◌, ◌-◌, ◌*◌, pos, ◌&&◌, ◌==◌, false, if◌then◌else◌, List, [], ◌∷◌, slice_get, ℤ, Option, Some, None, Result, Ok, Err}
+use Rattle.std.specs.Prelude.{ℕ, ◌+◌, ◌-◌, ◌*◌, pos, ◌&&◌, ◌==◌, Bool, false, if◌then◌else◌, List, [], ◌∷◌, slice_get, ℤ, Option, Some, None, Result, Ok, Err}
+use Rattle.std.specs.List.{list_all}
 use Rattle.fractions.specs.Whole.{whole_ℚ}
 use Rattle.cell_refs.specs.declared.cell.Cell.{Cell}
 use Rattle.cell_refs.specs.declared.span.Span.{Span}
@@ -22,11 +23,12 @@ use Rattle.form_values.specs.declared.abs.AbsArg.{AbsArg}
 use Rattle.form_values.specs.declared.abs.AbsArg.TheVariants.{One, Area}
 use Rattle.form_table.specs.Wanted.{value_of, number_of, known_number, single, grid_of}
 use Rattle.form_table.specs.Choosing.{if_test}
+use Rattle.form_table.specs.Certain.{is_no_choice, index_error}
 use Rattle.form_table.specs.Picks.{pick_form}
 use Rattle.form_table.specs.Lookups.{record_form, kinds_in, known_value, error_of}
 use Rattle.form_table.specs.Criteria.{met_places, sum_of_elements, summed_error_by}
 use Rattle.form_table.specs.Table.{form_called}
-use Rattle.form_extraction.specs.Parts.{Part, tried_on, outcome_by, on_part, on_parts}
+use Rattle.form_extraction.specs.Parts.{Part, value_in, tried_on, outcome_by, on_part, on_parts}
 use Rattle.form_extraction.specs.declared.forms.Outcome.{Outcome}
 use Rattle.form_extraction.specs.declared.forms.Outcome.TheVariants.{Gives, Refused}
 use Rattle.form_extraction.specs.declared.forms.Why.TheVariants as why
@@ -36,6 +38,16 @@ use Rattle.form_extraction.specs.Sources.{Source, on_source, on_turned, taken, p
 -- an error as the value
 abbrev pub fails : ErrorKind → Outcome
 fails k = Gives (One (Known (Error k)))
+
+abbrev pub unless_error : Option ErrorKind → Outcome → Outcome
+unless_error (Some k) o = fails k
+unless_error None o = o
+
+-- the elements of a grid that are looked at before it is known which are picked or summed: of a reference none are
+abbrev pub seen_before : Option CellGrid → Outcome → List Abs
+seen_before (Some g) o = []
+seen_before None (Gives a) = (grid_of a).items
+seen_before None o = []
 
 -- ---- functions that choose
 -- the chosen part, as a single value where it has one element, or what stands where none is chosen
@@ -69,10 +81,22 @@ abbrev pub iferror_outcome : List Part → Outcome
 iferror_outcome (p ∷ others) = on_part p (λ a. by_error others (single a))
 iferror_outcome [] = fails kind.Value
 
--- the argument at a place, counted from 1; the place has to be known
+-- whether an argument is the error that stands where none is chosen, without a look at a cell: at an open place no other is looked at
+abbrev pub is_no_choice_in : Option AbsArg → Bool
+is_no_choice_in (Some a) = is_no_choice a
+is_no_choice_in None = false
+
+abbrev pub is_unlooked_error : List Cell → Outcome → Bool
+is_unlooked_error [] o = is_no_choice_in (value_in o)
+is_unlooked_error (c ∷ cells) o = false
+
+abbrev pub is_no_argument : Part → Bool
+is_no_argument p = is_unlooked_error p.looks p.outcome
+
+-- the argument at a place, counted from 1; the place has to be known, unless each argument is certainly that error
 abbrev pub by_place : Part → List Part → Option (Result ℤ ErrorKind) → Outcome
 by_place place others (Some n) = chosen_or (One (Known (choose_without n))) (at_chosen others (choose_place n))
-by_place place others None = Refused place.span why.Undecided
+by_place place others None = if list_all is_no_argument others then fails kind.Value else Refused place.span why.Undecided
 
 abbrev pub choose_outcome : List Part → Outcome
 choose_outcome (place ∷ others) = on_part place (λ a. by_place place others (place_in (number_of a) (known_number (number_of a))))
@@ -87,9 +111,13 @@ picked_from s (Picked top left bottom right) =
     taken s (part_places s top left bottom right) (λ items. Gives (raster (bottom + 1 - top) (right + 1 - left) items))
 picked_from s (Fault k) = fails k
 
+-- among the elements seen before, an error may certainly be picked
+abbrev pub picked_at : Span → List Part → Source → List Abs → List AbsArg → Outcome
+picked_at whole parts s seen args =
+    unless_error (index_error s.rows s.columns seen args) (tried_on whole parts (pick_form s.rows s.columns args) (picked_from s))
+
 abbrev pub index_outcome : (Cell → Option Abs) → Span → List Part → Outcome
-index_outcome forms whole (p ∷ places) =
-    on_source forms p (λ s. on_parts places (λ args. tried_on whole (p ∷ places) (pick_form s.rows s.columns args) (picked_from s)))
+index_outcome forms whole (p ∷ places) = on_source forms p (λ s. on_parts places (picked_at whole (p ∷ places) s (seen_before p.reference p.outcome)))
 index_outcome forms whole [] = fails kind.Value
 
 abbrev pub record_from : Source → Result (ℕ × ℕ) ErrorKind → Outcome
@@ -106,16 +134,6 @@ abbrev pub lookup_outcome : (Cell → Option Abs) → (CellGrid → CellGrid) �
 lookup_outcome forms cells turned whole (key ∷ table ∷ rest) =
     on_part key (λ k. on_turned forms cells turned table (λ s. taken s (key_places s) (λ keys. on_parts rest (λ args. lookup_by whole (key ∷ table ∷ rest) s keys (k ∷ args)))))
 lookup_outcome forms cells turned whole _ = fails kind.Value
-
-abbrev pub unless_error : Option ErrorKind → Outcome → Outcome
-unless_error (Some k) o = fails k
-unless_error None o = o
-
--- the elements of a summed grid that are looked at before it is known which are summed: of a reference none are
-abbrev pub seen_before : Option CellGrid → Outcome → List Abs
-seen_before (Some g) o = []
-seen_before None (Gives a) = (grid_of a).items
-seen_before None o = []
 
 -- the elements of the summed grid where the tested one, of its size, meets the criterion; among those seen before an error may be certain
 abbrev pub sum_at : Span → List Part → Source → List Abs → AbsArg → AbsArg → Outcome

@@ -16,7 +16,7 @@ use sheet_funcs::call;
 use sheet_model::{Arg, FuncStop};
 use std::alloc::Global;
 
-/// What a function makes of its arguments; out of memory where there are more than 65,536 and one is open.
+/// What a function makes of its arguments.
 pub fn form_called(alloc: Global, function: Func, args: &[AbsArg]) -> Result<AbsArg, OpRefusal>
     requires takes { Takes function (length args.now) }
     requires whole { is_whole function ≡ true }
@@ -24,9 +24,6 @@ pub fn form_called(alloc: Global, function: Func, args: &[AbsArg]) -> Result<Abs
 {
     if are_known(args) {
         return known_called(alloc, function, args);
-    }
-    if args.len() > 65536 {
-        return Err(OpRefusal::Memory);
     }
     row(alloc, function, args)
 }

@@ -1,5 +1,5 @@
 // The rows of functions of open arguments.
-ghost use Rattle.std.specs.Prelude.{◌≡◌, ◌≤◌, ◌^◌, false, length, pos, true};
+ghost use Rattle.std.specs.Prelude.{◌≡◌, false, length, pos, true};
 ghost use Rattle.std.specs.List.{list_all};
 ghost use Rattle.form_functions.specs.Whole.{is_whole};
 ghost use Rattle.affine_forms.specs.Forms.{constant_form};
@@ -29,7 +29,6 @@ use std::alloc::Global;
 pub(crate) fn row(alloc: Global, function: Func, args: &[AbsArg]) -> Result<AbsArg, OpRefusal>
     requires takes { Takes function (length args.now) }
     requires whole { is_whole function ≡ true }
-    requires few { length args.now ≤ 2 ^ 16 }
     requires open_argument { list_all all_known args.now ≡ false }
     ensures { Answers (row_of function args.now) result }
 {

@@ -6,8 +6,9 @@ ghost use Rattle.form_values.specs.Known.{all_known};
 use crate::given::argument;
 use crate::shown::{show_elements, show_value};
 use crate::stop::Stop;
+use crate::summed::sumif;
 use cell_refs::Op;
-use form_areas::{average, count, countif, mmult, sum, sumif, sumproduct, transpose};
+use form_areas::{average, count, countif, mmult, sum, sumproduct, transpose};
 use form_ops::{
     abs_, and_, if_test, infix, int, isblank, isnumber, max, min, minus, mod_, n_, not_, or_,
     percent, power, round,

@@ -2,7 +2,7 @@
 
 use crate::given::{arguments, size_in, whole};
 use crate::stop::Stop;
-use form_areas::{index_at, lookup_at, record_at};
+use form_areas::{index_at, index_error, lookup_at, record_at, size_of};
 use sheet_funcs::Pick;
 use std::alloc::Global;
 
@@ -17,6 +17,19 @@ pub(crate) fn index_picked(alloc: Global, rest: &str) -> Result<String, Stop> {
         return Err(Stop::Unread);
     }
     pick_text(alloc, index_at(rows, columns, &places)?)
+}
+
+/// The error that INDEX certainly picks of a grid, if there is such a one: behind the grid stand the places.
+pub(crate) fn error_picked(alloc: Global, rest: &str) -> Result<String, Stop> {
+    let args = arguments(alloc, rest)?;
+    let [grid, places @ ..] = args.as_slice() else {
+        return Err(Stop::Unread);
+    };
+    let (rows, columns) = size_of(grid);
+    match index_error(rows, columns, grid.elements(), places) {
+        Some(kind) => Ok(String::from_str(alloc, kind.text())?),
+        None => Ok(String::from_str(alloc, "none")?),
+    }
 }
 
 /// The place at which MATCH finds a key: behind the key stand the keys and the kind.

@@ -40,7 +40,7 @@ fn compared_row(alloc: Global, op: Op, a: &Abs, b: &Abs) -> Result<Abs, OpRefusa
 }
 
 // An open logical beside another value: among logicals it decides, and it is above all else.
-fn open_beside(op: Op, order: Ordering, argument: u16, other: &Abs) -> Result<Abs, OpRefusal>
+fn open_beside(op: Op, order: Ordering, argument: usize, other: &Abs) -> Result<Abs, OpRefusal>
     ensures { Answers (if is_logical other.now then undecided argument
         else given (Known (Logical (asks_for op order)))) result }
 {

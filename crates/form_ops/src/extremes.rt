@@ -1,5 +1,5 @@
 // MIN and MAX.
-ghost use Rattle.std.specs.Prelude.{◌≡◌, ◌≤◌, ◌^◌, ◌∷◌, [], ◌&&◌, ◌==◌, IfOk, false, length};
+ghost use Rattle.std.specs.Prelude.{◌≡◌, ◌∷◌, [], ◌&&◌, ◌==◌, IfOk, false, length};
 ghost use Rattle.std.specs.List.{filter_map, list_all};
 ghost use Rattle.std.specs.Option.{option_to_list};
 ghost use Rattle.fractions.specs.Rational.{eq_ℚ};
@@ -29,7 +29,6 @@ use std::alloc::Global;
 /// MIN: the least of the numbers of all arguments, where they differ by known numbers alone.
 pub fn min(alloc: Global, args: &[AbsArg]) -> Result<AbsArg, OpRefusal>
     requires takes { Takes func.Min (length args.now) }
-    requires few { length args.now ≤ 2 ^ 16 }
     requires open_argument { list_all all_known args.now ≡ false }
     ensures answer { Answers (row_of func.Min args.now) result }
     ensures right { IsTrueCall func.Min args.now result }
@@ -40,7 +39,6 @@ pub fn min(alloc: Global, args: &[AbsArg]) -> Result<AbsArg, OpRefusal>
 /// MAX: the greatest of the numbers of all arguments, where they differ by known numbers alone.
 pub fn max(alloc: Global, args: &[AbsArg]) -> Result<AbsArg, OpRefusal>
     requires takes { Takes func.Max (length args.now) }
-    requires few { length args.now ≤ 2 ^ 16 }
     requires open_argument { list_all all_known args.now ≡ false }
     ensures answer { Answers (row_of func.Max args.now) result }
     ensures right { IsTrueCall func.Max args.now result }
@@ -57,7 +55,6 @@ enum Extremum {
 
 // The least or the greatest of the numbers of all arguments.
 fn extreme(alloc: Global, extremum: Extremum, args: &[AbsArg]) -> Result<AbsArg, OpRefusal>
-    requires { length args.now ≤ 2 ^ 16 }
     ensures { Answers (of_items args.now (extreme_of (is_better extremum))) result }
 {
     let taken = taken_args(alloc, extremum, args)?;
@@ -76,7 +73,7 @@ enum Best {
 #[derive(Drop)]
 struct Taken {
     error: Option<ErrorKind>,
-    test: Option<u16>,
+    test: Option<usize>,
     best: Best,
 }
 
@@ -100,7 +97,6 @@ fn of_taken(taken: Taken) -> Result<AbsArg, OpRefusal>
 
 // What is among the numbers of all arguments.
 fn taken_args(alloc: Global, extremum: Extremum, args: &[AbsArg]) -> Result<Taken, Memory>
-    requires { length args.now ≤ 2 ^ 16 }
     ensures { IfOk result (λ taken. taken ≡ taken_args extremum 0 untaken args.now) }
 {
     let mut taken = Taken {
@@ -109,7 +105,7 @@ fn taken_args(alloc: Global, extremum: Extremum, args: &[AbsArg]) -> Result<Take
         best: Best::Nothing,
     };
     for (index, arg) in args.iter().enumerate() {
-        taken = taken_arg(alloc, extremum, taken, index as u16, arg)?;
+        taken = taken_arg(alloc, extremum, taken, index, arg)?;
     }
     Ok(taken)
 }
@@ -119,7 +115,7 @@ fn taken_arg(
     alloc: Global,
     extremum: Extremum,
     taken: Taken,
-    argument: u16,
+    argument: usize,
     arg: &AbsArg,
 ) -> Result<Taken, Memory>
     ensures { IfOk result (λ more. more ≡ taken_all extremum argument taken (items_in arg.now)) }
@@ -135,7 +131,7 @@ fn taken_among(
     alloc: Global,
     extremum: Extremum,
     before: Taken,
-    argument: u16,
+    argument: usize,
     items: &[Abs],
 ) -> Result<Taken, Memory>
     ensures { IfOk result (λ more. more
@@ -153,7 +149,7 @@ fn with_element(
     alloc: Global,
     extremum: Extremum,
     taken: Taken,
-    argument: u16,
+    argument: usize,
     item: &Abs,
 ) -> Result<Taken, Memory>
     ensures { IfOk result (λ more. more
@@ -174,7 +170,7 @@ fn with_operand(
     alloc: Global,
     extremum: Extremum,
     taken: Taken,
-    argument: u16,
+    argument: usize,
     operand: &Operand,
 ) -> Result<Taken, Memory>
     ensures { IfOk result (λ more. more

@@ -1,5 +1,5 @@
 // AND, OR and NOT.
-ghost use Rattle.std.specs.Prelude.{◌≡◌, ◌≤◌, ◌^◌, ◌∷◌, IfOk, false, length, true};
+ghost use Rattle.std.specs.Prelude.{◌≡◌, ◌∷◌, IfOk, false, length, true};
 ghost use Rattle.std.specs.List.{filter_map, list_all};
 ghost use Rattle.std.specs.Option.{option_to_list};
 ghost use Rattle.form_ops.specs.SeenLogicals.{concluded, nothing_seen, open_logical, opened_with, seen_all, seen_with};
@@ -22,7 +22,6 @@ use std::alloc::Global;
 /// AND: without a known FALSE the one open logical, if all others are known; of several the first decides.
 pub fn and_(alloc: Global, args: &[AbsArg]) -> Result<AbsArg, OpRefusal>
     requires takes { Takes func.And (length args.now) }
-    requires few { length args.now ≤ 2 ^ 16 }
     requires open_argument { list_all all_known args.now ≡ false }
     ensures answer { Answers (row_of func.And args.now) result }
     ensures right { IsTrueCall func.And args.now result }
@@ -33,7 +32,6 @@ pub fn and_(alloc: Global, args: &[AbsArg]) -> Result<AbsArg, OpRefusal>
 /// OR: without a known TRUE the one open logical, if all others are known; of several the first decides.
 pub fn or_(alloc: Global, args: &[AbsArg]) -> Result<AbsArg, OpRefusal>
     requires takes { Takes func.Or (length args.now) }
-    requires few { length args.now ≤ 2 ^ 16 }
     requires open_argument { list_all all_known args.now ≡ false }
     ensures answer { Answers (row_of func.Or args.now) result }
     ensures right { IsTrueCall func.Or args.now result }
@@ -80,7 +78,6 @@ fn other_logical(value: &Abs) -> Result<Abs, Memory>
 
 // AND, which a FALSE decides, or OR, which a TRUE decides.
 fn junction(alloc: Global, deciding: bool, args: &[AbsArg]) -> Result<AbsArg, OpRefusal>
-    requires { length args.now ≤ 2 ^ 16 }
     ensures { Answers (junction deciding args.now) result }
 {
     let seen = seen_in_all(alloc, deciding, args)?;
@@ -92,9 +89,9 @@ fn junction(alloc: Global, deciding: bool, args: &[AbsArg]) -> Result<AbsArg, Op
 enum Opened {
     Nothing,
     /// One, with the argument that it stands in.
-    One(u16, Abs),
+    One(usize, Abs),
     /// Several, with the argument of the first.
-    Several(u16),
+    Several(usize),
 }
 
 // What is among some logicals: the first error, whether there is a logical, whether a known one decides, and the open ones.
@@ -134,7 +131,6 @@ fn conclusion(deciding: bool, seen: Seen) -> Result<Abs, OpRefusal>
 
 // What is among the logicals of all arguments.
 fn seen_in_all(alloc: Global, deciding: bool, args: &[AbsArg]) -> Result<Seen, Memory>
-    requires { length args.now ≤ 2 ^ 16 }
     ensures { IfOk result (λ seen. seen ≡ seen_all deciding nothing_seen (truths_of 0 args.now)) }
 {
     let mut seen = Seen {
@@ -144,7 +140,7 @@ fn seen_in_all(alloc: Global, deciding: bool, args: &[AbsArg]) -> Result<Seen, M
         opened: Opened::Nothing,
     };
     for (index, arg) in args.iter().enumerate() {
-        seen = seen_in(alloc, deciding, seen, index as u16, arg)?;
+        seen = seen_in(alloc, deciding, seen, index, arg)?;
     }
     Ok(seen)
 }
@@ -154,7 +150,7 @@ fn seen_in(
     alloc: Global,
     deciding: bool,
     seen: Seen,
-    argument: u16,
+    argument: usize,
     arg: &AbsArg,
 ) -> Result<Seen, Memory>
     ensures { IfOk result (λ more. more ≡ seen_all deciding seen (truths_in argument arg.now)) }
@@ -170,7 +166,7 @@ fn seen_among(
     alloc: Global,
     deciding: bool,
     before: Seen,
-    argument: u16,
+    argument: usize,
     items: &[Abs],
 ) -> Result<Seen, Memory>
     ensures { IfOk result (λ more. more
@@ -188,7 +184,7 @@ fn with_element(
     alloc: Global,
     deciding: bool,
     seen: Seen,
-    argument: u16,
+    argument: usize,
     item: &Abs,
 ) -> Result<Seen, Memory>
     ensures { IfOk result (λ more. more
@@ -205,7 +201,7 @@ fn with_value(
     alloc: Global,
     deciding: bool,
     seen: Seen,
-    argument: u16,
+    argument: usize,
     value: &Abs,
 ) -> Result<Seen, Memory>
     ensures { IfOk result (λ more. more ≡ seen_with deciding seen (truth_of argument value.now)) }
@@ -237,7 +233,7 @@ fn with_known(deciding: bool, seen: Seen, known: Result<bool, ErrorKind>) -> See
 }
 
 // What is among some logicals and an open one.
-fn with_open(alloc: Global, seen: Seen, argument: u16, value: &Abs) -> Result<Seen, Memory>
+fn with_open(alloc: Global, seen: Seen, argument: usize, value: &Abs) -> Result<Seen, Memory>
     ensures { IfOk result (λ more. more ≡ record {
       error = seen.error;
       some = true;
@@ -261,7 +257,12 @@ fn with_open(alloc: Global, seen: Seen, argument: u16, value: &Abs) -> Result<Se
 }
 
 // Some open logicals and one more.
-fn opened_with(alloc: Global, opened: Opened, argument: u16, value: &Abs) -> Result<Opened, Memory>
+fn opened_with(
+    alloc: Global,
+    opened: Opened,
+    argument: usize,
+    value: &Abs,
+) -> Result<Opened, Memory>
     ensures { IfOk result (λ more. more ≡ opened_with opened argument (open_logical value.now)) }
 {
     match opened {

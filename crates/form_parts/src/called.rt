@@ -16,8 +16,7 @@ use formula_ast::Func;
 use memory::Memory;
 use std::alloc::Global;
 
-/// A call of a function that looks at all of its arguments: the function itself where all are known, else its row; out of memory
-/// where there are more than 65,536 and one is open.
+/// A call of a function that looks at all of its arguments: the function itself where all are known, else its row.
 pub fn called_part(
     alloc: Global,
     whole: Span,

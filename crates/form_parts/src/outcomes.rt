@@ -42,10 +42,10 @@ pub fn refused_by(whole: Span, parts: &[Part], refusal: OpRefusal) -> Result<Out
 }
 
 // The place of an argument in the text.
-fn span_at(whole: Span, parts: &[Part], place: u16) -> Span
+fn span_at(whole: Span, parts: &[Part], place: usize) -> Span
     ensures { result ≡ span_at whole parts.now place }
 {
-    match parts.get(place as usize) {
+    match parts.get(place) {
         Some(part) => part.span,
         None => whole,
     }
@@ -89,7 +89,7 @@ fn refused_of_two(
 }
 
 // The place of one of two parts in the text.
-fn span_of_two(whole: Span, left: &Part, right: &Part, place: u16) -> Span
+fn span_of_two(whole: Span, left: &Part, right: &Part, place: usize) -> Span
     ensures { result ≡ span_at whole (left.now ∷ right.now ∷ []) place }
 {
     if place == 0 {

@@ -4,6 +4,7 @@ use Rattle.fractions.specs.Rational.{eq_ℚ, computed}
 use Rattle.fractions.specs.Floor.{floor_ℚ}
 use Rattle.fractions.specs.Power.{power_ℚ}
 use Rattle.frac128.specs.Narrow.{is_narrow, is_narrow_sum}
+use Rattle.form_table.specs.CertainExamples.{index_errors, no_choices}
 use Rattle.form_table.specs.Examples.{Hold, operators, choices, functions, picks, records, choose, certain}
 
 pub operators_hold : Hold operators
@@ -16,7 +17,7 @@ choices_hold = (refl, (refl, (refl, (refl, (refl, (refl, (refl, (refl, (refl, (r
 
 pub functions_hold : Hold functions
 unfolding computed eq_ℚ is_narrow is_narrow_sum floor_ℚ power_ℚ
-functions_hold = (refl, (refl, (refl, (refl, (refl, (refl, (refl, (refl, (refl, (refl, (refl, (refl, (refl, (refl, (refl, (refl, (refl, (refl, (refl, (refl, (refl, (refl, (refl, (refl, (refl, (refl, (refl, (refl, (refl, (refl, (refl, (refl, (refl, (refl, (refl, (refl, (refl, (refl, (refl, (refl, (refl, (refl, (refl, (refl, (refl, (refl, (refl, (refl, (refl, (refl, (refl, (refl, (refl, (refl, (refl, (refl, (refl, (refl, (refl, (refl, (refl, (refl, (refl, (refl, (refl, (refl, (refl, (refl, (refl, (refl, (refl, (refl, (refl, (refl, (refl, (refl, tt))))))))))))))))))))))))))))))))))))))))))))))))))))))))))))))))))))))))))))
+functions_hold = (refl, (refl, (refl, (refl, (refl, (refl, (refl, (refl, (refl, (refl, (refl, (refl, (refl, (refl, (refl, (refl, (refl, (refl, (refl, (refl, (refl, (refl, (refl, (refl, (refl, (refl, (refl, (refl, (refl, (refl, (refl, (refl, (refl, (refl, (refl, (refl, (refl, (refl, (refl, (refl, (refl, (refl, (refl, (refl, (refl, (refl, (refl, (refl, (refl, (refl, (refl, (refl, (refl, (refl, (refl, (refl, (refl, (refl, (refl, (refl, (refl, (refl, (refl, (refl, (refl, (refl, (refl, (refl, (refl, (refl, (refl, (refl, (refl, (refl, (refl, (refl, (refl, (refl, (refl, (refl, tt))))))))))))))))))))))))))))))))))))))))))))))))))))))))))))))))))))))))))))))))
 
 pub picks_hold : Hold picks
 unfolding computed eq_ℚ is_narrow is_narrow_sum floor_ℚ power_ℚ
@@ -33,3 +34,11 @@ choose_hold = (refl, (refl, (refl, (refl, (refl, (refl, tt))))))
 pub certain_hold : Hold certain
 unfolding computed eq_ℚ is_narrow is_narrow_sum floor_ℚ power_ℚ
 certain_hold = (refl, (refl, (refl, (refl, (refl, (refl, (refl, (refl, (refl, tt)))))))))
+
+pub no_choices_hold : Hold no_choices
+unfolding computed eq_ℚ is_narrow is_narrow_sum floor_ℚ power_ℚ
+no_choices_hold = (refl, (refl, (refl, (refl, (refl, (refl, tt))))))
+
+pub index_errors_hold : Hold index_errors
+unfolding computed eq_ℚ is_narrow is_narrow_sum floor_ℚ power_ℚ
+index_errors_hold = (refl, (refl, (refl, (refl, (refl, (refl, (refl, (refl, (refl, (refl, (refl, (refl, (refl, tt)))))))))))))

@@ -399,6 +399,14 @@ functions =
     (form_called func.Match (number zero_ℚ ∷ column (one_is ∷ x_is ∷ []) ∷ (number (whole_ℚ (pos 0))) ∷ []), open_at 1) ∷
     -- MATCH(0;{1;x};y)
     (form_called func.Match (number zero_ℚ ∷ column (one_is ∷ x_is ∷ []) ∷ y ∷ []), open_at 1) ∷
+    -- MATCH(0;{1;2};t)
+    (form_called func.Match (number zero_ℚ ∷ column (one_is ∷ two_is ∷ []) ∷ t ∷ []), is (fails kind.NotAvailable)) ∷
+    -- MATCH(5;{1;2};t)
+    (form_called func.Match (number (whole_ℚ (pos 5)) ∷ column (one_is ∷ two_is ∷ []) ∷ t ∷ []), open_at 2) ∷
+    -- MATCH(0;{1;x};t)
+    (form_called func.Match (number zero_ℚ ∷ column (one_is ∷ x_is ∷ []) ∷ t ∷ []), open_at 2) ∷
+    -- MATCH(y;{1;2};t)
+    (form_called func.Match (y ∷ column (one_is ∷ two_is ∷ []) ∷ t ∷ []), open_at 2) ∷
     -- ROWS({x;1})
     (form_called func.Rows (column (x_is ∷ one_is ∷ []) ∷ []), is (number (whole_ℚ (pos 2)))) ∷
     -- COLUMNS({x;1})

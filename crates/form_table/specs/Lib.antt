@@ -8,5 +8,7 @@ pub mod Products
 pub mod Picks
 pub mod Lookups
 pub mod Criteria
+pub mod Certain
 pub mod Table
 pub mod Examples
+pub mod CertainExamples

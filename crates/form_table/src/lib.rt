@@ -2,6 +2,7 @@
 //! and rows by example.
 #![tactic(auto)]
 
+ghost use Rattle.form_table.specs.CertainExamples.{index_errors, no_choices};
 ghost use Rattle.form_table.specs.Examples.{Hold, certain, choices, choose, functions, operators, picks, records};
 
 /// What the rows make of some values.
@@ -13,4 +14,6 @@ pub fn examples_hold()
     ensures records { Hold records }
     ensures choose { Hold choose }
     ensures certain { Hold certain }
+    ensures no_choices { Hold no_choices }
+    ensures index_errors { Hold index_errors }
 {}

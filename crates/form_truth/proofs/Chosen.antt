@@ -1,20 +1,31 @@
 -- The places that SUMIF adds, and what CHOOSE chooses.
-use Rattle.std.proofs.Common.{◌≡◌, refl, ap, ap₂, ◌∙◌, List, [], ◌∷◌, Option, Some, None, Result, Ok}
+use Rattle.std.specs.Prelude.{negsuc, slice_get}
+use Rattle.std.specs.List.{list_all}
+use Rattle.std.proofs.Common.{◌≡◌, refl, sym, ap, ap₂, ◌∙◌, true, true≢false, List, [], ◌∷◌, map, Option, Some, None, Result, Ok, ℕ, zero, suc, pos}
+use Rattle.std.proofs.lemmas.Bool.{and_parts}
 use Rattle.fractions.specs.Rational.{ℚ}
 use Rattle.calculations.specs.Calculation.{exact}
 use Rattle.cell_refs.specs.declared.error_kind.ErrorKind.{ErrorKind}
+use Rattle.cell_refs.specs.declared.error_kind.ErrorKind.TheVariants as kind
+use Rattle.sheet_model.specs.Operators.{single}
 use Rattle.sheet_model.specs.declared.value.Value.{Value}
+use Rattle.sheet_model.specs.declared.value.Value.TheVariants.{Number, Text, Logical, Empty, Error}
+use Rattle.sheet_model.specs.declared.grid.Arg.TheVariants as arg
 use Rattle.sheet_funcs.specs.Arguments as functions
 use Rattle.sheet_funcs.specs.Rounding as numbers
 use Rattle.affine_forms.specs.Forms.{Assignment, AffineForm, worth}
-use Rattle.form_values.specs.Meaning.{arg_at, IsSound}
+use Rattle.form_values.specs.Meaning.{abs_at, arg_at, IsSound}
+use Rattle.form_values.specs.declared.abs.Abs.{Abs}
+use Rattle.form_values.specs.declared.abs.Abs.TheVariants.{Known, Affine, Test}
 use Rattle.form_values.specs.declared.abs.AbsArg.{AbsArg}
+use Rattle.form_values.specs.declared.abs.AbsArg.TheVariants.{One, Area}
 use Rattle.form_table.specs.Wanted.{Wanted, form, open_test, none, value_of, number_of, grid_of, constant_of}
-use Rattle.form_table.specs.Choosing.{choose_by, choose_of}
+use Rattle.form_table.specs.Choosing.{found_choice, choose_by, choose_of}
+use Rattle.form_table.specs.Certain.{is_value_error, is_no_choice}
 use Rattle.form_table.specs.Criteria.{places_from, by_known}
 use Rattle.form_table.specs.Lookups.{known_value, known_keys}
 use Rattle.form_truth.specs.Rows.{ArgumentVaries}
-use Rattle.form_truth.specs.Picks.{IsPick, PlacesAreRight, chosen_by, ChosenIsRight}
+use Rattle.form_truth.specs.Picks.{IsPick, PlacesAreRight, chosen_by, ChosenIsRight, worth_chosen, CertainIsChosen}
 use Rattle.form_truth.proofs.Arguments.{value_at, value_sound}
 use Rattle.form_truth.proofs.Fitting.{fits, constant_is}
 use Rattle.form_truth.proofs.Matching.{Asked, asks_none, asks_form, asks_test, asked, asked_there}
@@ -49,3 +60,47 @@ module _ (place : AbsArg) (choices : List AbsArg) where
 pub chosen_is_right : ChosenIsRight
 chosen_is_right place choices h =
     by_number place choices (number_of place) (asked_there (place ∷ choices) 0 place refl (λ x. numbers.number_of (arg_at x place)) (number_of place) (asked place (number_of place) (fits (value_of place) (value_sound place h))))
+
+-- ---- choices that are certainly the error for no choice
+-- elements that are this error alone
+one_error : (items : List Abs) → is_value_error items ≡ true → items ≡ Known (Error kind.Value) ∷ []
+one_error [] h = absurd (true≢false (sym h))
+one_error (Known (Error kind.Value) ∷ []) h = refl
+one_error (Known (Error kind.Div0) ∷ []) h = absurd (true≢false (sym h))
+one_error (Known (Error kind.Ref) ∷ []) h = absurd (true≢false (sym h))
+one_error (Known (Error kind.Num) ∷ []) h = absurd (true≢false (sym h))
+one_error (Known (Error kind.NotAvailable) ∷ []) h = absurd (true≢false (sym h))
+one_error (Known (Error kind.Circular) ∷ []) h = absurd (true≢false (sym h))
+one_error (Known (Error kind.Malformed) ∷ []) h = absurd (true≢false (sym h))
+one_error (Known (Number y) ∷ []) h = absurd (true≢false (sym h))
+one_error (Known (Text y) ∷ []) h = absurd (true≢false (sym h))
+one_error (Known (Logical y) ∷ []) h = absurd (true≢false (sym h))
+one_error (Known Empty ∷ []) h = absurd (true≢false (sym h))
+one_error (Known (Error kind.Value) ∷ b ∷ items) h = absurd (true≢false (sym h))
+one_error (Known (Error kind.Div0) ∷ b ∷ items) h = absurd (true≢false (sym h))
+one_error (Known (Error kind.Ref) ∷ b ∷ items) h = absurd (true≢false (sym h))
+one_error (Known (Error kind.Num) ∷ b ∷ items) h = absurd (true≢false (sym h))
+one_error (Known (Error kind.NotAvailable) ∷ b ∷ items) h = absurd (true≢false (sym h))
+one_error (Known (Error kind.Circular) ∷ b ∷ items) h = absurd (true≢false (sym h))
+one_error (Known (Error kind.Malformed) ∷ b ∷ items) h = absurd (true≢false (sym h))
+one_error (Known (Number y) ∷ b ∷ items) h = absurd (true≢false (sym h))
+one_error (Known (Text y) ∷ b ∷ items) h = absurd (true≢false (sym h))
+one_error (Known (Logical y) ∷ b ∷ items) h = absurd (true≢false (sym h))
+one_error (Known Empty ∷ b ∷ items) h = absurd (true≢false (sym h))
+one_error (Affine f ∷ items) h = absurd (true≢false (sym h))
+one_error (Test f r ∷ items) h = absurd (true≢false (sym h))
+
+pub no_choice_at : (x : Assignment) (a : AbsArg) → is_no_choice a ≡ true → single (arg_at x a) ≡ arg.One (Error kind.Value)
+no_choice_at x (One a) h = let s : a ≡ Known (Error kind.Value) = (let e = one_error (a ∷ []) h in cc) in ap (λ b. single (arg_at x (One b))) s
+no_choice_at x (Area g) h =
+    ap (λ items. single (arg.Area (record { rows = g.rows; columns = g.columns; items = map (abs_at x) items }))) (one_error g.items h)
+
+choice_certain : (x : Assignment) (choices : List AbsArg) (n : ℕ) → list_all is_no_choice choices ≡ true → worth_chosen x (found_choice (slice_get choices n)) ≡ arg.One (Error kind.Value)
+choice_certain x [] n h = refl
+choice_certain x (a ∷ choices) zero h = no_choice_at x a (and_parts (is_no_choice a) (list_all is_no_choice choices) h).0
+choice_certain x (a ∷ choices) (suc n) h = choice_certain x choices n (and_parts (is_no_choice a) (list_all is_no_choice choices) h).1
+
+pub certain_is_chosen : CertainIsChosen
+certain_is_chosen x choices (pos zero) h = refl
+certain_is_chosen x choices (pos (suc n)) h = choice_certain x choices n h
+certain_is_chosen x choices (negsuc n) h = refl

@@ -47,3 +47,4 @@ pub mod Finding
 pub mod Chosen
 pub mod LookupSteps
 pub mod CertainSums
+pub mod CertainPicks

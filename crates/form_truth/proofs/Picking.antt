@@ -57,7 +57,7 @@ spot_number : (varies : Type 0) (size : ℕ) (number : Assignment → Result ℚ
 spot_number varies size number (Some p) h x = ((h x).0, (h x).1)
 spot_number varies size number None h x = h.0 x
 
-no_columns : (o : Option (ℕ × ℕ)) → part_of o None ≡ Fault kind.Ref
+pub no_columns : (o : Option (ℕ × ℕ)) → part_of o None ≡ Fault kind.Ref
 no_columns (Some r) = refl
 no_columns None = refl
 
@@ -127,7 +127,7 @@ module _ (args : List AbsArg) (rows columns : ℕ) (first second : Assignment �
   two_places open_test open_test (is_test d v) (is_test e u) = v
 
 -- ---- INDEX
-placed_at : (args : List AbsArg) (i : ℕ) (size : ℕ) (a : AbsArg) → slice_get args i ≡ Some a → IsSound a
+pub placed_at : (args : List AbsArg) (i : ℕ) (size : ℕ) (a : AbsArg) → slice_get args i ≡ Some a → IsSound a
     → Placed (ArgumentVaries arg_at args i) size (λ x. functions_numbers.number_of (arg_at x a)) (number_of a)
 placed_at args i size a e h =
     placed (ArgumentVaries arg_at args i) size (λ x. functions_numbers.number_of (arg_at x a)) (number_of a)

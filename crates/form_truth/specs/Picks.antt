@@ -1,12 +1,14 @@
 -- The part of a grid that INDEX picks, the place that MATCH finds, and the record and field of VLOOKUP and HLOOKUP, by open places and
 -- keys: what is given is that under every assignment, none is refused as not affine, and an argument that leaves it undecided varies.
-use Rattle.std.specs.Prelude.{◌≡◌, ℕ, List, [], ◌∷◌, map, Some, Result, Ok, Err}
-use Rattle.std.specs.List.{AllByRecursion}
+use Rattle.std.specs.Prelude.{◌≡◌, ℕ, ◌+◌, ◌*◌, ℤ, true, List, [], ◌∷◌, map, slice_get, Some, Result, Ok, Err}
+use Rattle.std.specs.List.{AllByRecursion, list_all}
 use Rattle.calculations.specs.Calculation.{exact}
 use Rattle.fractions.specs.Rational.{ℚ}
 use Rattle.fractions.specs.Floor.{floor_ℚ}
 use Rattle.cell_refs.specs.declared.error_kind.ErrorKind.{ErrorKind}
+use Rattle.cell_refs.specs.declared.error_kind.ErrorKind.TheVariants as kind
 use Rattle.sheet_model.specs.Grids.{Rectangle}
+use Rattle.sheet_model.specs.Operators.{single}
 use Rattle.sheet_model.specs.declared.value.Value.{Value}
 use Rattle.sheet_model.specs.declared.value.Value.TheVariants.{Error}
 use Rattle.sheet_model.specs.declared.grid.Arg.{Arg}
@@ -18,16 +20,20 @@ use Rattle.sheet_funcs.specs.Items.{numbers_among}
 use Rattle.sheet_funcs.specs.Lookups.{lookup_pick, vlookup_of, hlookup_of}
 use Rattle.sheet_funcs.specs.Products as products
 use Rattle.sheet_funcs.specs.Picks.{pick_of}
+use Rattle.sheet_funcs.specs.declared.pick.Pick.{Pick}
+use Rattle.sheet_funcs.specs.declared.pick.Pick.TheVariants.{Part, Fault}
 use Rattle.sheet_funcs.specs.Rounding.{number_of}
 use Rattle.affine_forms.specs.Forms.{Assignment}
 use Rattle.form_values.specs.Meaning.{abs_at, arg_at, IsSound}
 use Rattle.form_values.specs.Trials.{Refusal, Breaks, Undecided}
 use Rattle.form_values.specs.Grids.{Raster}
 use Rattle.form_values.specs.declared.abs.Abs.{Abs}
+use Rattle.form_values.specs.declared.abs.Abs.TheVariants.{Known}
 use Rattle.form_values.specs.declared.abs.AbsArg.{AbsArg}
 use Rattle.form_table.specs.Wanted as open_values
 use Rattle.form_table.specs.Wanted.{value_of, grid_of}
 use Rattle.form_table.specs.Choosing.{choice_at, choose_form}
+use Rattle.form_table.specs.Certain.{is_no_choice, index_error}
 use Rattle.form_table.specs.Criteria.{places_from, met_places, summed_error}
 use Rattle.form_table.specs.Lookups.{lookup_pick_form, record_form, kinds_in}
 use Rattle.form_table.specs.Products.{at, transposed}
@@ -44,6 +50,16 @@ abbrev pub IndexIsRight : Type 0
 IndexIsRight =
     (rows columns : ℕ) (grid : AbsArg) (places : List AbsArg) → AllByRecursion IsSound places
     → IsPick (λ x. pick_of rows columns (map (arg_at x) places)) (grid ∷ places) (exact (pick_form rows columns places))
+
+-- an error that is certainly picked of a grid with these elements: out of range there is no other, and else one element is picked that is it
+abbrev pub IsErrorPicked : ErrorKind → ℕ → List Abs → Pick → Type 0
+IsErrorPicked k columns items (Fault l) = l ≡ k
+IsErrorPicked k columns items (Part top left bottom right) = (bottom ≡ top) × (right ≡ left) × (slice_get items (top * columns + left) ≡ Some (Known (Error k)))
+
+abbrev pub CertainIsPicked : Type 0
+CertainIsPicked =
+    (x : Assignment) (rows columns : ℕ) (items : List Abs) (places : List AbsArg) (k : ErrorKind) → AllByRecursion IsSound places → index_error rows columns items places ≡ Some k
+    → IsErrorPicked k columns items (pick_of rows columns (map (arg_at x) places))
 
 -- MATCH of a key, keys and a kind
 abbrev pub FoundIsRight : Type 0
@@ -101,3 +117,11 @@ abbrev pub ChosenIsRight : Type 0
 ChosenIsRight =
     (place : AbsArg) (choices : List AbsArg) → IsSound place
     → IsPick (λ x. chosen_by choices (number_of (arg_at x place))) (place ∷ choices) (exact (choose_form place choices))
+
+-- and where each choice is the error that stands where there is none, it is so at each place
+abbrev pub worth_chosen : Assignment → Result AbsArg ErrorKind → Arg
+worth_chosen x (Ok a) = single (arg_at x a)
+worth_chosen x (Err k) = One (Error k)
+
+abbrev pub CertainIsChosen : Type 0
+CertainIsChosen = (x : Assignment) (choices : List AbsArg) (place : ℤ) → list_all is_no_choice choices ≡ true → worth_chosen x (choice_at choices place) ≡ One (Error kind.Value)

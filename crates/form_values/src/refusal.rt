@@ -13,7 +13,7 @@ pub enum OpRefusal {
     Break,
     /// The argument at this place, from 0, decides what the part is, and its value is open.
     #[error("an open argument decides")]
-    Undecided(u16),
+    Undecided(usize),
     /// A number in its calculation doesn't fit 128 bits.
     #[error("a number is too wide")]
     Wide,

@@ -22,7 +22,7 @@ use Rattle.form_extraction.specs.Places.{Decisions, form_of, formula_form, numbe
 use Rattle.form_extraction.proofs.Never.{circular_where_circle}
 use Rattle.form_extraction.proofs.States.{circle_is_circular}
 use Rattle.extract.specs.Knowing.{is_open_text}
-use Rattle.extract.specs.Places.{HasForms, IsTreeOf, IsUndecided, is_in_circle}
+use Rattle.extract.specs.Places.{HasForms, IsTreeOf, is_in_circle}
 use Rattle.extract.specs.Places as extracted
 use Rattle.extract.specs.Tables.{Table, form_at as kept_at}
 use Rattle.form_needs.specs.Needed.{Asked, PlaceLooksAt}
@@ -123,9 +123,8 @@ module _ (book : Book) (sides : Sides) (decisions : List Cell) (table : Table) (
     tree_there (place.Cell a) h = formula_said (entry book a) t (undecided (decided a) (tree_said (entry book a)) t h).1
     tree_there (place.Side k) h = tt
 
-    pub is_undecided : (p : Place) → place_tree (asked roots) p ≡ Some t → IsUndecided decided p
-    is_undecided (place.Cell a) h = (undecided (decided a) (tree_said (entry book a)) t h).0
-    is_undecided (place.Side k) h = tt
+    cell_undecided : (a : Cell) → place_tree (asked roots) (place.Cell a) ≡ Some t → decided a ≡ None
+    cell_undecided a h = (undecided (decided a) (tree_said (entry book a)) t h).0
 
     -- a side in a circle has a circular form
     side_circular : (w : Bool) → w ≡ true → (if w then Circular else formula_form (forms_of book decided) t) ≡ Circular
@@ -180,7 +179,7 @@ module _ (book : Book) (sides : Sides) (decisions : List Cell) (table : Table) (
       in_circle (place.Cell a) h c i b =
           let by = refers_by (is_circular book leaf a) (entry book a) b (kept_circular a c) (tree_there (place.Cell a) h) in (
             (λ k. let r = (each b).0 k in (
-              is_undecided (place.Cell a) h,
+              cell_undecided a h,
               none_decided (decided b) (first_true (not (leaf b)) (contains_key book.texts b) r.0),
               second_true (not (leaf b)) (contains_key book.texts b) r.0,
               by.1 r.1,

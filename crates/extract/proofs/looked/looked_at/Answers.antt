@@ -1,15 +1,21 @@
-use Rattle.std.proofs.Common.{Contains, ap, subst, sym, ◌∙◌}
-use Rattle.form_extraction.specs.Parts.{Part}
+use Rattle.std.proofs.Common.{Contains, [], arith, subst, sym}
+use Rattle.std.specs.List.Sorted.{IsStrictlySortedBy}
+use Rattle.cell_refs.specs.Cells.{cell_cmp}
 use Rattle.workbook.specs.Kinds.{book_of}
-use Rattle.extract.proofs.Placing.{looks_there, there_looks}
+use Rattle.form_extraction.specs.Places.{numbered_in}
+use Rattle.extract.proofs.Placing.{decided_looks}
 use Rattle.extract.proofs.looked.looked_at.Goals as goal
 
-pub returns-clause-each : goal.returns-clause-each
-returns-clause-each c =
-    let looks = c.looks.ensures ∙ ap (λ (p : Part). p.looks) c.in_ok-part.ensures in
+pub returns-in-Some-clause-each : goal.returns-in-Some-clause-each
+returns-in-Some-clause-each c =
     λ b. (
-      λ h. let there = (c.in_ok-found.ensures.each b).0 h in
-          looks_there (book_of c.args.book.now) c.args.adj.now c.args.got.now c.args.tree.now c.requires.forms c.args.place c.requires.tree c.requires.undecided c.requires.free b (subst (λ cells. Contains cells b) looks there.0, there.1),
-      λ h. let there = there_looks (book_of c.args.book.now) c.args.adj.now c.args.got.now c.args.tree.now c.requires.forms c.args.place c.requires.tree c.requires.undecided c.requires.free b h in
-          (c.in_ok-found.ensures.each b).1 (subst (λ cells. Contains cells b) (sym looks) there.0, there.1),
+      λ h. let none : Contains [] b = subst (λ cells. Contains cells b) c.new.ensures.items h in absurd (omega (arith, none.1)),
+      λ h. absurd (decided_looks (book_of c.args.book.now) (numbered_in c.args.adj.now) c.args.place c.args.tree.now c.in-Some.field-0 (sym c.in-Some.ensures) b h),
     )
+
+sorted_nil : IsStrictlySortedBy cell_cmp []
+unfolding IsStrictlySortedBy
+sorted_nil = tt
+
+pub returns-in-Some-clause-sorted : goal.returns-in-Some-clause-sorted
+returns-in-Some-clause-sorted c = subst (IsStrictlySortedBy cell_cmp) (sym c.new.ensures.items) sorted_nil

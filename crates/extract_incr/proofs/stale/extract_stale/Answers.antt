@@ -1,13 +1,10 @@
 use Rattle.std.proofs.Common.{arith}
 use Rattle.workbook.specs.Kinds.{book_of}
-use Rattle.extract_incr.proofs.Settling.{formed, free_place, some_unmade, tree_of_place, undecided_place}
+use Rattle.extract_incr.proofs.Settling.{formed, free_place, some_unmade, tree_of_place}
 use Rattle.extract_incr.proofs.stale.extract_stale.Goals as goal
 
 pub form_of-requires-clause-tree : goal.form_of-requires-clause-tree
 form_of-requires-clause-tree g c = tree_of_place (book_of c.args.book.now) c.args.adj.now c.args.sides.now c.args.place c.args.tree.now c.requires.tree
-
-pub form_of-requires-clause-undecided : goal.form_of-requires-clause-undecided
-form_of-requires-clause-undecided g c = undecided_place (book_of c.args.book.now) c.args.adj.now c.args.sides.now c.args.table.now c.args.place c.requires.stale
 
 pub keep-requires-clause-form : goal.keep-requires-clause-form
 keep-requires-clause-form g c = formed (book_of c.args.book.now) c.args.adj.now c.args.sides.now c.args.place c.args.tree.now c.in_ok-form.form c.requires.tree c.in_ok-form.ensures.form

@@ -1,10 +1,10 @@
-use Rattle.std.proofs.Common.{◌≡◌, ◌++◌, ◌∙◌, ap, ap₂, sym, refl, subst, map, IfOk, None, List}
+use Rattle.std.proofs.Common.{◌≡◌, ◌++◌, ◌∙◌, ap, ap₂, sym, refl, subst, map, IfOk, None, List, []}
 use Rattle.recalculation.specs.Looks.{all_looks, outcomes, then_cells}
 use Rattle.form_table.specs.Picks.{pick_form}
 use Rattle.form_table.specs.Wanted.{grid_of}
-use Rattle.form_extraction.specs.Calls.{picked_from}
+use Rattle.form_extraction.specs.Calls.{picked_at}
 use Rattle.form_extraction.specs.Deciding.{given_by}
-use Rattle.form_extraction.specs.Parts.{Part, argument, on_parts, tried_on}
+use Rattle.form_extraction.specs.Parts.{Part, argument, on_parts}
 use Rattle.form_extraction.specs.Sources.{of_cells, of_raster}
 use Rattle.form_calls.specs.Sources.{cells_picked}
 use Rattle.form_calls.specs.declared.source.Source.TheVariants.{Cells, Values}
@@ -22,7 +22,7 @@ returns-in-Some g c =
     subst (λ v. IfOk c.indexed_part.result (λ part. part ≡ v))
     (ap₂ (λ cells o. record { span = c.args.whole; looks = cells; outcome = o; reference = None })
     (ap (λ cells. cells ++ more) c.in_ok-looks.ensures ∙ index_cells forms c.args.whole table places grid.now r)
-    (ap (λ (ps : List Part). on_parts places (λ at. tried_on c.args.whole ps (pick_form grid.now.rows grid.now.columns at) (picked_from (of_cells forms grid.now)))) c.requires
+    (ap (λ (ps : List Part). on_parts places (picked_at c.args.whole ps (of_cells forms grid.now) [])) c.requires
     ∙ index_in_cells forms c.args.whole table places grid.now r))
     c.indexed_part.ensures
 
@@ -41,6 +41,6 @@ returns g c =
     (ap₂ (λ cells o. record { span = c.args.whole; looks = cells; outcome = o; reference = None })
     (ap (λ cells. cells ++ more) (c.in_ok-looks-2.ensures ∙ ap (λ (ps : List Part). all_looks (map argument ps)) c.requires)
     ∙ index_all forms c.args.whole table places (Values value) rows columns (λ p. refl) r)
-    (ap (λ (ps : List Part). on_parts places (λ at. tried_on c.args.whole ps (pick_form rows columns at) (picked_from (of_raster (grid_of value.now))))) c.requires
+    (ap (λ (ps : List Part). on_parts places (picked_at c.args.whole ps (of_raster (grid_of value.now)) (grid_of value.now).items)) c.requires
     ∙ index_in_values forms c.args.whole table places value.now r v))
     c.indexed_part-2.ensures

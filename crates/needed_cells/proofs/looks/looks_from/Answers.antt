@@ -3,7 +3,7 @@ use Rattle.extract.specs.Places.{is_in_circle}
 use Rattle.form_extraction.specs.Places.{numbered_in}
 use Rattle.workbook.specs.Kinds.{book_of}
 use Rattle.needed_cells.specs.Finding.{has_circle}
-use Rattle.needed_cells.proofs.Circles.{free, free_side, has_forms, in_circle, is_undecided, out_of_circles, tree_there}
+use Rattle.needed_cells.proofs.Circles.{free, free_side, has_forms, in_circle, out_of_circles, tree_there}
 use Rattle.needed_cells.proofs.looks.looks_from.Goals as goal
 use Rattle.needed_cells.proofs.looks.looks_from.Goals.{then-is_kept_circular+in_ok-referred+else-has_circle, else-is_kept_circular}
 
@@ -16,11 +16,6 @@ returns-then-has_circle c =
 pub looked_at-requires-clause-tree : goal.looked_at-requires-clause-tree
 looked_at-requires-clause-tree c =
     tree_there (book_of c.args.sheet.now.book.now) c.args.sheet.now.sides.now c.args.sheet.now.adj.now c.args.sheet.now.forms.now c.requires.settled c.args.sheet.now.roots.now c.args.tree.now
-    c.args.place c.requires.tree
-
-pub looked_at-requires-clause-undecided : goal.looked_at-requires-clause-undecided
-looked_at-requires-clause-undecided c =
-    is_undecided (book_of c.args.sheet.now.book.now) c.args.sheet.now.sides.now c.args.sheet.now.adj.now c.args.sheet.now.forms.now c.requires.settled c.args.sheet.now.roots.now c.args.tree.now
     c.args.place c.requires.tree
 
 pub looked_at-requires-clause-free : goal.looked_at-requires-clause-free
