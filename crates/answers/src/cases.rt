@@ -1,19 +1,20 @@
 // How cases are read, line by line.
 
 use crate::lines::Line;
-use crate::spelling::{push_spelled, words_of};
+use crate::spelling::{Fails, fails_of, push_numbered, push_spelled, push_times, words_of};
 use std::alloc::{AllocError, Global};
 
 /// Files, each a name and its bytes.
 pub(crate) type Files = Vec<(String, Vec<u8>)>;
 
-/// A run: what it shows, the words of its command line, its files and its script.
+/// A run: what it shows, the words of its command line, its files and its script, and which calls fail.
 #[derive(Drop)]
 pub(crate) struct Case {
     pub(crate) name: String,
     pub(crate) words: Vec<String>,
     pub(crate) files: Files,
     pub(crate) script: Vec<u8>,
+    pub(crate) fails: Fails,
 }
 
 // Files that cases may share.
@@ -61,11 +62,14 @@ impl Cases {
             Line::Case(name) => self.begin_case(name),
             Line::Words(words) => self.add_words(words),
             Line::With(name) => self.add_shared(name),
+            Line::Fails(calls) => Ok(self.set_fails(calls)),
             Line::File(name) => self.begin_file(name),
             Line::Script => Ok(self.begin_script()),
             Line::Shared(name) => self.begin_shared(name),
             Line::Text(text) => self.add_line(text),
             Line::Bytes(text) => self.add_spelled(text),
+            Line::Times(text) => self.add_times(text),
+            Line::Numbered(text) => self.add_numbered(text),
             Line::Unknown => Ok(false),
         }
     }
@@ -77,6 +81,7 @@ impl Cases {
             words: Vec::new(self.alloc),
             files: Vec::new(self.alloc),
             script: Vec::new(self.alloc),
+            fails: Fails::NEVER,
         });
         Ok(true)
     }
@@ -113,6 +118,16 @@ impl Cases {
         Ok(true)
     }
 
+    fn set_fails(&mut self, calls: &str) -> bool {
+        match (&mut self.case, fails_of(calls)) {
+            (Some(case), Some(fails)) => {
+                case.fails = fails;
+                true
+            }
+            _ => false,
+        }
+    }
+
     // Adds the shared files of this name.
     fn add_shared(&mut self, name: &str) -> Result<bool, AllocError> {
         let Some(case) = &mut self.case else {
@@ -139,6 +154,22 @@ impl Cases {
     fn add_spelled(&mut self, text: &str) -> Result<bool, AllocError> {
         match self.bytes() {
             Some(bytes) => push_spelled(text, bytes),
+            None => Ok(false),
+        }
+    }
+
+    fn add_times(&mut self, text: &str) -> Result<bool, AllocError> {
+        let alloc = self.alloc;
+        match self.bytes() {
+            Some(bytes) => push_times(alloc, text, bytes),
+            None => Ok(false),
+        }
+    }
+
+    fn add_numbered(&mut self, text: &str) -> Result<bool, AllocError> {
+        let alloc = self.alloc;
+        match self.bytes() {
+            Some(bytes) => push_numbered(alloc, text, bytes),
             None => Ok(false),
         }
     }

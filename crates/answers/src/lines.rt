@@ -7,11 +7,14 @@ pub(crate) enum Line<'a> {
     Case(&'a str),
     Words(&'a str),
     With(&'a str),
+    Fails(&'a str),
     File(&'a str),
     Script,
     Shared(&'a str),
     Text(&'a str),
     Bytes(&'a str),
+    Times(&'a str),
+    Numbered(&'a str),
     Unknown,
 }
 
@@ -36,9 +39,12 @@ impl<'a> Line<'a> {
             "case" => Line::Case(rest),
             "words" => Line::Words(rest),
             "with" => Line::With(rest),
+            "fails" => Line::Fails(rest),
             "file" => Line::File(rest),
             "script" => Line::Script,
             "shared" => Line::Shared(rest),
+            "times" => Line::Times(rest),
+            "numbered" => Line::Numbered(rest),
             _ => Line::Unknown,
         }
     }

@@ -5,11 +5,14 @@
 //     case NAME         begins a case; the name says what it shows
 //     words WORD ..     the words of its command line, with blanks between; one with blanks, or of no letters, stands in quotes, as ''
 //     with NAME         the shared files of this name are files of the case
+//     fails F S P       the calls of the folder, of the script's source and of the printer that fail, each counted from 0
 //     file NAME         begins a file
 //     script            begins the script
 //     shared NAME       begins files that cases may share, by `file` lines behind it
 //     |TEXT             a line of the file or script that was begun, and the line feed at its end
 //     >TEXT             bytes of it with no line feed at their end; \n, \r and \x and two digits are a byte each, so \x5c is a backslash
+//     times N TEXT      such bytes N times
+//     numbered N TEXT   the same, with the number of each time, from 0, in the place of #
 //     # TEXT            a remark; so is an empty line
 //
 // For each case this is printed:

@@ -13,13 +13,24 @@ pub(crate) fn show_run(alloc: Global, case: &Case, to: &mut String) -> Result<()
     if !has_distinct_names(&files) {
         return Ok(to.push_str("can't be read: two files have one name\n")?);
     }
-    let mut folder = MemFolder::new(alloc, files, Vec::new(alloc));
-    let mut script = MemSource::new(alloc, case.script.clone()?, Vec::new(alloc));
-    let mut out = MemSink::new(alloc, Vec::new(alloc));
-    let status = run_with_pickers(alloc, &case.words, &mut folder, &mut script, &mut out)?;
-    push_lines(out.bytes(), to)?;
-    writeln!(to, "status {}", status.number())?;
+    let mut folder = MemFolder::new(alloc, files, [case.fails.folder].to_vec(alloc)?);
+    show_end(alloc, case, &mut folder, to)?;
     show_changes(&case.files, &folder, to)
+}
+
+// Appends what the run of a case over a folder prints, and how it ends.
+fn show_end(
+    alloc: Global,
+    case: &Case,
+    folder: &mut MemFolder,
+    to: &mut String,
+) -> Result<(), AllocError> {
+    let fails = [case.fails.script].to_vec(alloc)?;
+    let mut script = MemSource::new(alloc, case.script.clone()?, fails);
+    let mut out = MemSink::new(alloc, [case.fails.printer].to_vec(alloc)?);
+    let status = run_with_pickers(alloc, &case.words, folder, &mut script, &mut out)?;
+    push_lines(out.bytes(), to)?;
+    Ok(writeln!(to, "status {}", status.number())?)
 }
 
 // Appends the files that aren't what they were.

@@ -1,4 +1,4 @@
-// How words and bytes are spelled in a line.
+// How words, bytes and numbers of calls are spelled in a line.
 
 use hex::FromHex;
 use std::alloc::{AllocError, Global};
@@ -55,6 +55,71 @@ fn spelled(piece: &[u8]) -> Option<(u8, &[u8])> {
         }
         _ => None,
     }
+}
+
+// How often a text is meant, and the text.
+fn counted(text: &str) -> Option<(u32, &str)> {
+    let (count, text) = text.split_once(' ')?;
+    Some((count.parse::<u32>().ok()?, text))
+}
+
+/// Adds the bytes that a text spells as often as the number before it says. It says whether there are such a number and such a text.
+pub(crate) fn push_times(alloc: Global, text: &str, to: &mut Vec<u8>) -> Result<bool, AllocError> {
+    let Some((count, text)) = counted(text) else {
+        return Ok(false);
+    };
+    let mut piece = Vec::new(alloc);
+    let is_spelled = push_spelled(text, &mut piece)?;
+    for _ in 0..count {
+        to.extend_from_slice(&piece)?;
+    }
+    Ok(is_spelled)
+}
+
+/// The same, where each time its number, from 0, stands in the place of `#`.
+pub(crate) fn push_numbered(
+    alloc: Global,
+    text: &str,
+    to: &mut Vec<u8>,
+) -> Result<bool, AllocError> {
+    let Some((count, text)) = counted(text) else {
+        return Ok(false);
+    };
+    let (front, back) = text.split_once('#').unwrap_or((text, ""));
+    let mut is_spelled = true;
+    for place in 0..count {
+        let text = format!(in alloc; "{front}{place}{back}")?;
+        is_spelled = push_spelled(&text, to)?;
+    }
+    Ok(is_spelled)
+}
+
+/// The calls of the folder, the script and the printer that fail, each counted from 0.
+#[derive(Clone, Copy)]
+pub(crate) struct Fails {
+    pub(crate) folder: u64,
+    pub(crate) script: u64,
+    pub(crate) printer: u64,
+}
+
+impl Fails {
+    /// No run makes so many calls.
+    pub(crate) const NEVER: Fails = Fails {
+        folder: u64::MAX,
+        script: u64::MAX,
+        printer: u64::MAX,
+    };
+}
+
+/// The calls that three numbers say.
+pub(crate) fn fails_of(calls: &str) -> Option<Fails> {
+    let (folder, others) = calls.split_once(' ')?;
+    let (script, printer) = others.split_once(' ')?;
+    Some(Fails {
+        folder: folder.parse::<u64>().ok()?,
+        script: script.parse::<u64>().ok()?,
+        printer: printer.parse::<u64>().ok()?,
+    })
 }
 
 /// Adds bytes in lines, each as it is or, where it has no line feed or isn't plain text, spelled.
