@@ -1,16 +1,12 @@
-//! Tests of runs with calls that fail and at each limit, and of what no script shows of workbooks and answers. What a script shows
-//! stands in `answers`.
+//! Tests of workbooks and commands, of what no script shows. What a script shows stands in `answers`,
+//! with calls that fail and at each limit too.
 #![tactic(auto)]
 
 #[cfg(test)]
-mod fault_tests;
+mod books;
 #[cfg(test)]
-mod file_limit_tests;
+mod several_tests;
 #[cfg(test)]
-mod long_texts;
-#[cfg(test)]
-mod runs;
-#[cfg(test)]
-mod sheet_limit_tests;
+mod texts;
 #[cfg(test)]
 mod workbook_tests;

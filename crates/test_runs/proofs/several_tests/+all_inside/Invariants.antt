@@ -1,5 +1,5 @@
 use Rattle.std.proofs.Common.{length}
-use Rattle.test_runs.proofs.workbook_tests.+all_inside.Given as goal
+use Rattle.test_runs.proofs.several_tests.+all_inside.Given as goal
 
 -- fewer are left
 abbrev pub decreases-all_inside : goal.decreases-all_inside
