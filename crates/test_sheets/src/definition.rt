@@ -1,6 +1,7 @@
 // Values of cells as they are defined. What is expected follows from the rules by hand.
 
 use crate::books::open_workbook;
+use crate::texts::check;
 use cell_refs::{Cell, SheetId};
 use dep_table::Deps;
 use memory::Memory;
@@ -11,16 +12,14 @@ use std::test::Fail;
 use workbook::Workbook;
 
 // The narrow value that the definition gives to the first cell, if it has one.
-fn value_by_definition(alloc: Global, workbook: &Workbook) -> Result<Option<Value>, Fail> {
+fn value_by_definition(alloc: Global, workbook: &Workbook) -> Result<Option<Value>, Memory> {
     let cell = Cell {
         sheet: SheetId(0),
         row: 0,
         col: 0,
     };
-    let Ok(deps) = Deps::open(alloc, workbook) else {
-        return Err(Fail::new("memory ran out"));
-    };
-    Ok(known_in_rounds(alloc, workbook, &deps, cell)?)
+    let deps = Deps::open(alloc, workbook)?;
+    known_in_rounds(alloc, workbook, &deps, cell)
 }
 
 // Appends a value.
@@ -34,9 +33,9 @@ fn show_value(value: &Value, to: &mut String) -> Result<(), Memory> {
 }
 
 // Appends a value, or that there is none.
-fn show_found(value: Option<Value>, to: &mut String) -> Result<(), Memory> {
+fn show_found(value: &Option<Value>, to: &mut String) -> Result<(), Memory> {
     match value {
-        Some(value) => show_value(&value, to),
+        Some(value) => show_value(value, to),
         None => Ok(to.push_str("none")?),
     }
 }
@@ -60,13 +59,19 @@ const SHEETS: &[(&str, &str)] = &[
     ("=B1+C1,=D1*2,5,=C1+1\n", "17"),
 ];
 
+// The value that the definition gives to the first cell of a sheet, as a text.
+fn text_by_definition(alloc: Global, sheet: &str) -> Result<String, Fail> {
+    let workbook = open_workbook(alloc, sheet, "", "")?;
+    let value = value_by_definition(alloc, &workbook)?;
+    let mut text = String::new(alloc);
+    show_found(&value, &mut text)?;
+    Ok(text)
+}
+
 #[test]
 fn known_in_rounds_is_the_value_by_the_definition(rt: HostRuntime) -> Result<(), Fail> {
     for (sheet, want) in SHEETS {
-        let workbook = open_workbook(rt.alloc(), sheet.as_bytes(), b"", b"")?;
-        let mut found = String::new(rt.alloc());
-        show_found(value_by_definition(rt.alloc(), &workbook)?, &mut found)?;
-        assert_eq!(rt; found.as_str(), *want, "{sheet}");
+        check(&text_by_definition(rt.alloc(), sheet)?, want, sheet)?;
     }
     Ok(())
 }

@@ -1,5 +1,4 @@
-//! Tests of values, formulas and recalculation that a program can't show, and of what is saved. They stand here so that no crate below
-//! is proved twice.
+//! Tests of values, formulas and recalculation that a program can't show. They stand here so that no crate below is proved twice.
 #![tactic(auto)]
 
 #[cfg(test)]
@@ -13,8 +12,6 @@ mod grids;
 #[cfg(test)]
 mod looks;
 #[cfg(test)]
-mod odd_sheets;
-#[cfg(test)]
-mod saved_files;
+mod texts;
 #[cfg(test)]
 mod tours;

@@ -4,6 +4,7 @@ ghost use Rattle.std.specs.Prelude.{◌≡◌};
 ghost use Rattle.test_sheets.specs.ButB2.{but_b2};
 
 use crate::cells::cells_text;
+use crate::texts::check;
 use cell_refs::{Area, Cell, SheetId, SheetNames};
 use evaluation::{Cells, Part, evaluate};
 use formula_parser::parse;
@@ -57,87 +58,93 @@ fn part(alloc: Global, text: &str) -> Result<Part, Fail> {
     Ok(evaluate(alloc, &ButB2, &expr)?)
 }
 
-// A formula, whether it has a value, and the cells at which it looks.
-const FORMULAS: &[(&str, bool, &str)] = &[
-    ("=A1+B1", true, "A1 B1"),
-    ("=A1+B2", false, "A1 B2"),
-    ("=B2", false, "B2"),
-    ("=C3%", true, "C3"),
-    ("=-A1", true, "A1"),
-    ("=A1&\"x\"", true, "A1"),
-    ("=A1:A3", true, "A1 A2 A3"),
-    ("=-A1:A3", true, "A1 A2 A3"),
-    ("=10^30*10^30", false, ""),
-    ("=10^30*10^30+A1", false, "A1"),
-    ("=what", true, ""),
-    ("=NOSUCH(A1)", true, ""),
-    ("=#N/A", true, ""),
-    ("={5;2|3;4}", true, ""),
-    ("=IF(A1=11;C1;B2)", true, "A1 C1"),
-    ("=IF(A1=12;B2;C1)", true, "A1 C1"),
-    ("=IF(A1;B2;C1)", false, "A1 B2"),
-    ("=IF(B2;A1;C1)", false, "B2"),
-    ("=IF(A1/0;A2;B2)", true, "A1"),
-    ("=IF(A1=12;B2)", true, "A1"),
-    ("=IF(A1=12;B2;)", true, "A1"),
-    ("=IFERROR(A1;B2)", true, "A1"),
-    ("=IFERROR(A1/0;C1)", true, "A1 C1"),
-    ("=IFERROR(B2;1)", false, "B2"),
-    ("=CHOOSE(2;B2;C1;B2)", true, "C1"),
-    ("=CHOOSE(1;B2;C1)", false, "B2"),
-    ("=CHOOSE(A1-10;C1;B2)", true, "A1 C1"),
-    ("=CHOOSE(3;1;2)", true, ""),
-    ("=INDEX(A1:C3;3;2)", true, "B3"),
-    ("=INDEX(A1:C3;2;2)", false, "B2"),
-    ("=SUM(INDEX(A1:C3;0;1))", true, "A1 A2 A3"),
-    ("=INDEX(A1:C3;4;1)", true, ""),
-    ("=INDEX(A1:C3;A1-10;3)", true, "A1 C1"),
-    ("=VLOOKUP(31;A1:C3;2;FALSE())", true, "A1 A2 A3 B3"),
-    ("=VLOOKUP(21;A1:C3;2;FALSE())", false, "A1 A2 A3 B2"),
-    ("=VLOOKUP(22;A1:C3;2;FALSE())", true, "A1 A2 A3"),
-    ("=HLOOKUP(13;A1:C3;3;FALSE())", true, "A1 B1 C1 C3"),
-    ("=HLOOKUP(12;A1:C3;2;FALSE())", false, "A1 B1 C1 B2"),
-    ("=SUMIF(A1:A3;\">21\";B1:B3)", true, "A1 A2 A3 B3"),
-    ("=SUMIF(A1:A3;\"<30\";B1:B3)", false, "A1 A2 A3 B1 B2"),
-    ("=SUMIF(C1:C3;\">20\")", true, "C1 C2 C3"),
-    ("=SUM(A1:B1~A3)", true, "A1 B1 A3"),
-    ("=SUM(A1:B2)", false, "A1 B1 A2 B2"),
-    ("=ROWS(A1:C3)", true, ""),
-    ("=COLUMNS(A1:C2)", true, ""),
-    ("=ROWS(+A1:C3)", true, ""),
-    ("=ROWS(-A1:A3)", true, "A1 A2 A3"),
-    ("=ROWS(A1:C1~A3:C3)", true, ""),
-    ("=COLUMNS(A1:C1~A3:C3)", true, ""),
-    ("=IF(A1-11;B1;C1)", true, "A1 C1"),
-    ("=INDEX(A1:C3;A1-8;B1-12)", true, "A1 B1 A3 B3 C3"),
-    ("=VLOOKUP(A3;A1:C3;C1-10)", true, "A3 C1 A1 A2 A3 C3"),
-    ("=HLOOKUP(C1;A1:C3;A1-8;FALSE())", true, "C1 A1 A1 B1 C1 C3"),
-    ("=SUMIF({5;7|7;5};A1-4;A3:B4)", true, "A1 B3 A4"),
-    ("=SUM(A1;B1)", true, "A1 B1"),
+// A formula, the cells at which it looks, and whether it has a value.
+const FORMULAS: &[(&str, &str)] = &[
+    ("=A1+B1", "A1 B1; known"),
+    ("=A1+B2", "A1 B2; unknown"),
+    ("=B2", "B2; unknown"),
+    ("=C3%", "C3; known"),
+    ("=-A1", "A1; known"),
+    ("=A1&\"x\"", "A1; known"),
+    ("=A1:A3", "A1 A2 A3; known"),
+    ("=-A1:A3", "A1 A2 A3; known"),
+    ("=10^30*10^30", "; unknown"),
+    ("=10^30*10^30+A1", "A1; unknown"),
+    ("=what", "; known"),
+    ("=NOSUCH(A1)", "; known"),
+    ("=#N/A", "; known"),
+    ("={5;2|3;4}", "; known"),
+    ("=IF(A1=11;C1;B2)", "A1 C1; known"),
+    ("=IF(A1=12;B2;C1)", "A1 C1; known"),
+    ("=IF(A1;B2;C1)", "A1 B2; unknown"),
+    ("=IF(B2;A1;C1)", "B2; unknown"),
+    ("=IF(A1/0;A2;B2)", "A1; known"),
+    ("=IF(A1=12;B2)", "A1; known"),
+    ("=IF(A1=12;B2;)", "A1; known"),
+    ("=IFERROR(A1;B2)", "A1; known"),
+    ("=IFERROR(A1/0;C1)", "A1 C1; known"),
+    ("=IFERROR(B2;1)", "B2; unknown"),
+    ("=CHOOSE(2;B2;C1;B2)", "C1; known"),
+    ("=CHOOSE(1;B2;C1)", "B2; unknown"),
+    ("=CHOOSE(A1-10;C1;B2)", "A1 C1; known"),
+    ("=CHOOSE(3;1;2)", "; known"),
+    ("=INDEX(A1:C3;3;2)", "B3; known"),
+    ("=INDEX(A1:C3;2;2)", "B2; unknown"),
+    ("=SUM(INDEX(A1:C3;0;1))", "A1 A2 A3; known"),
+    ("=INDEX(A1:C3;4;1)", "; known"),
+    ("=INDEX(A1:C3;A1-10;3)", "A1 C1; known"),
+    ("=VLOOKUP(31;A1:C3;2;FALSE())", "A1 A2 A3 B3; known"),
+    ("=VLOOKUP(21;A1:C3;2;FALSE())", "A1 A2 A3 B2; unknown"),
+    ("=VLOOKUP(22;A1:C3;2;FALSE())", "A1 A2 A3; known"),
+    ("=HLOOKUP(13;A1:C3;3;FALSE())", "A1 B1 C1 C3; known"),
+    ("=HLOOKUP(12;A1:C3;2;FALSE())", "A1 B1 C1 B2; unknown"),
+    ("=SUMIF(A1:A3;\">21\";B1:B3)", "A1 A2 A3 B3; known"),
+    ("=SUMIF(A1:A3;\"<30\";B1:B3)", "A1 A2 A3 B1 B2; unknown"),
+    ("=SUMIF(C1:C3;\">20\")", "C1 C2 C3; known"),
+    ("=SUM(A1:B1~A3)", "A1 B1 A3; known"),
+    ("=SUM(A1:B2)", "A1 B1 A2 B2; unknown"),
+    ("=ROWS(A1:C3)", "; known"),
+    ("=COLUMNS(A1:C2)", "; known"),
+    ("=ROWS(+A1:C3)", "; known"),
+    ("=ROWS(-A1:A3)", "A1 A2 A3; known"),
+    ("=ROWS(A1:C1~A3:C3)", "; known"),
+    ("=COLUMNS(A1:C1~A3:C3)", "; known"),
+    ("=IF(A1-11;B1;C1)", "A1 C1; known"),
+    ("=INDEX(A1:C3;A1-8;B1-12)", "A1 B1 A3 B3 C3; known"),
+    ("=VLOOKUP(A3;A1:C3;C1-10)", "A3 C1 A1 A2 A3 C3; known"),
+    (
+        "=HLOOKUP(C1;A1:C3;A1-8;FALSE())",
+        "C1 A1 A1 B1 C1 C3; known",
+    ),
+    ("=SUMIF({5;7|7;5};A1-4;A3:B4)", "A1 B3 A4; known"),
+    ("=SUM(A1;B1)", "A1 B1; known"),
 ];
 
-// Whether the formula has a value, and the cells at which it looks.
-fn look(alloc: Global, text: &str) -> Result<(bool, String), Fail> {
-    let part = part(alloc, text)?;
+// The cells at which a part looks, and behind them whether it has a value.
+fn look(alloc: Global, part: &Part) -> Result<String, Memory> {
+    let cells = part.looks().cells(alloc)?;
+    let mut text = cells_text(alloc, &cells)?;
     let is_known = part.to_value(alloc)?.is_some();
-    Ok((is_known, cells_text(alloc, &part.looks().cells(alloc)?)?))
+    text.push_str(if is_known { "; known" } else { "; unknown" })?;
+    Ok(text)
 }
 
 #[test]
 fn evaluate_looks_at_these_cells(rt: HostRuntime) -> Result<(), Fail> {
-    for (text, is_known, cells) in FORMULAS {
-        let found = look(rt.alloc(), text)?;
-        assert_eq!(rt; (found.0, found.1.as_str()), (*is_known, *cells), "{text}");
+    for (text, want) in FORMULAS {
+        let part = part(rt.alloc(), text)?;
+        check(&look(rt.alloc(), &part)?, want, text)?;
     }
     Ok(())
 }
 
 #[test]
-fn the_last_place_of_the_largest_grid(rt: HostRuntime) -> Result<(), Fail> {
-    let last = u32::MAX - 1;
+fn the_last_place_of_the_largest_grid() -> Result<(), Fail> {
     let row = Arg::One(Value::Number(Frac::from_whole(i64::from(u32::MAX))));
     let column = Arg::One(Value::Number(Frac::read("4294967295.5")?));
-    let found = index_at(u32::MAX, u32::MAX, &[row, column]);
-    assert_eq!(rt; found, Pick::Part(last, last, last, last));
+    let last = u32::MAX - 1;
+    if index_at(u32::MAX, u32::MAX, &[row, column]) != Pick::Part(last, last, last, last) {
+        return Err(Fail::new("another place"));
+    }
     Ok(())
 }
