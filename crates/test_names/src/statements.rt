@@ -1,11 +1,18 @@
 // Statements and faults of names, each made by the rules by hand.
-use crate::texts::{tell_fault, tell_statement};
+
+use crate::texts::{check, tell_fault, tell_statement};
 use crate::workbooks::open_workbook;
 use cell_refs::SheetId;
-use solver_names::{side_trees, statement};
+use formula_ast::Expr;
+use memory::Memory;
+use solver_names::{NamesFault, Statement, side_trees, statement};
 use std::alloc::Global;
 use std::fmt::Write;
 use std::test::Fail;
+use workbook::Workbook;
+
+// What the names state on the first sheet, or what is wrong with them.
+type Stated = Result<Statement, NamesFault>;
 
 // Names, and what they state on the first sheet.
 const CASES: &[(&str, &str)] = &[
@@ -207,80 +214,96 @@ const CASES: &[(&str, &str)] = &[
     ),
 ];
 
-// Appends what the names state on the first sheet, or what is wrong with them.
-fn tell_stated(alloc: Global, names: &str, to: &mut String) -> Result<(), Fail> {
-    let book = open_workbook(alloc, names.as_bytes())?;
+fn stated(alloc: Global, book: &Workbook) -> Result<Stated, Fail> {
     if book.sheets().len() == 0 {
         return Err(Fail::new("there is no sheet"));
     }
-    match &statement(alloc, &book, SheetId(0)) {
-        Ok(stated) => tell_statement(stated, to)?,
-        Err(fault) => tell_fault(fault, to)?,
+    Ok(statement(alloc, book, SheetId(0)))
+}
+
+// The same as a text.
+fn stated_text(alloc: Global, names: &str) -> Result<String, Fail> {
+    let book = open_workbook(alloc, names.as_bytes())?;
+    let stated = stated(alloc, &book)?;
+    let mut text = String::new(alloc);
+    match &stated {
+        Ok(stated) => tell_statement(stated, &mut text)?,
+        Err(fault) => tell_fault(fault, &mut text)?,
     }
-    Ok(())
+    Ok(text)
 }
 
 #[test]
 fn statement_tells_what_names_state(rt: HostRuntime) -> Result<(), Fail> {
     for (names, want) in CASES {
-        let mut text = String::new(rt.alloc());
-        tell_stated(rt.alloc(), names, &mut text)?;
-        assert_eq!(rt; text.as_str(), *want, "{names}");
+        check(&stated_text(rt.alloc(), names)?, want, names)?;
     }
     Ok(())
 }
 
 // Names, how many cells are to be decided, how many rows there are, and the right sides that are expressions: their constraints, and
 // where they start and end in the names' texts.
-const SIDES: &[(&str, usize, usize, &str)] = &[
-    ("plan,solver_adj,A1\n", 1, 0, ""),
+const SIDES: &[(&str, &str)] = &[
+    ("plan,solver_adj,A1\n", "1 0; "),
     (
         "plan,solver_adj,A1\nplan,solver_num,3\nplan,solver_lhs1,A1\nplan,solver_rel1,1\nplan,solver_rhs1,B1+10\nplan,solver_lhs2,A1\nplan,solver_rel2,1\nplan,solver_rhs2,B1\nplan,solver_lhs3,A1\nplan,solver_rel3,3\nplan,solver_rhs3,=B1+10\n",
-        1,
-        3,
-        "1: 0 to 5; 3: 1 to 6; ",
+        "1 3; 1: 0 to 5; 3: 1 to 6; ",
     ),
     (
         "plan,solver_adj,A1\nplan,solver_num,2\nplan,solver_lhs1,A1\nplan,solver_rel1,4\nplan,solver_rhs1,7\nplan,solver_lhs2,A1\nplan,solver_rel2,2\nplan,solver_rhs2,\"SUM(B1,7)\"\n",
-        1,
-        1,
-        "2: 0 to 9; ",
+        "1 1; 2: 0 to 9; ",
     ),
     // As many as there may be.
-    ("plan,solver_adj,\"A1:IV1,A1\"\n", 256, 0, ""),
+    ("plan,solver_adj,\"A1:IV1,A1\"\n", "256 0; "),
     (
         "plan,solver_adj,A1\nplan,solver_num,2\nplan,solver_lhs1,A1:IV1\nplan,solver_rel1,1\nplan,solver_rhs1,1\nplan,solver_lhs2,A1\nplan,solver_rel2,4\n",
-        1,
-        256,
-        "1: 0 to 1; ",
+        "1 256; 1: 0 to 1; ",
     ),
 ];
 
-// How many cells are to be decided and how many rows there are. Appends the right sides that are expressions.
-fn count(alloc: Global, names: &str, to: &mut String) -> Result<(usize, usize), Fail> {
-    let book = open_workbook(alloc, names.as_bytes())?;
+// How many cells are to be decided, how many rows there are, and the right sides that are expressions.
+#[derive(Drop)]
+struct Sides {
+    cells: usize,
+    rows: usize,
+    trees: Vec<(u16, Expr)>,
+}
+
+fn sides(alloc: Global, book: &Workbook) -> Result<Sides, Fail> {
     if book.sheets().len() == 0 {
         return Err(Fail::new("there is no sheet"));
     }
-    let Ok(stated) = statement(alloc, &book, SheetId(0)) else {
+    let Ok(stated) = statement(alloc, book, SheetId(0)) else {
         return Err(Fail::new("there is a fault"));
     };
-    for (k, tree) in &side_trees(alloc, &book, &stated)? {
+    Ok(Sides {
+        cells: stated.adj.cells().len(),
+        rows: stated.rows.len(),
+        trees: side_trees(alloc, book, &stated)?,
+    })
+}
+
+fn tell_sides(sides: &Sides, to: &mut String) -> Result<(), Memory> {
+    write!(to, "{} {}; ", sides.cells, sides.rows)?;
+    for (k, tree) in &sides.trees {
         write!(to, "{}: {} to {}; ", *k, tree.span.start, tree.span.end)?;
     }
-    Ok((stated.adj.cells().len(), stated.rows.len()))
+    Ok(())
+}
+
+// The same as a text.
+fn sides_text(alloc: Global, names: &str) -> Result<String, Fail> {
+    let book = open_workbook(alloc, names.as_bytes())?;
+    let sides = sides(alloc, &book)?;
+    let mut text = String::new(alloc);
+    tell_sides(&sides, &mut text)?;
+    Ok(text)
 }
 
 #[test]
 fn side_trees_are_the_right_sides_that_are_expressions(rt: HostRuntime) -> Result<(), Fail> {
-    for (names, cells, rows, want) in SIDES {
-        let mut text = String::new(rt.alloc());
-        let counts = count(rt.alloc(), names, &mut text)?;
-        assert_eq!(rt;
-            (counts.0, counts.1, text.as_str()),
-            (*cells, *rows, *want),
-            "{names}"
-        );
+    for (names, want) in SIDES {
+        check(&sides_text(rt.alloc(), names)?, want, names)?;
     }
     Ok(())
 }

@@ -1,10 +1,20 @@
 // Statements and faults of names as texts. A cell is told as its sheet, row and column, from 0.
+
 use cell_refs::Cell;
 use lin_model::{Goal, Relation};
 use memory::Memory;
 use solver_names::{NamesFault, RowOf, Statement};
 use std::fmt::Write;
+use std::test::Fail;
 use workbook::Place;
+
+/// Fails where a text isn't the one that is wanted.
+pub(crate) fn check(found: &str, want: &str, shows: &str) -> Result<(), Fail> {
+    if found != want {
+        return Err(Fail::new(format_args!("{shows}: {found} and not {want}")));
+    }
+    Ok(())
+}
 
 fn tell_cell(cell: Cell, to: &mut String) -> Result<(), Memory> {
     Ok(write!(to, " {}.{}.{}", cell.sheet.0, cell.row, cell.col)?)
