@@ -1,5 +1,8 @@
 // What the words of the command line ask for.
+
+use crate::texts::check;
 use command_line::{Asked, Job, Pick, request};
+use memory::Memory;
 use std::alloc::Global;
 use std::fmt::Write;
 use std::test::Fail;
@@ -47,7 +50,7 @@ const CASES: &[(&str, &str)] = &[
     ("-h", ""),
 ];
 
-fn words_of(alloc: Global, line: &str) -> Result<Vec<String>, Fail> {
+fn words_of(alloc: Global, line: &str) -> Result<Vec<String>, Memory> {
     let mut words = Vec::new(alloc);
     for word in line.split(' ') {
         if !word.is_empty() {
@@ -65,27 +68,36 @@ fn name_of(pick: Pick) -> &'static str {
     }
 }
 
-fn tell_job(job: &Job, to: &mut String) -> Result<(), Fail> {
-    to.push_str(job.named.names.as_str())?;
-    write!(to, " {} {}", job.budget, name_of(job.pick))?;
+fn tell_job(job: &Job, to: &mut String) -> Result<(), Memory> {
+    let (names, pick) = (job.named.names.as_str(), name_of(job.pick));
+    write!(to, "{names} {} {pick}", job.budget)?;
     for sheet in &job.named.sheets {
-        to.push_str(" ")?;
-        to.push_str(sheet.as_str())?;
+        write!(to, " {}", sheet.as_str())?;
     }
     Ok(())
 }
 
+fn tell_asked(asked: &Option<Asked>, to: &mut String) -> Result<(), Memory> {
+    match asked {
+        Some(Asked::Script(job)) => tell_job(job, to),
+        Some(Asked::MadeUp(size)) => Ok(write!(to, "gen {}", *size)?),
+        None => Ok(()),
+    }
+}
+
+// What the words of a line ask for, as a text.
+fn asked_text(alloc: Global, line: &str) -> Result<String, Fail> {
+    let words = words_of(alloc, line)?;
+    let asked = request(alloc, &words)?;
+    let mut text = String::new(alloc);
+    tell_asked(&asked, &mut text)?;
+    Ok(text)
+}
+
 #[test]
 fn what_words_ask_for(rt: HostRuntime) -> Result<(), Fail> {
-    let alloc = rt.alloc();
     for (line, want) in CASES {
-        let mut told = String::new(alloc);
-        match &request(alloc, &words_of(alloc, line)?)? {
-            Some(Asked::Script(job)) => tell_job(job, &mut told)?,
-            Some(Asked::MadeUp(size)) => write!(told, "gen {}", *size)?,
-            None => (),
-        }
-        assert!(rt; told.as_str() == *want, "{}: {}", line, told.as_str());
+        check(&asked_text(rt.alloc(), line)?, want, line)?;
     }
     Ok(())
 }

@@ -5,3 +5,5 @@
 mod command_words;
 #[cfg(test)]
 mod made_up_workbooks;
+#[cfg(test)]
+mod texts;
