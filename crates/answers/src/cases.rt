@@ -119,13 +119,14 @@ impl Cases {
     }
 
     fn set_fails(&mut self, calls: &str) -> bool {
-        match (&mut self.case, fails_of(calls)) {
-            (Some(case), Some(fails)) => {
-                case.fails = fails;
-                true
-            }
-            _ => false,
-        }
+        let Some(case) = &mut self.case else {
+            return false;
+        };
+        let Some(fails) = fails_of(calls) else {
+            return false;
+        };
+        case.fails = fails;
+        true
     }
 
     // Adds the shared files of this name.

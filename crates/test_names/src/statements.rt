@@ -12,7 +12,7 @@ use std::test::Fail;
 use workbook::Workbook;
 
 // What the names state on the first sheet, or what is wrong with them.
-type Stated = Result<Statement, NamesFault>;
+type Answer = Result<Statement, NamesFault>;
 
 // Names, and what they state on the first sheet.
 const CASES: &[(&str, &str)] = &[
@@ -214,7 +214,7 @@ const CASES: &[(&str, &str)] = &[
     ),
 ];
 
-fn stated(alloc: Global, book: &Workbook) -> Result<Stated, Fail> {
+fn answer_of(alloc: Global, book: &Workbook) -> Result<Answer, Fail> {
     if book.sheets().len() == 0 {
         return Err(Fail::new("there is no sheet"));
     }
@@ -224,9 +224,9 @@ fn stated(alloc: Global, book: &Workbook) -> Result<Stated, Fail> {
 // The same as a text.
 fn stated_text(alloc: Global, names: &str) -> Result<String, Fail> {
     let book = open_workbook(alloc, names.as_bytes())?;
-    let stated = stated(alloc, &book)?;
+    let answer = answer_of(alloc, &book)?;
     let mut text = String::new(alloc);
-    match &stated {
+    match &answer {
         Ok(stated) => tell_statement(stated, &mut text)?,
         Err(fault) => tell_fault(fault, &mut text)?,
     }
@@ -263,27 +263,27 @@ const SIDES: &[(&str, &str)] = &[
 
 // How many cells are to be decided, how many rows there are, and the right sides that are expressions.
 #[derive(Drop)]
-struct Sides {
+struct Counted {
     cells: usize,
     rows: usize,
     trees: Vec<(u16, Expr)>,
 }
 
-fn sides(alloc: Global, book: &Workbook) -> Result<Sides, Fail> {
+fn sides_of(alloc: Global, book: &Workbook) -> Result<Counted, Fail> {
     if book.sheets().len() == 0 {
         return Err(Fail::new("there is no sheet"));
     }
     let Ok(stated) = statement(alloc, book, SheetId(0)) else {
         return Err(Fail::new("there is a fault"));
     };
-    Ok(Sides {
+    Ok(Counted {
         cells: stated.adj.cells().len(),
         rows: stated.rows.len(),
         trees: side_trees(alloc, book, &stated)?,
     })
 }
 
-fn tell_sides(sides: &Sides, to: &mut String) -> Result<(), Memory> {
+fn tell_sides(sides: &Counted, to: &mut String) -> Result<(), Memory> {
     write!(to, "{} {}; ", sides.cells, sides.rows)?;
     for (k, tree) in &sides.trees {
         write!(to, "{}: {} to {}; ", *k, tree.span.start, tree.span.end)?;
@@ -294,7 +294,7 @@ fn tell_sides(sides: &Sides, to: &mut String) -> Result<(), Memory> {
 // The same as a text.
 fn sides_text(alloc: Global, names: &str) -> Result<String, Fail> {
     let book = open_workbook(alloc, names.as_bytes())?;
-    let sides = sides(alloc, &book)?;
+    let sides = sides_of(alloc, &book)?;
     let mut text = String::new(alloc);
     tell_sides(&sides, &mut text)?;
     Ok(text)
