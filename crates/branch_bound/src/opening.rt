@@ -16,7 +16,6 @@ use lin_model::LinModel;
 use linear_programs::Standard;
 use memory::Memory;
 use node_pick::{NodeEvent, NodeInfo, Picker};
-use search_paths::box_along;
 use std::alloc::Global;
 use tableau::start;
 
@@ -35,17 +34,19 @@ fn copy_node(info: &NodeInfo) -> NodeInfo
 fn program_of(
     alloc: Global,
     model: &LinModel,
-    frontier: &Frontier,
+    frontier: &mut Frontier,
     info: &NodeInfo,
 ) -> Result<Standard, Memory>
-    requires { info.now.number < length frontier.now.paths.paths }
+    requires { info.now.number < length frontier.old.paths.paths }
     ensures program { IfOk result (λ p. p ≡ trails.node_program model.now
-        (option_map way_of frontier.now.way) (waiting_of frontier.now.paths.paths info.now)) }
+        (option_map way_of frontier.old.way) (waiting_of frontier.old.paths.paths info.now)) }
     ensures columns { IfOk result (λ p. length p.columns ≡ length model.now.whole) }
+    ensures same { frontier.new ≡ frontier.old }
 {
     let _whole = model.whole();
-    let path = frontier.paths.path(alloc, info.number as usize)?;
-    let part = box_along(alloc, model.bounds(), &path)?;
+    let part = frontier
+        .paths
+        .box_of(alloc, model.bounds(), info.number as usize)?;
     model.standard(alloc, &part, frontier.way.is_some())
 }
 

@@ -34,10 +34,11 @@ grown ps (o ∷ os) = grown (ps ++ path_from ps o ∷ []) os
 abbrev pub table_of : Inside → Table
 table_of t = record { paths = grown [] t.origins.items; room = vec_capacity t.origins }
 
--- a part comes after its parent
+-- a part comes after its parent, and a root has the first node in the place of a parent
 pub record IsPlaced (i : ℕ) (o : Origin) : Type 0 where
   pub narrow : IsNarrowOrigin o
   pub after : (part : Part) → held_part o ≡ Some part → o.parent < i
+  pub root : held_part o ≡ None → o.parent ≡ 0
 
 -- each node does
 abbrev pub AreBefore : List Origin → Type 0

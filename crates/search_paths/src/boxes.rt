@@ -1,8 +1,9 @@
-ghost use Rattle.std.specs.Prelude.{◌≡◌, IfOk};
+ghost use Rattle.std.specs.Prelude.{◌≡◌, ◌↔◌, IfOk, IsTrue, slice_set};
 ghost use Rattle.fractions.specs.Whole.{whole_ℚ};
 ghost use Rattle.frac128.specs.Narrow.{IsNarrowWhole};
-ghost use Rattle.linear_models.specs.Box.{greater, lesser};
-ghost use Rattle.searches.specs.Trees.{box_along, part_of};
+ghost use Rattle.linear_models.specs.Box.{bound_at, greater, lesser};
+ghost use Rattle.searches.specs.Trees.{part_of};
+ghost use Rattle.search_paths.specs.Walks.{bound_in, with_bound};
 
 use crate::part::Part;
 use frac128::Frac;
@@ -47,14 +48,51 @@ fn greater(bound: Option<Frac>, other: Frac) -> Frac
     }
 }
 
-fn copy_bounds(alloc: Global, bounds: &[Option<Frac>]) -> Result<Vec<Option<Frac>>, Memory>
+pub(crate) fn copy_bounds(
+    alloc: Global,
+    bounds: &[Option<Frac>],
+) -> Result<Vec<Option<Frac>>, Memory>
     ensures { IfOk result (λ v. v.items ≡ bounds.now) }
 {
     Ok(Vec::from_slice(alloc, bounds)?)
 }
 
-// The part of the box: a decision past the last one has no bounds.
-fn narrow(part: &Part, least: &mut [Option<Frac>], greatest: &mut [Option<Frac>])
+// A decision's bound, none past the last one.
+fn bound_at(bounds: &[Option<Frac>], decision: usize) -> Option<Frac>
+    ensures { result ≡ bound_at bounds.now decision }
+{
+    if decision < bounds.len() {
+        return bounds[decision];
+    }
+    None
+}
+
+// Sets a decision's bound. One past the last has none.
+fn set_bound(bounds: &mut [Option<Frac>], decision: usize, bound: Option<Frac>)
+    ensures { bounds.new ≡ slice_set bounds.old decision bound }
+{
+    if decision < bounds.len() {
+        bounds[decision] = bound;
+    }
+}
+
+/// The bound in whose place the part puts another.
+pub(crate) fn bound_in(
+    part: &Part,
+    least: &[Option<Frac>],
+    greatest: &[Option<Frac>],
+) -> Option<Frac>
+    ensures { result ≡ bound_in (record { least = least.now; greatest = greatest.now }) part.now }
+{
+    let (decision, is_upper, _) = part.step();
+    if is_upper {
+        return bound_at(least, decision as usize);
+    }
+    bound_at(greatest, decision as usize)
+}
+
+/// The part of the box: a decision past the last one has no bounds.
+pub(crate) fn narrow(part: &Part, least: &mut [Option<Frac>], greatest: &mut [Option<Frac>])
     ensures { record { least = least.new; greatest = greatest.new }
         ≡ part_of (record { least = least.old; greatest = greatest.old }) part.now }
 {
@@ -72,14 +110,53 @@ fn narrow(part: &Part, least: &mut [Option<Frac>], greatest: &mut [Option<Frac>]
     }
 }
 
-/// The part of the box to which the path leads.
-pub fn box_along(alloc: Global, bounds: &BoundBox, path: &[Part]) -> Result<BoundBox, Memory>
-    ensures { IfOk result (λ b. b ≡ box_along bounds.now path.now) }
+/// The box with another bound in the place of the part's.
+pub(crate) fn restore(
+    part: &Part,
+    least: &mut [Option<Frac>],
+    greatest: &mut [Option<Frac>],
+    bound: Option<Frac>,
+)
+    ensures { record { least = least.new; greatest = greatest.new }
+        ≡ with_bound (record { least = least.old; greatest = greatest.old }) part.now bound }
 {
-    let mut least = copy_bounds(alloc, bounds.least())?;
-    let mut greatest = copy_bounds(alloc, bounds.greatest())?;
-    for part in path {
-        narrow(part, &mut least, &mut greatest);
+    let (decision, is_upper, _) = part.step();
+    if is_upper {
+        set_bound(least, decision as usize, bound);
+        return;
     }
-    Ok(BoundBox::new(least, greatest))
+    set_bound(greatest, decision as usize, bound);
+}
+
+fn is_same_bound(one: Option<Frac>, other: Option<Frac>) -> bool
+    ensures { IsTrue result ↔ (one ≡ other) }
+{
+    match one {
+        None => other.is_none(),
+        Some(number) => match other {
+            None => false,
+            Some(another) => number == another,
+        },
+    }
+}
+
+fn are_same_bounds(one: &[Option<Frac>], other: &[Option<Frac>]) -> bool
+    ensures { IsTrue result ↔ (one.now ≡ other.now) }
+{
+    if one.len() != other.len() {
+        return false;
+    }
+    for (place, bound) in one.iter().enumerate() {
+        if !is_same_bound(*bound, other[place]) {
+            return false;
+        }
+    }
+    true
+}
+
+/// Whether the boxes have the same bounds.
+pub(crate) fn is_same_box(one: &BoundBox, other: &BoundBox) -> bool
+    ensures { IsTrue result ↔ (one.now ≡ other.now) }
+{
+    are_same_bounds(one.least(), other.least()) && are_same_bounds(one.greatest(), other.greatest())
 }

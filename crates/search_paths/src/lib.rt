@@ -1,11 +1,11 @@
-//! The paths of the nodes of a search, each held as its parent and its last part, and the boxes to which they lead.
+//! The paths of the nodes of a search, each held as its parent and its last part, and a box that is led from node to node.
 #![tactic(auto)]
 
 mod boxes;
 mod origin;
 mod part;
 mod paths;
+mod walk;
 
-pub use boxes::box_along;
 pub use part::Part;
 pub use paths::Paths;

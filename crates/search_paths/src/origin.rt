@@ -11,7 +11,7 @@ pub(crate) enum Side {
     Upper,
 }
 
-/// Where a node comes from: of a part the parent, the decision and the floor. It takes 32 bytes.
+/// Where a node comes from: of a part the parent, the decision and the floor; in the place of a root's parent stands 0. It takes 32 bytes.
 #[derive(Clone, Copy)]
 pub(crate) struct Origin {
     pub parent: usize,

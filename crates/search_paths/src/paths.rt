@@ -1,26 +1,32 @@
 ghost use Rattle.std.specs.Prelude.{◌≡◌, ◌<◌, ◌≤◌, ◌+◌, ◌++◌, ◌∷◌, [], length, IfOk, OnErr, OnOk, slice_index_or};
+ghost use Rattle.searches.specs.Trees.{box_along};
 ghost use Rattle.search_paths.specs.Tables.{HasRoom, path_at};
 
 use crate::origin::{Origin, Side, part_of};
 use crate::part::Part;
+use crate::walk::{Walk, begin, copy_box, lead, nowhere};
+use lin_model::BoundBox;
 use memory::Memory;
 use std::alloc::Global;
 use std::marker::Model;
 
 /// The paths of nodes, numbered from 0. A node is held as its parent and the part that it is of it, so that each takes the same room however long its path.
+/// The box of one node is kept, with a bound for each part of its path, and is led to others.
 #[derive(Drop)]
 pub struct Paths {
     origins: Vec<Origin>,
+    walk: Walk,
 }
 
 impl Model for Paths {
-    ghost use Rattle.search_paths.specs.Tables.{Table, table_of, AreBefore};
+    ghost use Rattle.search_paths.specs.Tables.{Table, table_of};
+    ghost use Rattle.search_paths.specs.Walks.{IsHeld};
 
     ghost Value = { Table };
 
     ghost view = { table_of };
 
-    ghost invariant = { λ t. AreBefore t.origins.items };
+    ghost invariant = { IsHeld };
 }
 
 impl Paths {
@@ -30,6 +36,7 @@ impl Paths {
     {
         Paths {
             origins: Vec::new(alloc),
+            walk: nowhere(alloc),
         }
     }
 
@@ -87,5 +94,22 @@ impl Paths {
         }
         made.reverse();
         Ok(made)
+    }
+
+    /// The box of a node, where the roots have that one: it takes as many steps as there are parts between the node and
+    /// that of the call before, and as many as there are parts in the path where the roots had another box then.
+    pub fn box_of(
+        &mut self,
+        alloc: Global,
+        root: &BoundBox,
+        number: usize,
+    ) -> Result<BoundBox, Memory>
+        requires { number < length self.old.paths }
+        ensures made { IfOk result (λ b. b ≡ box_along root.now (path_at self.old number)) }
+        ensures same { self.new ≡ self.old }
+    {
+        begin(alloc, &mut self.walk, root)?;
+        lead(alloc, &mut self.walk, &self.origins, number)?;
+        copy_box(alloc, &self.walk)
     }
 }

@@ -1,9 +1,14 @@
-use Rattle.std.proofs.Common.{arith, [], ◌∷◌, ◌++◌, ap, ap₂, ◌∙◌, ◌<◌, List, ℕ, length}
-use Rattle.std.specs.Prelude.{Option}
+use Rattle.std.proofs.Common.{arith, [], ◌∷◌, ◌++◌, ap, ap₂, ◌∙◌, ◌<◌, ◌≡◌, List, ℕ, length}
+use Rattle.std.specs.Prelude.{Option, Some, None}
 use Rattle.searches.specs.Trees.{Part}
 use Rattle.search_paths.specs.Tables.{grown, path_by}
 use Rattle.search_paths.proofs.Growing.{grown-length, grown-push, before_push, table_is}
+use Rattle.search_paths.proofs.Walking.{at_push}
 use Rattle.search_paths.proofs.paths.Paths.push_part.Goals as goal
+
+-- a part is no root
+no_root : (o : Option Part) (p : Part) (n m : ℕ) → o ≡ None → o ≡ Some p → n ≡ m
+no_root o p n m e h = absurd cc
 
 pub push_reserved-requires : goal.push_reserved-requires
 push_reserved-requires c =
@@ -17,8 +22,17 @@ invariant_of-self c =
     let e = grown-length [] c.self.inside.origins.items in
     let h = rw (← c.self.view_is) at c.requires.parent in
     let p = c.origin.ensures.parent in
-    let l : c.origin.result.parent < length c.self.inside.origins.items = omega (arith, e, h, p) in
-    rw c.push_reserved.ensures.items (before_push c.self.inside.origins.items c.origin.result c.self.invariant (record { narrow = c.origin.ensures.narrow; after = λ part z. l }))
+    let os = c.self.inside.origins.items in
+    let l : c.origin.result.parent < length os = omega (arith, e, h, p) in
+    let b = before_push os c.origin.result c.self.invariant.placed (record {
+      narrow = c.origin.ensures.narrow;
+      after = λ part z. l;
+      root = λ z. no_root _ c.args.part _ _ z c.origin.ensures.part;
+    }) in
+    record {
+      placed = rw c.push_reserved.ensures.items b;
+      at = rw c.push_reserved.ensures.items (at_push os c.origin.result c.self.inside.walk c.self.invariant.placed b c.self.invariant.at);
+    }
 
 pub returns : goal.returns
 returns c =
