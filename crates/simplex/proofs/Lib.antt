@@ -1,3 +1,5 @@
+pub mod Entering
+pub mod Leaving
 pub mod Ratios
 pub mod Lookups
 pub mod Answering

@@ -6,15 +6,16 @@ use Rattle.linear_programs.specs.Program.{Program, IsRegular}
 use Rattle.dictionaries.specs.Dictionary.{Dictionary, row_of}
 use Rattle.dictionaries.specs.Bland.{Improves, IsCandidate, ratio_of, IsNarrowRatio}
 use Rattle.dictionaries.specs.Run.{IsReached}
+use Rattle.tableau.specs.Entries.{pair_at}
 
--- b improves, and no improving one of the first n columns has a lesser number
-pub record EntersOf (d : Dictionary) (row : List ℚ) (n b : ℕ) : Type 0 where
+-- b improves, and of the columns of the first n entries no improving one has a lesser number
+pub record EntersOf (d : Dictionary) (row : List ℚ) (kept : List (ℕ × ℚ)) (n b : ℕ) : Type 0 where
   pub improves : Improves d row b
-  pub least : (k : ℕ) → k < n → Improves d row k → slice_index d.nonbasic b ≤ slice_index d.nonbasic k
+  pub least : (k : ℕ) → k < n → Improves d row (pair_at kept k).0 → slice_index d.nonbasic b ≤ slice_index d.nonbasic (pair_at kept k).0
 
--- the choice among the first n columns, or that none of them improves
-abbrev pub EntersAmong : Dictionary → List ℚ → ℕ → Option ℕ → Type 0
-EntersAmong d row n o = MatchOption o ((k : ℕ) → k < n → Improves d row k → ⊥) (λ b. EntersOf d row n b)
+-- the choice among the columns of the first n entries, or that none of them improves
+abbrev pub EntersAmong : Dictionary → List ℚ → List (ℕ × ℚ) → ℕ → Option ℕ → Type 0
+EntersAmong d row kept n o = MatchOption o ((k : ℕ) → k < n → Improves d row (pair_at kept k).0 → ⊥) (λ b. EntersOf d row kept n b)
 
 -- b leaves, as far as the first n rows say
 pub record LeavesOf (d : Dictionary) (c n b : ℕ) (ratio : ℚ) : Type 0 where
@@ -22,10 +23,6 @@ pub record LeavesOf (d : Dictionary) (c n b : ℕ) (ratio : ℚ) : Type 0 where
   pub value : ratio ≡ ratio_of d c b
   pub least : (k : ℕ) → k < n → IsCandidate d c k → ratio_of d c b ≤ℚ ratio_of d c k
   pub ties : (k : ℕ) → k < n → IsCandidate d c k → ratio_of d c k ≡ ratio_of d c b → slice_index d.basic b ≤ slice_index d.basic k
-
--- the choice among the first n rows with its ratio, or that none of them is a candidate
-abbrev pub LeavesAmong : Dictionary → ℕ → ℕ → Option (ℕ × ℚ) → Type 0
-LeavesAmong d c n o = MatchOption o ((k : ℕ) → k < n → IsCandidate d c k → ⊥) (λ b. LeavesOf d c n b.0 b.1)
 
 -- the row with the least constant of the first n rows
 pub record WorstOf (d : Dictionary) (n b : ℕ) : Type 0 where
@@ -42,14 +39,6 @@ pub record BlockedOf (d : Dictionary) (c n b : ℕ) : Type 0 where
   pub candidate : IsCandidate d c b
   pub wide : ¬ (IsNarrowRatio d c b)
   pub least : (k : ℕ) → k < n → IsCandidate d c k → ¬ (IsNarrowRatio d c k) → slice_index d.basic b ≤ slice_index d.basic k
-
--- the choice among the first n rows, or that all their ratios are narrow
-abbrev pub BlockedAmong : Dictionary → ℕ → ℕ → Option ℕ → Type 0
-BlockedAmong d c n o = MatchOption o ((k : ℕ) → k < n → IsCandidate d c k → IsNarrowRatio d c k) (λ b. BlockedOf d c n b)
-
--- the ratio of each candidate is narrow
-abbrev pub AllNarrow : Dictionary → ℕ → Type 0
-AllNarrow d c = (k : ℕ) → IsCandidate d c k → IsNarrowRatio d c k
 
 -- the dictionary is one of the run of some program
 abbrev pub IsReachedOfSome : Dictionary → Type 0

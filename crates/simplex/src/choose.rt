@@ -6,7 +6,7 @@ ghost use Rattle.simplex.specs.Choices.{IsReachedOfSome};
 
 use crate::begin::worst;
 use crate::enter::entering;
-use crate::leave::{blocking_row, leaving};
+use crate::leave::pivot_row;
 use crate::read::{column_with, row_with};
 use linear_programs::Standard;
 use tableau::Dict;
@@ -30,15 +30,10 @@ fn next_of_one(dict: &Dict, row: u16) -> Next
 {
     let _height = dict.height();
     match entering(dict, dict.auxiliary()) {
-        Some(col) => {
-            if let Some(wide) = blocking_row(dict, col) {
-                return Next::Pivot(wide, col);
-            }
-            match leaving(dict, col) {
-                Some(leaves) => Next::Pivot(leaves, col),
-                None => unreachable!(),
-            }
-        }
+        Some(col) => match pivot_row(dict, col) {
+            Some(leaves) => Next::Pivot(leaves, col),
+            None => unreachable!(),
+        },
         None => Next::Infeasible,
     }
 }
@@ -50,15 +45,10 @@ fn next_of_two(dict: &Dict) -> Next
 {
     let _height = dict.height();
     match entering(dict, dict.objective()) {
-        Some(col) => {
-            if let Some(wide) = blocking_row(dict, col) {
-                return Next::Pivot(wide, col);
-            }
-            match leaving(dict, col) {
-                Some(leaves) => Next::Pivot(leaves, col),
-                None => Next::Unbounded(col),
-            }
-        }
+        Some(col) => match pivot_row(dict, col) {
+            Some(leaves) => Next::Pivot(leaves, col),
+            None => Next::Unbounded(col),
+        },
         None => Next::Best,
     }
 }

@@ -1,20 +1,30 @@
 ghost use Rattle.std.specs.Prelude.{◌≡◌, ◌<◌, ◌+◌, ℕ, length, MatchOption};
 ghost use Rattle.dictionaries.specs.Bland.{IsOptimal, Enters};
+ghost use Rattle.tableau.specs.Entries.{AreEntries};
 ghost use Rattle.simplex.specs.Choices.{EntersAmong};
 
+use frac128::Frac;
 use tableau::{Dict, Row};
 
-/// The choice among one column more.
-fn enter_step(dict: &Dict, row: &Row, best: Option<u16>, col: u16) -> Option<u16>
-    requires column { col < length dict.now.nonbasic }
+/// The choice among the column of one entry more.
+fn enter_step(
+    dict: &Dict,
+    row: &Row,
+    kept: &[(u16, Frac)],
+    best: Option<u16>,
+    place: usize,
+) -> Option<u16>
+    requires place { place < length kept.now }
     requires width { length row.now ≡ length dict.now.nonbasic + 1 }
-    requires so_far { EntersAmong dict.now row.now col best }
-    ensures { EntersAmong dict.now row.now (col + 1) result }
+    requires entries { AreEntries row.now kept.now }
+    requires so_far { EntersAmong dict.now row.now kept.now place best }
+    ensures { EntersAmong dict.now row.now kept.now (place + 1) result }
 {
+    let (col, entry) = kept[place];
     if dict.column(col) == 0 {
         return best;
     }
-    if !row.entry(col).is_positive() {
+    if !entry.is_positive() {
         return best;
     }
     match best {
@@ -34,9 +44,10 @@ pub fn entering(dict: &Dict, row: &Row) -> Option<u16>
     requires { length row.now ≡ length dict.now.nonbasic + 1 }
     ensures { MatchOption result (IsOptimal dict.now row.now) (λ c. Enters dict.now row.now c) }
 {
+    let kept = row.kept();
     let mut best = None;
-    for col in 0..dict.width() {
-        best = enter_step(dict, row, best, col);
+    for place in 0..kept.len() {
+        best = enter_step(dict, row, kept, best, place);
     }
     best
 }

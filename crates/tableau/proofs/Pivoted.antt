@@ -1,18 +1,19 @@
 -- The shape of the numbers after a pivot.
 use Rattle.std.proofs.Common.{◌≡◌, ℕ, suc, ◌+◌, sym, ap, ◌∙◌, subst, List, length, set}
-use Rattle.std.specs.Prelude.{All}
+use Rattle.std.specs.Prelude.{All, slice_index}
 use Rattle.std.proofs.lemmas.List.{length-set}
 use Rattle.fractions.specs.Rational.{ℚ}
-use Rattle.dictionaries.specs.Dictionary.{Dictionary, IsShaped, IsPlace, row_of, solved_row}
+use Rattle.dictionaries.specs.Dictionary.{Dictionary, IsShaped, IsPlace, row_of, solved_row, pivoted}
+use Rattle.dictionaries.specs.Narrow.{IsNarrowPivot, IsNarrowSolvedRow}
 use Rattle.dictionaries.proofs.Keeps.{pivot_keeps_shape}
-use Rattle.tableau.specs.Table.{Numbers, table_after}
+use Rattle.tableau.specs.Table.{Numbers, IsTable, IsNarrowTable, table_after}
 
 -- the numbers of a dictionary
 abbrev pub numbers_of : Dictionary → Numbers
 numbers_of d = record { rows = d.rows; objective = d.objective; auxiliary = d.auxiliary }
 
 -- a dictionary of these numbers
-abbrev with_numbers : List ℕ → List ℕ → Numbers → Dictionary
+abbrev pub with_numbers : List ℕ → List ℕ → Numbers → Dictionary
 with_numbers basic nonbasic t = record { basic = basic; nonbasic = nonbasic; rows = t.rows; objective = t.objective; auxiliary = t.auxiliary }
 
 -- whichever variables stand at the two places
@@ -34,3 +35,30 @@ shaped_after d r c k v w row by t s p e f g h =
     h ∙ ap (λ n. table_after (numbers_of d) r n by) e ∙ ap (table_after (numbers_of d) r (suc c)) by_is in
     subst (λ n. IsShaped (with_numbers (set d.basic r v) (set d.nonbasic c w) n)) (sym t_is)
     (same_shape _ _ (set d.basic r v) (set d.nonbasic c w) _ (length-set d.basic r _ ∙ sym (length-set d.basic r v)) (length-set d.nonbasic c _ ∙ sym (length-set d.nonbasic c w)) (pivot_keeps_shape d r c s p))
+
+-- the dictionary after a pivot whose numbers were found narrow
+pub pivot_made : (d : Dictionary) (r c v w : ℕ) (row by : List ℚ) (t : Numbers) → v ≡ slice_index d.nonbasic c → w ≡ slice_index d.basic r
+    → row ≡ row_of d r → by ≡ solved_row row (suc c) → IsNarrowSolvedRow row (suc c) → t ≡ table_after (numbers_of d) r (suc c) by → IsNarrowTable (numbers_of d) r (suc c) by
+    → (with_numbers (set d.basic r v) (set d.nonbasic c w) t ≡ pivoted d r c) × IsNarrowPivot d r c
+pivot_made d r c v w row by t e f g h n i m = (
+  λ j. with_numbers (set d.basic r (e j)) (set d.nonbasic c (f j)) (t_is j),
+  record {
+    row = subst (λ l. IsNarrowSolvedRow l (suc c)) g n;
+    rows = narrow.rows;
+    objective = narrow.objective;
+    auxiliary = narrow.auxiliary;
+  },
+)
+  where
+    by_is : by ≡ solved_row (row_of d r) (suc c)
+    by_is = h ∙ ap (λ l. solved_row l (suc c)) g
+
+    t_is : t ≡ table_after (numbers_of d) r (suc c) (solved_row (row_of d r) (suc c))
+    t_is = i ∙ ap (table_after (numbers_of d) r (suc c)) by_is
+
+    narrow : IsNarrowTable (numbers_of d) r (suc c) (solved_row (row_of d r) (suc c))
+    narrow = subst (IsNarrowTable (numbers_of d) r (suc c)) by_is m
+
+-- the shape of a table, by equal numbers
+pub same_table : (t : Numbers) (height width rows columns : ℕ) → height ≡ rows → width ≡ columns → IsTable t height width → IsTable t rows columns
+same_table t height width rows columns e f h = subst (λ n. IsTable t n columns) e (subst (λ n. IsTable t height n) f h)

@@ -1,5 +1,5 @@
 -- Where a row or what comes in is 0, a pivot changes nothing, and the numbers that it would make are narrow.
-use Rattle.std.proofs.Common.{◌≡◌, ◌≢◌, ◌⊎◌, inl, inr, ℕ, ◌<◌, ◌/◌, refl, sym, ap, ap₂, ◌∙◌, subst, List, length, arith, Bool, true, false, eqb, ℤ, pos, ◌+ℤ◌, ◌*ℤ◌, lit<}
+use Rattle.std.proofs.Common.{◌≡◌, ◌≢◌, ℕ, ◌<◌, ◌/◌, refl, sym, ap, ap₂, ◌∙◌, subst, List, length, arith, Bool, true, false, eqb, ℤ, pos, ◌+ℤ◌, ◌*ℤ◌, lit<}
 use Rattle.std.specs.Prelude.{if◌then◌else◌}
 use Rattle.std.proofs.lemmas.Bool.{eqb-true, eqb-false}
 use Rattle.std.proofs.lemmas.List.{ext_get_or}
@@ -10,7 +10,6 @@ use Rattle.fractions.specs.Rational.{ℚ, ◌+ℚ◌, ◌*ℚ◌, ◌/ℚ◌, in
 use Rattle.fractions.specs.Vectors.{at, times, without, only}
 use Rattle.fractions.proofs.Laws.{add-zero, zero-add, mul-zero, zero-mul, neg-zero}
 use Rattle.fractions.proofs.Gcd.{gcd_is}
-use Rattle.fractions.proofs.Order.{eq_or_ne}
 use Rattle.fractions.proofs.Powers.{inv-ne-zero}
 use Rattle.fractions.proofs.Whole.{whole-zero, numerator-whole, denominator-whole}
 use Rattle.frac128.specs.Narrow.{IsNarrowWhole, IsNarrow, IsNarrowSum}
@@ -19,7 +18,6 @@ use Rattle.linear_programs.proofs.Vectors.{at-plus, at-times, at-without_same, a
 use Rattle.dictionaries.specs.Dictionary.{solved_row, substituted}
 use Rattle.dictionaries.specs.Narrow.{IsNarrowQuotient, IsNarrowStep, IsNarrowSubstituted, IsNarrowAt, dividend}
 use Rattle.dictionaries.proofs.Keeps.{length-substituted}
-use Rattle.tableau.specs.Written.{IsWritten}
 
 -- ---- narrow sums and quotients with 0
 gcd-one : (d : ℕ) → gcd d 1 ≡ 1
@@ -73,11 +71,6 @@ narrow_row row k by e h j l = narrow_step_zero _ _ _ (cases (eqb j k) refl) (ap 
     cases true q = subst IsNarrow (sym (ap (at (without row k)) (eqb-true j k q) ∙ at-without_same row k)) narrow-zero
     cases false q = subst IsNarrow (sym (at-without_other row k j (eqb-false j k q))) (h j l)
 
--- a row without an entry in the entering column is written, since nothing is
-pub nothing_written : (row : List ℚ) (k : ℕ) (by into : List ℚ) → at row k ≡ zero_ℚ → ((j : ℕ) → j < length row → IsNarrow (at row j))
-    → IsWritten row k by into × IsNarrowSubstituted row k by
-nothing_written row k by into e h = (λ n. absurd (n e), narrow_row row k by e h)
-
 -- ---- the solved row
 zero_over : (p : ℚ) → zero_ℚ /ℚ p ≡ zero_ℚ
 zero_over p = zero-mul (inv_ℚ p)
@@ -96,14 +89,10 @@ solved_zero row k j z i n e =
     (i ∙ sym (ap (λ t. t /ℚ at row k) d ∙ zero_over (at row k)), narrow_zero_over (dividend row k j) (at row k) d)
 
 -- ---- the numbers that stay
-at-substituted : (row : List ℚ) (k : ℕ) (by : List ℚ) (j : ℕ) → at (substituted row k by) j ≡ at (without row k) j +ℚ at row k *ℚ at by j
+pub at-substituted : (row : List ℚ) (k : ℕ) (by : List ℚ) (j : ℕ) → at (substituted row k by) j ≡ at (without row k) j +ℚ at row k *ℚ at by j
 at-substituted row k by j = at-plus (without row k) (times (at row k) by) j ∙ ap (λ t. at (without row k) j +ℚ t) (at-times (at row k) by j)
 
-pub all_written : (row : List ℚ) (k : ℕ) (by into : List ℚ) → ((j : ℕ) → j < length row → at by j ≢ zero_ℚ → at into j ≡ at (without row k) j +ℚ at row k *ℚ at by j)
-    → (j : ℕ) → j < length row → at by j ≢ zero_ℚ → at into j ≡ at (substituted row k by) j
-all_written row k by into h j l n = h j l n ∙ sym (at-substituted row k by j)
-
-stays : (row : List ℚ) (k : ℕ) (by : List ℚ) (j : ℕ) → at row k *ℚ at by j ≡ zero_ℚ → j ≢ k → at (substituted row k by) j ≡ at row j
+pub stays : (row : List ℚ) (k : ℕ) (by : List ℚ) (j : ℕ) → at row k *ℚ at by j ≡ zero_ℚ → j ≢ k → at (substituted row k by) j ≡ at row j
 stays row k by j e n = at-substituted row k by j ∙ ap₂ ◌+ℚ◌ (at-without_other row k j n) e ∙ add-zero _
 
 -- a row without an entry in the entering column stays
@@ -119,19 +108,6 @@ row_stays row k by e z =
         let i : j ≡ k = eqb-true j k q in
         at-substituted row k by j ∙ ap₂ ◌+ℚ◌ (ap (at (without row k)) i ∙ at-without_same row k) (product j) ∙ add-zero _ ∙ sym (ap (at row) i ∙ z)
     cases j false q = stays row k by j (product j) (eqb-false j k q)
-
--- a row that takes over what was written is the row after the pivot
-pub row_taken : (row new by from : List ℚ) (k : ℕ) → length by ≡ length row → length new ≡ length row → at row k ≢ zero_ℚ → at by k ≢ zero_ℚ
-    → IsWritten row k by from
-    → ((j : ℕ) → j < length row → at by j ≢ zero_ℚ → at new j ≡ at from j)
-    → ((j : ℕ) → j < length row → at by j ≡ zero_ℚ → at new j ≡ at row j)
-    → new ≡ substituted row k by
-row_taken row new by from k e f n p w t s =
-    ext_get_or zero_ℚ new (substituted row k by) (f ∙ sym (length-substituted row k by e)) (λ j l. let m : j < length row = omega (arith, l, f) in cases j m (eq_or_ne (at by j) zero_ℚ))
-  where
-    cases : (j : ℕ) → j < length row → (at by j ≡ zero_ℚ) ⊎ (at by j ≢ zero_ℚ) → at new j ≡ at (substituted row k by) j
-    cases j l (inl z) = s j l z ∙ sym (stays row k by j (ap (λ u. at row k *ℚ u) z ∙ mul-zero _) (λ i. p (ap (at by) (sym i) ∙ z)))
-    cases j l (inr z) = t j l z ∙ w n j l z
 
 -- the solved row has an entry where the leaving one had
 pub solved_entry : (row out : List ℚ) (k : ℕ) → at row k ≢ zero_ℚ → out ≡ solved_row row k → at out k ≢ zero_ℚ

@@ -1,3 +1,5 @@
+pub mod Entries
+pub mod Rows
 pub mod Written
 pub mod Table
 pub mod Fields

@@ -24,7 +24,7 @@ pub record IsNarrowTable (t : Numbers) (leaving k : ℕ) (by : List ℚ) : Type 
   pub objective : IsNarrowSubstituted t.objective k by
   pub auxiliary : IsNarrowSubstituted t.auxiliary k by
 
--- each number that changes is written
+-- each row that changes is made
 pub record IsTableWritten (t : Numbers) (leaving k : ℕ) (by : List ℚ) (into : Numbers) : Type 0 where
   pub rows : AreWritten t.rows leaving k by into.rows
   pub objective : IsWritten t.objective k by into.objective

@@ -2,7 +2,9 @@ ghost use Rattle.std.specs.Prelude.{◌≡◌, ◌≢◌, ◌<◌, ◌+◌, ◌^
 ghost use Rattle.fractions.specs.Vectors.{at};
 ghost use Rattle.dictionaries.specs.Dictionary.{Dictionary, IsPlace, IsShaped, pivoted, row_of};
 ghost use Rattle.dictionaries.specs.Narrow.{IsNarrowPivot};
+ghost use Rattle.tableau.specs.Entries.{AreEntries};
 
+use crate::numbers::solve_for;
 use crate::row::Row;
 use crate::table::Table;
 use frac128::{Frac, Wide};
@@ -10,8 +12,8 @@ use memory::Memory;
 use std::alloc::Global;
 use std::marker::Model;
 
-/// A dictionary, with room for what a pivot changes: that is written there first, so that a pivot takes no memory,
-/// and changes nothing where it can't be made.
+/// A dictionary, with room for the rows that a pivot makes. Each row has room for an entry in every column, so that a pivot
+/// takes no memory. The new rows are made there first, so that nothing changes where the pivot can't be made.
 #[derive(Drop)]
 pub struct Dict {
     basic: Vec<u16>,
@@ -58,9 +60,8 @@ impl Dict {
           auxiliary = table.auxiliary;
         }) }
     {
-        let width = nonbasic.len() + 1;
-        let room = Table::blank(alloc, basic.len(), width)?;
-        let solved = Row::blank(alloc, width)?;
+        let room = Table::blank(alloc, basic.len(), nonbasic.len())?;
+        let solved = Row::blank(alloc, nonbasic.len())?;
         Ok(Dict {
             basic,
             nonbasic,
@@ -71,7 +72,7 @@ impl Dict {
     }
 
     /// Exchanges the basic variable of the row and the non-basic one of the column. Only rows with an entry in that
-    /// column, and in them the places where the leaving row isn't 0, are worked out.
+    /// column, and in them the columns where the leaving row has one, are worked out.
     pub fn pivot(&mut self, row: u16, col: u16) -> Result<(), Wide>
         requires { IsPlace self.old row col }
         ensures { MatchResult result (λ _. (self.new ≡ pivoted self.old row col)
@@ -79,17 +80,16 @@ impl Dict {
             (λ _. (self.new ≡ self.old) × ¬ (IsNarrowPivot self.old row col)) }
     {
         let row = row as usize;
+        match solve_for(self.table.row(row), col, &mut self.solved) {
+            Ok(()) => {}
+            Err(fault) => return Err(fault),
+        }
+        match self.room.write(&self.table, row, col, &self.solved) {
+            Ok(()) => {}
+            Err(fault) => return Err(fault),
+        }
+        self.table.take(row, col, &mut self.solved, &mut self.room);
         let col = col as usize;
-        let k = col + 1;
-        match self.solved.solve_for(self.table.row(row), k) {
-            Ok(()) => {}
-            Err(fault) => return Err(fault),
-        }
-        match self.room.write(&self.table, row, k, &self.solved) {
-            Ok(()) => {}
-            Err(fault) => return Err(fault),
-        }
-        self.table.take(row, k, &mut self.solved, &self.room);
         let leaving = self.basic[row];
         self.basic[row] = self.nonbasic[col];
         self.nonbasic[col] = leaving;
@@ -135,13 +135,21 @@ impl Dict {
         self.nonbasic[col as usize]
     }
 
-    /// The entry of the row at the column.
+    /// The entries of the row that aren't 0, each with its column, in order of column.
+    pub fn kept(&self, row: u16) -> &[(u16, Frac)]
+        requires { row < length self.now.basic }
+        ensures { AreEntries (row_of self.now row) result.now }
+    {
+        self.table.row(row as usize).kept()
+    }
+
+    /// The entry of the row at the column, which is sought by halves.
     pub fn entry(&self, row: u16, col: u16) -> Frac
         requires row { row < length self.now.basic }
         requires column { col < length self.now.nonbasic }
         ensures { result ≡ at (row_of self.now row) (suc col) }
     {
-        self.table.row(row as usize).at(col as usize + 1)
+        self.table.row(row as usize).entry(col)
     }
 
     /// The constant of the row.
@@ -149,7 +157,7 @@ impl Dict {
         requires { row < length self.now.basic }
         ensures { result ≡ at (row_of self.now row) 0 }
     {
-        self.table.row(row as usize).at(0)
+        self.table.row(row as usize).rest()
     }
 
     /// The objective's row.

@@ -5,6 +5,7 @@ ghost use Rattle.dictionaries.specs.Dictionary.{first_row, first_of_program};
 ghost use Rattle.dictionaries.specs.Run.{IsReached};
 
 use crate::dict::Dict;
+use crate::making::{auxiliary_row, objective_row, slack_row};
 use crate::row::Row;
 use crate::table::Table;
 use linear_programs::{Inequality, Standard};
@@ -25,11 +26,12 @@ fn numbers_from(alloc: Global, from: u16, count: u16) -> Result<Vec<u16>, Memory
 
 /// The rows' slacks by the columns.
 fn first_rows(alloc: Global, rows: &[Inequality]) -> Result<Vec<Row>, Memory>
+    requires { All (λ r. length r.coefficients < 2 ^ 15) rows.now }
     ensures { IfOk result (λ v. v.items ≡ map first_row rows.now) }
 {
     let mut made = Vec::new(alloc);
     for row in rows {
-        made.push(Row::first(alloc, row)?)?;
+        made.push(slack_row(alloc, row)?)?;
     }
     Ok(made)
 }
@@ -43,8 +45,8 @@ fn first_dictionary(alloc: Global, of: &Standard) -> Result<Dict, Memory>
     let basic = numbers_from(alloc, columns + 1, count)?;
     let non_basic = numbers_from(alloc, 0, columns + 1)?;
     let rows = first_rows(alloc, of.rows())?;
-    let objective = Row::of_objective(alloc, of.constant(), of.objective())?;
-    let auxiliary = Row::of_auxiliary(alloc, columns as usize)?;
+    let objective = objective_row(alloc, of.constant(), of.objective())?;
+    let auxiliary = auxiliary_row(alloc, columns as usize)?;
     Dict::of_parts(
         alloc,
         basic,

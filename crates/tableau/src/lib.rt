@@ -2,7 +2,9 @@
 #![tactic(auto)]
 
 mod dict;
+mod entries;
 mod first;
+mod making;
 mod numbers;
 mod products;
 mod row;

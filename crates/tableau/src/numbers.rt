@@ -1,14 +1,17 @@
 // What a pivot does to the numbers of one row.
-ghost use Rattle.std.specs.Prelude.{◌≡◌, ◌≢◌, ◌<◌, ◌==◌, ℕ, length, IfOk, MatchResult};
-ghost use Rattle.fractions.specs.Rational.{zero_ℚ, ◌/ℚ◌};
+ghost use Rattle.std.specs.Prelude.{◌≡◌, ◌≢◌, ◌<◌, ◌≤◌, ◌==◌, ℕ, suc, List, length, IfOk, MatchResult};
+ghost use Rattle.fractions.specs.Rational.{ℚ, zero_ℚ, ◌/ℚ◌};
 ghost use Rattle.fractions.specs.Vectors.{at, without};
 ghost use Rattle.frac128.specs.Narrow.{IsNarrow};
 ghost use Rattle.dictionaries.specs.Dictionary.{solved_row, substituted};
-ghost use Rattle.dictionaries.specs.Narrow.{IsNarrowQuotient, IsNarrowSolvedRow, IsNarrowSubstituted, dividend};
+ghost use Rattle.dictionaries.specs.Narrow.{IsNarrowAt, IsNarrowQuotient, IsNarrowSolvedRow, IsNarrowSubstituted, dividend};
+ghost use Rattle.tableau.specs.Entries.{AreEntries, IsRising, pair_at};
 ghost use Rattle.tableau.specs.Written.{IsWritten};
 
 use crate::products::plus_product;
+use crate::row::Row;
 use frac128::{Frac, Wide};
+use std::mem;
 
 /// `a / b`.
 #[tactic(auto, unfolding(dictionaries::specs::Narrow::IsNarrowQuotient))]
@@ -20,130 +23,199 @@ fn quotient(a: Frac, b: Frac) -> Result<Frac, Wide>
     a.div(b)
 }
 
-/// The number at `j`, or 0 at `k`.
-fn without(row: &[Frac], k: usize, j: usize) -> Frac
-    requires { j < length row.now }
-    ensures value { result ≡ at (without row.now k) j }
-    ensures narrow { IsNarrow result }
-{
-    if j == k {
-        let none = Frac::zero();
-        let _num = none.num();
-        return none;
-    }
-    let number = row[j];
-    let _num = number.num();
-    number
-}
-
 /// Each number is narrow, since it stands in 128 bits: nothing is done for it when this runs.
-fn all_narrow(row: &[Frac])
-    ensures { (j : ℕ) → j < length row.now → IsNarrow (at row.now j) }
+fn all_narrow(kept: &[(u16, Frac)])
+    ensures { (i : ℕ) → i < length kept.now → IsNarrow (pair_at kept.now i).1 }
 {
-    for j in 0..row.len() {
-        let _num = row[j].num();
+    for i in 0..kept.len() {
+        let _num = kept[i].1.num();
     }
 }
 
-/// The number at `j` of the row solved for the variable at `k`.
-fn solved_number(row: &[Frac], k: usize, j: usize) -> Result<Frac, Wide>
-    requires place { k < length row.now }
-    requires entry { at row.now k ≢ zero_ℚ }
-    requires within { j < length row.now }
-    ensures { MatchResult result (λ f. (f ≡ dividend row.now k j /ℚ at row.now k)
-        × IsNarrowQuotient (dividend row.now k j) (at row.now k))
-        (λ _. ¬ (IsNarrowQuotient (dividend row.now k j) (at row.now k))) }
+/// The entry at the column `j`, which the row has there, of the row solved for the variable of the column `col`.
+fn solved_entry(row: &Row, col: u16, pivot: Frac, j: u16, entry: Frac) -> Result<Frac, Wide>
+    requires pivot { pivot ≡ at row.now (suc col) }
+    requires other_than_zero { pivot ≢ zero_ℚ }
+    requires entry { entry ≡ at row.now (suc j) }
+    ensures { MatchResult result (λ f. (f ≡ dividend row.now (suc col) (suc j) /ℚ at row.now (suc col))
+        × IsNarrowQuotient (dividend row.now (suc col) (suc j)) (at row.now (suc col)))
+        (λ _. ¬ (IsNarrowQuotient (dividend row.now (suc col) (suc j)) (at row.now (suc col)))) }
 {
-    let pivot = row[k];
-    if j == k {
+    if j == col {
         return quotient(Frac::one(), pivot);
     }
-    let number = row[j];
-    if number.is_zero() {
-        return Ok(Frac::zero());
-    }
-    quotient(number.neg(), pivot)
+    quotient(entry.neg(), pivot)
 }
 
-/// Writes the row solved for the variable at `k`.
-pub fn solve_for(row: &[Frac], k: usize, into: &mut [Frac]) -> Result<(), Wide>
-    requires place { k < length row.now }
-    requires entry { at row.now k ≢ zero_ℚ }
+/// Puts the entries of the row, solved for the variable of the column, into a row of zeros.
+fn solve_entries(row: &Row, col: u16, pivot: Frac, into: &mut Row) -> Result<(), Wide>
+    requires pivot { pivot ≡ at row.now (suc col) }
+    requires other_than_zero { pivot ≢ zero_ℚ }
     requires room { length into.old ≡ length row.now }
-    ensures made { MatchResult result (λ _. (into.new ≡ solved_row row.now k)
-        × IsNarrowSolvedRow row.now k) (λ _. ¬ (IsNarrowSolvedRow row.now k)) }
-    ensures entry { IfOk result (λ _. at into.new k ≢ zero_ℚ) }
+    requires blank { (j : ℕ) → at into.old (suc j) ≡ zero_ℚ }
+    ensures made { MatchResult result (λ _. (j : ℕ) → suc j < length row.now
+        → (at into.new (suc j) ≡ dividend row.now (suc col) (suc j) /ℚ at row.now (suc col))
+        × IsNarrowQuotient (dividend row.now (suc col) (suc j)) (at row.now (suc col)))
+        (λ _. ¬ (IsNarrowSolvedRow row.now (suc col))) }
+    ensures size { length into.new ≡ length into.old }
+    ensures rest { at into.new 0 ≡ at into.old 0 }
 {
-    for j in 0..row.len() {
-        into[j] = solved_number(row, k, j)?;
+    let kept = row.kept();
+    for i in 0..kept.len() {
+        let (j, entry) = kept[i];
+        let solved = solved_entry(row, col, pivot, j, entry)?;
+        into.put(j, solved, i);
     }
     Ok(())
 }
 
-/// Writes each number of the row that changes where `by` comes in for the variable at `k`.
-fn substitute(row: &[Frac], k: usize, by: &[Frac], into: &mut [Frac]) -> Result<(), Wide>
-    requires place { k < length row.now }
-    requires other { length by.now ≡ length row.now }
+/// Makes the row solved for the variable of the column.
+pub fn solve_for(row: &Row, col: u16, into: &mut Row) -> Result<(), Wide>
+    requires place { suc col < length row.now }
+    requires entry { at row.now (suc col) ≢ zero_ℚ }
     requires room { length into.old ≡ length row.now }
-    ensures { MatchResult result (λ _. IsWritten row.now k by.now into.new
-        × IsNarrowSubstituted row.now k by.now) (λ _. ¬ (IsNarrowSubstituted row.now k by.now)) }
+    ensures made { MatchResult result (λ _. (into.new ≡ solved_row row.now (suc col))
+        × IsNarrowSolvedRow row.now (suc col)) (λ _. ¬ (IsNarrowSolvedRow row.now (suc col))) }
+    ensures entry { IfOk result (λ _. at into.new (suc col) ≢ zero_ℚ) }
+    ensures size { length into.new ≡ length into.old }
 {
-    let factor = row[k];
-    for j in 0..row.len() {
-        let number = by[j];
-        let own = without(row, k, j);
-        if number.is_zero() {
-            continue;
+    let pivot = row.entry(col);
+    let rest = row.rest().neg();
+    match quotient(rest, pivot) {
+        Ok(solved) => {
+            into.clear();
+            into.set_rest(solved);
+            solve_entries(row, col, pivot, into)
         }
-        into[j] = plus_product(own, factor, number)?;
+        Err(fault) => Err(fault),
     }
+}
+
+/// Puts the entries that stand from the place on before the column behind those of another row, and answers the place of
+/// the first that doesn't.
+fn copy_before(kept: &[(u16, Frac)], place: usize, col: usize, into: &mut Row) -> usize
+    requires rising { IsRising kept.now }
+    requires within { place ≤ length kept.now }
+    requires columns { (i : ℕ) → i < length kept.now
+        → suc (pair_at kept.now i).0 < length into.old }
+    ensures size { length into.new ≡ length into.old }
+    ensures rest { at into.new 0 ≡ at into.old 0 }
+    ensures first { place ≤ result }
+    ensures within { result ≤ length kept.now }
+    ensures before { (i : ℕ) → i < result → place ≤ i → (pair_at kept.now i).0 < col }
+    ensures after { (i : ℕ) → result ≤ i → i < length kept.now → col ≤ (pair_at kept.now i).0 }
+    ensures copied { (i : ℕ) → place ≤ i → i < result
+        → at into.new (suc (pair_at kept.now i).0) ≡ (pair_at kept.now i).1 }
+    ensures left { (j : ℕ) → ((i : ℕ) → place ≤ i → i < result → (pair_at kept.now i).0 ≢ j)
+        → at into.new (suc j) ≡ at into.old (suc j) }
+{
+    let mut next = place;
+    while next < kept.len() && (kept[next].0 as usize) < col {
+        let (j, entry) = kept[next];
+        into.append(j, entry);
+        next += 1;
+    }
+    next
+}
+
+/// The entry of the column `j`, or 0 at the column `col`, where earlier columns stand before the place and no others, with
+/// the place of the first later column.
+fn entry_at(kept: &[(u16, Frac)], place: usize, col: u16, j: u16) -> (Frac, usize)
+    requires rising { IsRising kept.now }
+    requires within { place ≤ length kept.now }
+    requires before { (i : ℕ) → i < place → (pair_at kept.now i).0 < j }
+    requires after { (i : ℕ) → place ≤ i → i < length kept.now → j ≤ (pair_at kept.now i).0 }
+    ensures entry { (row : List ℚ) → AreEntries row kept.now → suc j < length row
+        → result.0 ≡ at (without row (suc col)) (suc j) }
+    ensures first { place ≤ result.1 }
+    ensures within { result.1 ≤ length kept.now }
+    ensures before { (i : ℕ) → i < result.1 → (pair_at kept.now i).0 ≤ j }
+    ensures after { (i : ℕ) → result.1 ≤ i → i < length kept.now → j < (pair_at kept.now i).0 }
+    ensures same { (i : ℕ) → place ≤ i → i < result.1 → (pair_at kept.now i).0 ≡ j }
+{
+    if place == kept.len() {
+        return (Frac::zero(), place);
+    }
+    let (column, entry) = kept[place];
+    if column != j {
+        return (Frac::zero(), place);
+    }
+    if j == col {
+        return (Frac::zero(), place + 1);
+    }
+    (entry, place + 1)
+}
+
+/// Puts the entries of the row where `by` comes in for the variable of the column, at which the row has the factor, into a
+/// row of zeros.
+fn write_entries(row: &Row, col: u16, factor: Frac, by: &Row, into: &mut Row) -> Result<(), Wide>
+    requires place { suc col < length row.now }
+    requires factor { factor ≡ at row.now (suc col) }
+    requires other { length by.now ≡ length row.now }
+    requires entry { at by.now (suc col) ≢ zero_ℚ }
+    requires room { length into.old ≡ length row.now }
+    requires blank { (j : ℕ) → at into.old (suc j) ≡ zero_ℚ }
+    ensures made { MatchResult result (λ _. (j : ℕ) → suc j < length row.now
+        → (at into.new (suc j) ≡ at (substituted row.now (suc col) by.now) (suc j))
+        × (at by.now (suc j) ≢ zero_ℚ → IsNarrowAt row.now (suc col) by.now (suc j)))
+        (λ _. ¬ (IsNarrowSubstituted row.now (suc col) by.now)) }
+    ensures size { length into.new ≡ length into.old }
+    ensures rest { at into.new 0 ≡ at into.old 0 }
+{
+    let own = row.kept();
+    let other = by.kept();
+    let mut place = 0;
+    for i in 0..other.len() {
+        let (j, number) = other[i];
+        place = copy_before(own, place, j as usize, into);
+        let (entry, next) = entry_at(own, place, col, j);
+        let sum = plus_product(entry, factor, number)?;
+        into.append(j, sum);
+        place = next;
+    }
+    let _end = copy_before(own, place, row.len(), into);
     Ok(())
 }
 
-/// Takes over the numbers at the places where `by` isn't 0.
-fn take(row: &mut [Frac], by: &[Frac], from: &[Frac])
-    requires other { length by.now ≡ length row.old }
-    requires room { length from.now ≡ length row.old }
-    ensures size { length row.new ≡ length row.old }
-    ensures taken { (j : ℕ) → j < length row.old
-        → at by.now j ≢ zero_ℚ → at row.new j ≡ at from.now j }
-    ensures left { (j : ℕ) → j < length row.old
-        → at by.now j ≡ zero_ℚ → at row.new j ≡ at row.old j }
-{
-    for j in 0..row.len() {
-        if by[j].is_zero() {
-            continue;
-        }
-        row[j] = from[j];
-    }
-}
-
-/// Writes what changes in the row where `by` comes in for the variable at `k`.
-pub fn write(row: &[Frac], k: usize, by: &[Frac], into: &mut [Frac]) -> Result<(), Wide>
-    requires place { k < length row.now }
+/// Makes the row where `by` comes in for the variable of the column, unless the row has no entry there.
+pub fn write(row: &Row, col: u16, by: &Row, into: &mut Row) -> Result<(), Wide>
+    requires place { suc col < length row.now }
     requires other { length by.now ≡ length row.now }
+    requires entry { at by.now (suc col) ≢ zero_ℚ }
     requires room { length into.old ≡ length row.now }
-    ensures { MatchResult result (λ _. IsWritten row.now k by.now into.new
-        × IsNarrowSubstituted row.now k by.now) (λ _. ¬ (IsNarrowSubstituted row.now k by.now)) }
+    ensures made { MatchResult result (λ _. IsWritten row.now (suc col) by.now into.new
+        × IsNarrowSubstituted row.now (suc col) by.now)
+        (λ _. ¬ (IsNarrowSubstituted row.now (suc col) by.now)) }
+    ensures size { length into.new ≡ length into.old }
 {
-    if row[k].is_zero() {
-        all_narrow(row);
+    let factor = row.entry(col);
+    let rest = row.rest();
+    all_narrow(row.kept());
+    let _num = rest.num();
+    if factor.is_zero() {
         return Ok(());
     }
-    substitute(row, k, by, into)
+    match plus_product(rest, factor, by.rest()) {
+        Ok(sum) => {
+            into.clear();
+            into.set_rest(sum);
+            write_entries(row, col, factor, by, into)
+        }
+        Err(fault) => Err(fault),
+    }
 }
 
-/// The row takes over what was written.
-pub fn take_over(row: &mut [Frac], k: usize, by: &[Frac], from: &[Frac])
-    requires place { k < length row.old }
-    requires other { length by.now ≡ length row.old }
-    requires room { length from.now ≡ length row.old }
-    requires entry { at by.now k ≢ zero_ℚ }
-    requires written { IsWritten row.old k by.now from.now }
-    ensures { row.new ≡ substituted row.old k by.now }
+/// The row changes places with the one that was made, where it has an entry at the column.
+pub fn take_over(row: &mut Row, col: u16, from: &mut Row)
+    requires place { suc col < length row.old }
+    requires room { length from.old ≡ length row.old }
+    ensures made { (by : List ℚ) → length by ≡ length row.old
+        → IsWritten row.old (suc col) by from.old → row.new ≡ substituted row.old (suc col) by }
+    ensures size { length row.new ≡ length row.old }
+    ensures room { length from.new ≡ length row.old }
 {
-    if row[k].is_zero() {
+    if row.entry(col).is_zero() {
         return;
     }
-    take(row, by, from);
+    mem::swap(row, from);
 }

@@ -1,10 +1,13 @@
 // The sums of products that a pivot makes: nothing is multiplied by 1 or -1, and nothing is added to 0.
-ghost use Rattle.std.specs.Prelude.{◌≡◌, ◌↔◌, IfSome, IsTrue, MatchResult};
-ghost use Rattle.fractions.specs.Rational.{one_ℚ, ◌+ℚ◌, ◌*ℚ◌};
+ghost use Rattle.std.specs.Prelude.{◌≡◌, ◌≢◌, ◌<◌, ◌^◌, ◌↔◌, pos, unsigned_abs, IfSome, IsTrue, MatchResult};
+ghost use Rattle.fractions.specs.Rational.{numerator, denominator, one_ℚ, ◌+ℚ◌, ◌*ℚ◌, ◌/ℚ◌};
+ghost use Rattle.fractions.specs.Whole.{whole_ℚ};
 ghost use Rattle.frac128.specs.Narrow.{IsNarrow};
 ghost use Rattle.dictionaries.specs.Narrow.{IsNarrowStep};
 
 use frac128::{Frac, Wide};
+
+const SMALL: i128 = 1 << 20;
 
 /// Whether the number is 1.
 fn is_one(number: Frac) -> bool
@@ -43,12 +46,57 @@ fn product(b: Frac, c: Frac) -> Result<Frac, Wide>
     b.mul(c)
 }
 
+/// The parts of the number, where they are below 2^20 in size.
+fn small_parts(number: Frac) -> Option<(i64, i64)>
+    ensures { IfSome result (λ p. (p.0 ≡ numerator number) × (p.1 ≡ pos (denominator number))
+        × (unsigned_abs p.0 < 2 ^ 20) × (denominator number < 2 ^ 20)) }
+{
+    let num = number.num();
+    let den = number.den();
+    if -SMALL < num && num < SMALL && den < SMALL {
+        Some((num as i64, den as i64))
+    } else {
+        None
+    }
+}
+
+/// `n / d` in lowest terms.
+fn lowest(n: i64, d: i64) -> Option<Frac>
+    requires { d ≢ pos 0 }
+    ensures { IfSome result (λ f. (f ≡ whole_ℚ n /ℚ whole_ℚ d) × IsNarrow f) }
+{
+    if d == 1 {
+        return Some(Frac::from_whole(n));
+    }
+    Frac::new(n as i128, d as i128)
+}
+
+/// `a + b * c` over one denominator, where all parts are small.
+fn small_step(a: Frac, b: Frac, c: Frac) -> Option<Frac>
+    ensures { IfSome result (λ f. (f ≡ a +ℚ b *ℚ c) × IsNarrowStep a b c) }
+{
+    let (number, under_number) = small_parts(c)?;
+    let (factor, under_factor) = small_parts(b)?;
+    let (entry, under_entry) = small_parts(a)?;
+    let under = under_factor * under_number;
+    if under_entry == under {
+        return lowest(entry + factor * number, under);
+    }
+    lowest(
+        entry * under + factor * number * under_entry,
+        under_entry * under,
+    )
+}
+
 /// `a + b * c`.
 #[tactic(auto, unfolding(dictionaries::specs::Narrow::IsNarrowStep))]
 pub fn plus_product(a: Frac, b: Frac, c: Frac) -> Result<Frac, Wide>
     ensures { MatchResult result (λ f. (f ≡ a +ℚ b *ℚ c) × IsNarrowStep a b c)
         (λ _. ¬ (IsNarrowStep a b c)) }
 {
+    if let Some(found) = small_step(a, b, c) {
+        return Ok(found);
+    }
     let found = product(b, c)?;
     if a.is_zero() {
         return Ok(found);

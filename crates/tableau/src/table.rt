@@ -1,9 +1,10 @@
 // The rows of a dictionary with its two objectives.
-ghost use Rattle.std.specs.Prelude.{◌≡◌, ◌≢◌, ◌<◌, [], length, IfOk, MatchResult, slice_index_or};
+ghost use Rattle.std.specs.Prelude.{◌≡◌, ◌≢◌, ◌<◌, ◌^◌, suc, [], length, IfOk, MatchResult, slice_index_or};
 ghost use Rattle.fractions.specs.Rational.{zero_ℚ};
 ghost use Rattle.fractions.specs.Vectors.{at};
-ghost use Rattle.tableau.specs.Table.{Numbers, IsTable, IsNarrowTable, IsTableWritten, table_after};
+ghost use Rattle.tableau.specs.Table.{IsTable, IsNarrowTable, IsTableWritten, table_after};
 
+use crate::numbers::{take_over, write};
 use crate::row::Row;
 use crate::rows::{blank_rows, next_rows, write_rows};
 use frac128::Wide;
@@ -40,20 +41,6 @@ impl Table {
         }
     }
 
-    /// A table of zeros.
-    pub fn blank(alloc: Global, height: usize, width: usize) -> Result<Table, Memory>
-        ensures { IfOk result (λ t. IsTable t height width) }
-    {
-        let rows = blank_rows(alloc, height, width)?;
-        let objective = Row::blank(alloc, width)?;
-        let auxiliary = Row::blank(alloc, width)?;
-        Ok(Table {
-            rows,
-            objective,
-            auxiliary,
-        })
-    }
-
     pub fn row(&self, row: usize) -> &Row
         requires { row < length self.now.rows }
         ensures { result.now ≡ slice_index_or self.now.rows row [] }
@@ -73,40 +60,58 @@ impl Table {
         &self.auxiliary
     }
 
-    /// Gets what changes in another table where `by` comes in for the variable at `k`, which leaves at the row.
-    pub fn write(&mut self, of: &Table, leaving: usize, k: usize, by: &Row) -> Result<(), Wide>
-        requires place { k < length by.now }
-        requires shaped { IsTable of.now (length of.now.rows) (length by.now) }
-        requires room { IsTable self.old (length of.now.rows) (length by.now) }
-        ensures made { MatchResult result (λ _. IsTableWritten of.now leaving k by.now self.new
-            × IsNarrowTable of.now leaving k by.now)
-            (λ _. ¬ (IsNarrowTable of.now leaving k by.now)) }
-        ensures room { IsTable self.new (length of.now.rows) (length by.now) }
+    /// A table of zeros.
+    pub fn blank(alloc: Global, height: usize, columns: usize) -> Result<Table, Memory>
+        requires { columns < 2 ^ 16 }
+        ensures { IfOk result (λ t. IsTable t height (suc columns)) }
     {
-        match write_rows(&of.rows, leaving, k, by, &mut self.rows) {
-            Ok(()) => {}
-            Err(fault) => return Err(fault),
-        }
-        match self.objective.write(&of.objective, k, by) {
-            Ok(()) => {}
-            Err(fault) => return Err(fault),
-        }
-        self.auxiliary.write(&of.auxiliary, k, by)
+        let rows = blank_rows(alloc, height, columns)?;
+        let objective = Row::blank(alloc, columns)?;
+        let auxiliary = Row::blank(alloc, columns)?;
+        Ok(Table {
+            rows,
+            objective,
+            auxiliary,
+        })
     }
 
-    /// Takes over what was written, with `by` as the leaving row.
-    pub fn take(&mut self, leaving: usize, k: usize, by: &mut Row, from: &Table)
-        requires leaving { leaving < length self.old.rows }
-        requires place { k < length by.old }
-        requires entry { at by.old k ≢ zero_ℚ }
-        requires shaped { IsTable self.old (length self.old.rows) (length by.old) }
-        requires room { IsTable from.now (length self.old.rows) (length by.old) }
-        requires written { IsTableWritten self.old leaving k by.old from.now }
-        ensures made { self.new ≡ table_after self.old leaving k by.old }
-        ensures size { length by.new ≡ length by.old }
+    /// Makes the rows of another table, as far as they change, where `by` comes in for the variable of the column, which
+    /// leaves at the row.
+    pub fn write(&mut self, of: &Table, leaving: usize, col: u16, by: &Row) -> Result<(), Wide>
+        requires place { suc col < length by.now }
+        requires entry { at by.now (suc col) ≢ zero_ℚ }
+        requires shaped { IsTable of.now (length of.now.rows) (length by.now) }
+        requires room { IsTable self.old (length of.now.rows) (length by.now) }
+        ensures made { MatchResult result
+            (λ _. IsTableWritten of.now leaving (suc col) by.now self.new
+            × IsNarrowTable of.now leaving (suc col) by.now)
+            (λ _. ¬ (IsNarrowTable of.now leaving (suc col) by.now)) }
+        ensures room { IsTable self.new (length of.now.rows) (length by.now) }
     {
-        self.objective.take(k, by, &from.objective);
-        self.auxiliary.take(k, by, &from.auxiliary);
-        next_rows(&mut self.rows, leaving, k, by, &from.rows);
+        match write_rows(&of.rows, leaving, col, by, &mut self.rows) {
+            Ok(()) => {}
+            Err(fault) => return Err(fault),
+        }
+        match write(&of.objective, col, by, &mut self.objective) {
+            Ok(()) => {}
+            Err(fault) => return Err(fault),
+        }
+        write(&of.auxiliary, col, by, &mut self.auxiliary)
+    }
+
+    /// The rows change places with those that were made, with `by` as the leaving row.
+    pub fn take(&mut self, leaving: usize, col: u16, by: &mut Row, from: &mut Table)
+        requires leaving { leaving < length self.old.rows }
+        requires place { suc col < length by.old }
+        requires shaped { IsTable self.old (length self.old.rows) (length by.old) }
+        requires room { IsTable from.old (length self.old.rows) (length by.old) }
+        requires written { IsTableWritten self.old leaving (suc col) by.old from.old }
+        ensures made { self.new ≡ table_after self.old leaving (suc col) by.old }
+        ensures size { length by.new ≡ length by.old }
+        ensures room { IsTable from.new (length self.old.rows) (length by.old) }
+    {
+        take_over(&mut self.objective, col, &mut from.objective);
+        take_over(&mut self.auxiliary, col, &mut from.auxiliary);
+        next_rows(&mut self.rows, leaving, col, by, &mut from.rows);
     }
 }

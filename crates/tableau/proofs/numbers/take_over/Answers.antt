@@ -1,16 +1,13 @@
-use Rattle.std.proofs.Common.{◌∙◌, sym, subst, false}
-use Rattle.std.specs.Prelude.{IsTrue}
-use Rattle.std.proofs.lemmas.List.{get_or_read}
-use Rattle.fractions.specs.Rational.{zero_ℚ}
-use Rattle.tableau.proofs.Zeros.{row_stays, row_taken}
+use Rattle.std.proofs.Common.{◌∙◌, suc, sym}
+use Rattle.tableau.proofs.Searching.{other_than_zero}
+use Rattle.tableau.proofs.Zeros.{row_stays}
 use Rattle.tableau.proofs.numbers.take_over.Goals as goal
 
-pub returns-then-is_zero : goal.returns-then-is_zero
-returns-then-is_zero c =
-    row_stays c.args.row.now c.args.k c.args.by.now c.requires.other
-    (sym (get_or_read _ _ _ c.requires.place c.index-row-k.is zero_ℚ) ∙ c.is_zero.ensures.0 c.if-is_zero.true)
+pub returns-then-is_zero-clause-made : goal.returns-then-is_zero-clause-made
+returns-then-is_zero-clause-made c = λ by e w.
+    row_stays c.args.row.now (suc c.args.col) by e (sym c.entry.ensures ∙ c.is_zero.ensures.0 c.if-is_zero.true)
 
-pub returns : goal.returns
-returns c =
-    row_taken c.args.row.now c.take.new.row c.args.by.now c.args.from.now c.args.k c.requires.other c.take.ensures.size
-    (λ z. let e : IsTrue false = subst IsTrue c.if-is_zero.false (c.is_zero.ensures.1 (get_or_read _ _ _ c.requires.place c.index-row-k.is zero_ℚ ∙ z)) in cc) c.requires.entry c.requires.written c.take.ensures.taken c.take.ensures.left
+pub returns-clause-made : goal.returns-clause-made
+returns-clause-made c = λ by e w.
+    let n = other_than_zero c.is_zero.result c.entry.result c.if-is_zero.false c.is_zero.ensures.1 in
+    c.swap.ensures.x_after ∙ w (λ z. n (c.entry.ensures ∙ z))

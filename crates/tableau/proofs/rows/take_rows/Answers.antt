@@ -1,18 +1,35 @@
-use Rattle.std.proofs.Common.{◌≡◌, ◌≢◌, ◌∙◌, sym, ap, [], ◌<◌, length, get_or, set, arith, rules}
-use Rattle.std.proofs.lemmas.List.{get_or_read, get_or-set_other, get_or-set_same}
+use Rattle.std.proofs.Common.{◌≡◌, ◌<◌, ◌∙◌, suc, sym, ap, subst, List, [], length, arith, get_or}
+use Rattle.std.proofs.lemmas.List.{get_or_default}
+use Rattle.fractions.specs.Rational.{ℚ}
 use Rattle.dictionaries.specs.Dictionary.{substituted}
-use Rattle.tableau.proofs.Below.{below_more}
+use Rattle.tableau.specs.Written.{IsWritten}
+use Rattle.tableau.proofs.Taking.{widths_set, taken_next, others_stay, leaving_stays}
 use Rattle.tableau.proofs.rows.take_rows.Goals as goal
 
 pub loop-i-preserved : goal.loop-i-preserved
 loop-i-preserved c =
-    let h : c.loop-i.i < length c.loop-i.rows = omega arith in
-    let e = get_or_read c.loop-i.rows c.loop-i.i _ h c.index-rows-i.is [] in
+    let rows = c.loop-i.rows in
+    let from = c.loop-i.from in
+    let was = c.args.rows.now in
+    let n = c.loop-i.i in
+    let k = suc c.args.col in
+    let i = c.loop-i.invariant in
+    let here : n < length rows = omega arith in
+    let there : n < length from = omega arith in
+    let first : n < length was = omega arith in
+    let old = get_or rows n c.index-rows-i.result in
+    let made = get_or from n c.index-from-i.result in
+    let width : length old ≡ length (get_or was c.args.leaving []) = i.widths n c.index-rows-i.result here in
+    let same : old ≡ get_or was n [] = get_or_default rows n c.index-rows-i.result [] here ∙ i.rest n (omega arith) in
+    let room : made ≡ get_or c.args.from.now n [] = get_or_default from n c.index-from-i.result [] there ∙ i.rest_room n (omega arith) in
     record {
-      widths = search rules;
-      taken = below_more (λ q. q ≢ c.args.leaving → get_or (set c.loop-i.rows c.loop-i.i c.take.new.self) q [] ≡ substituted (get_or c.args.rows.now q []) c.args.k c.args.by.now) c.loop-i.i
-          (λ q l n. let m : q ≢ c.loop-i.i = omega (arith, l) in get_or-set_other c.loop-i.rows c.loop-i.i q c.take.new.self [] m ∙ c.loop-i.invariant.taken q l n)
-          (λ n. get_or-set_same c.loop-i.rows c.loop-i.i c.take.new.self [] h ∙ c.take.ensures.made ∙ ap (λ r. substituted r c.args.k c.args.by.now) (sym c.index-rows-i.is ∙ e ∙ c.loop-i.invariant.rest c.loop-i.i (omega arith)));
-      left = get_or-set_other c.loop-i.rows c.loop-i.i c.args.leaving c.take.new.self [] (λ q. c.if-i-leaving.false (sym q)) ∙ c.loop-i.invariant.left;
-      rest = λ q l. let m : q ≢ c.loop-i.i = omega (arith, l) in get_or-set_other c.loop-i.rows c.loop-i.i q c.take.new.self [] m ∙ c.loop-i.invariant.rest q (omega (arith, l));
+      widths = widths_set rows n (length (get_or was c.args.leaving [])) c.take_over.new.row here i.widths (c.take_over.ensures.size ∙ width);
+      wide_room = widths_set from n (length (get_or was c.args.leaving [])) c.take_over.new.from there i.wide_room (c.take_over.ensures.room ∙ width);
+      taken = λ by e w. taken_next rows was n c.args.leaving k c.take_over.new.row by here (i.taken by e w)
+          (c.take_over.ensures.made by (e ∙ sym width)
+          (subst (λ (t : List ℚ). IsWritten t k by made) (sym same) (subst (λ (t : List ℚ). IsWritten (get_or was n []) k by t) (sym room) (w n first c.if-i-leaving.false)))
+          ∙ ap (λ (t : List ℚ). substituted t k by) same);
+      left = leaving_stays rows n c.args.leaving c.take_over.new.row (get_or was c.args.leaving []) c.if-i-leaving.false i.left;
+      rest = others_stay rows was n c.take_over.new.row i.rest;
+      rest_room = others_stay from c.args.from.now n c.take_over.new.from i.rest_room;
     }

@@ -1,4 +1,4 @@
-use Rattle.std.proofs.Common.{ℕ, List, Result, Ok, Err, MatchResult, subst, ap, length, arith, ◌∙◌}
+use Rattle.std.proofs.Common.{ℕ, suc, List, Result, Ok, Err, MatchResult, subst, ap, length, arith, ◌∙◌}
 use Rattle.fractions.specs.Rational.{ℚ}
 use Rattle.dictionaries.specs.Narrow.{AreNarrow, IsNarrowSubstituted}
 use Rattle.tableau.specs.Written.{IsWritten, AreWritten}
@@ -20,6 +20,6 @@ pub returns-clause-made : goal.returns-clause-made
 returns-clause-made c =
     let old = c.self.inside.rows in
     let back = written_back old.items c.write_rows.new.into old.len (c.write_rows.ensures.size ∙ ap length c.deref_mut.ensures.value) (omega (arith, old.ok.0)) in
-    let rows = subst (λ r. AreWritten r c.args.leaving c.args.k c.args.by.now c.write_rows.new.into × AreNarrow r c.args.leaving c.args.k c.args.by.now)
+    let rows = subst (λ r. AreWritten r c.args.leaving (suc c.args.col) c.args.by.now c.write_rows.new.into × AreNarrow r c.args.leaving (suc c.args.col) c.args.by.now)
     c.deref.ensures.value c.in-Ok.ensures.made in
     rw (← c.of.view_is, ← back) (all_written _ _ _ _ _ _ rows c.in-Ok-write.ensures.made c.write-2.ensures.made)

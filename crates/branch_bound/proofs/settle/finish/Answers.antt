@@ -1,0 +1,4 @@
+use Rattle.branch_bound.proofs.settle.finish.Goals as goal
+
+pub returns-in-Split-clause-heard : goal.returns-in-Split-clause-heard
+returns-in-Split-clause-heard g c = rw c.in-Split.is c.split.ensures.heard
