@@ -7,7 +7,7 @@ use Rattle.formula_ast.specs.Tree.{Tree}
 use Rattle.recalculation.specs.Entries.{Book, Entry, Constant, Formula, Malformed, entry}
 use Rattle.recalculation.specs.Recalculation.{val}
 use Rattle.recalculation.specs.Walks.{has_walk, is_circular, is_formula, steps_to}
-use Rattle.affine_forms.specs.Forms.{decision_form}
+use Rattle.form_values.specs.Entries.{open_decision}
 use Rattle.form_values.specs.declared.abs.Abs.TheVariants.{Affine}
 use Rattle.workbook.specs.declared.place.Place.{Place}
 use Rattle.workbook.specs.declared.place.Place.TheVariants as place
@@ -92,7 +92,7 @@ module _ (book : Book) (adj : List Cell) (table : Table) where
     there_looks (place.Side k) is undecided free b h = (subst (λ cells. Contains cells b) same_looks h.2, is_opened b h.0 h.1)
 
 -- ---- a cell that is to be decided is its number, and looks at nothing
-pub decided_is : (book : Book) (decisions : Decisions) (p : Place) (t : Tree) (j : ℕ) → decision_at decisions p ≡ Some j → Form (Affine (decision_form j)) ≡ place_form book decisions p t
+pub decided_is : (book : Book) (decisions : Decisions) (p : Place) (t : Tree) (j : ℕ) → decision_at decisions p ≡ Some j → Form (Affine (open_decision j)) ≡ place_form book decisions p t
 decided_is book decisions (place.Cell a) t j e = sym (decision_is_itself book decisions a j e)
 decided_is book decisions (place.Side k) t j e = cc
 

@@ -4,7 +4,7 @@ use Rattle.std.specs.FinMap.{contains_key}
 use Rattle.cell_refs.specs.declared.cell.Cell.{Cell}
 use Rattle.sheet_model.specs.declared.value.Value.TheVariants.{Empty}
 use Rattle.recalculation.specs.Entries.{Book, Entry, Constant, Formula, Malformed, entry}
-use Rattle.affine_forms.specs.Forms.{decision_form}
+use Rattle.form_values.specs.Entries.{open_decision}
 use Rattle.form_values.specs.declared.abs.Abs.{Abs}
 use Rattle.form_values.specs.declared.abs.Abs.TheVariants.{Known, Affine}
 use Rattle.workbook.specs.declared.place.Place.TheVariants as place
@@ -25,7 +25,7 @@ form_said (Some (Formula t)) kept = form_kept kept
 form_said (Some Malformed) kept = None
 
 abbrev pub decided_or : Option ℕ → Option Abs → Option Abs
-decided_or (Some j) form = Some (Affine (decision_form j))
+decided_or (Some j) form = Some (Affine (open_decision j))
 decided_or None form = form
 
 abbrev pub known_form : Book → List Cell → Table → Cell → Option Abs

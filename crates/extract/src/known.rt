@@ -7,11 +7,10 @@ ghost use Rattle.extract.specs.Knowing.{form_kept, form_said, known_form};
 ghost use Rattle.extract.specs.Tables.{form_at};
 
 use crate::table::FormTable;
-use affine_forms::Form;
 use cell_refs::Cell;
 use form_extraction::CellForm;
 use form_parts::FormsOfCells;
-use form_values::Abs;
+use form_values::{Abs, Open};
 use memory::Memory;
 use sheet_model::{Text, Value};
 use std::alloc::Global;
@@ -33,7 +32,7 @@ impl FormsOfCells for Known<'_> {
             ≡ known_form (book_of self.now.book.now) self.now.adj.now self.now.table.now cell) }
     {
         match self.adj.find(cell) {
-            Some(number) => Ok(Some(Abs::Affine(Form::decision(alloc, number)))),
+            Some(number) => Ok(Some(Abs::Affine(Open::decision(alloc, number)))),
             None => form_said(alloc, self.book, self.table, cell),
         }
     }

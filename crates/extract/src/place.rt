@@ -12,10 +12,9 @@ use crate::least::least_without;
 use crate::left::left_by;
 use crate::steps::Steps;
 use crate::table::FormTable;
-use affine_forms::Form;
 use form_extraction::{CellForm, Outcome};
 use form_parts::Part;
-use form_values::Abs;
+use form_values::{Abs, Open};
 use formula_ast::Expr;
 use memory::Memory;
 use std::alloc::Global;
@@ -65,7 +64,7 @@ fn place_form(
         ≡ place_form (book_of book.now) (numbered_in adj.now) place tree.now) }
 {
     match decision_at(adj, place) {
-        Some(number) => Ok(CellForm::Form(Abs::Affine(Form::decision(alloc, number)))),
+        Some(number) => Ok(CellForm::Form(Abs::Affine(Open::decision(alloc, number)))),
         None => formula_form(alloc, book, adj, place, tree, got),
     }
 }

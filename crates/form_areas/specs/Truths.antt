@@ -1,6 +1,5 @@
--- What an answer says of the values under all assignments, where the arguments are sound.
+-- What an answer says of the values under all assignments.
 use Rattle.std.specs.Prelude.{◌≡◌, ℕ, List, [], ◌∷◌, map, Result, Ok, Err, ⊤}
-use Rattle.std.specs.List.{AllByRecursion}
 use Rattle.calculations.specs.Calculation.{exact}
 use Rattle.cell_refs.specs.declared.error_kind.ErrorKind.{ErrorKind}
 use Rattle.formula_ast.specs.declared.func.Func.TheVariants as func
@@ -14,7 +13,7 @@ use Rattle.sheet_funcs.specs.Products as products
 use Rattle.sheet_funcs.specs.Rounding.{number_of}
 use Rattle.sheet_funcs.specs.declared.pick.Pick.{Pick}
 use Rattle.affine_forms.specs.Forms.{Assignment}
-use Rattle.form_values.specs.Meaning.{arg_at, IsSound}
+use Rattle.form_values.specs.Meaning.{arg_at}
 use Rattle.form_values.specs.declared.abs.Abs.{Abs}
 use Rattle.form_values.specs.declared.abs.AbsArg.{AbsArg}
 use Rattle.form_values.specs.declared.refusal.OpRefusal.{OpRefusal}
@@ -30,12 +29,12 @@ use Rattle.form_truth.specs.Rows.{ArgumentVaries}
 -- ---- products
 -- of SUMPRODUCT: where the answer is Break, the product of some first factors in one place isn't affine
 abbrev pub IsTrueProductSum : List AbsArg → Result AbsArg OpRefusal → Type 0
-IsTrueProductSum args answer = AllByRecursion IsSound args → IsAnswer (called_at func.SumProduct args) args (FactorsBend args) answer
+IsTrueProductSum args answer = IsAnswer (called_at func.SumProduct args) args (FactorsBend args) answer
 
 -- of MMULT: where the answer is Break, the product of an element of a row and one of a column isn't affine
 abbrev pub IsTrueMatrixProduct : List AbsArg → Result AbsArg OpRefusal → Type 0
 IsTrueMatrixProduct args answer =
-    (a b : AbsArg) → args ≡ a ∷ b ∷ [] → AllByRecursion IsSound args → IsAnswer (called_at func.MMult args) args (PairBends a b) answer
+    (a b : AbsArg) → args ≡ a ∷ b ∷ [] → IsAnswer (called_at func.MMult args) args (PairBends a b) answer
 
 -- ---- picks
 -- what is given is picked under every assignment; and an argument that leaves it undecided isn't the same under all
@@ -47,13 +46,12 @@ IsPicked value args (Err _) = ⊤
 -- of INDEX, whatever the grid is that is its first argument
 abbrev pub IsTrueIndex : ℕ → ℕ → List AbsArg → Result Pick OpRefusal → Type 0
 IsTrueIndex rows columns places answer =
-    (grid : AbsArg) → AllByRecursion IsSound places → IsPicked (λ x. pick_of rows columns (map (arg_at x) places)) (grid ∷ places) answer
+    (grid : AbsArg) → IsPicked (λ x. pick_of rows columns (map (arg_at x) places)) (grid ∷ places) answer
 
 -- of MATCH
 abbrev pub IsTrueLookup : AbsArg → AbsArg → AbsArg → Result Pick OpRefusal → Type 0
 IsTrueLookup key keys kind answer =
-    AllByRecursion IsSound (key ∷ keys ∷ kind ∷ [])
-    → IsPicked (λ x. lookup_pick (arg_at x key) (arg_at x keys) (number_of (arg_at x kind))) (key ∷ keys ∷ kind ∷ []) answer
+    IsPicked (λ x. lookup_pick (arg_at x key) (arg_at x keys) (number_of (arg_at x kind))) (key ∷ keys ∷ kind ∷ []) answer
 
 -- what is given is the place of the value, or the error that it is, in the table under every assignment
 abbrev pub IsFound : (Assignment → Arg) → (Assignment → Rectangle) → List AbsArg → Result (Result (ℕ × ℕ) ErrorKind) OpRefusal → Type 0
@@ -64,11 +62,11 @@ IsFound value table args (Err _) = ⊤
 -- of VLOOKUP in a table whose first column has these keys
 abbrev pub IsTrueDown : ℕ → List Abs → AbsArg → AbsArg → List AbsArg → Result (Result (ℕ × ℕ) ErrorKind) OpRefusal → Type 0
 IsTrueDown fields keys key field rest answer =
-    (table : AbsArg) → fields ≡ (grid_of table).columns → keys ≡ first_column (grid_of table) → AllByRecursion IsSound (key ∷ table ∷ field ∷ rest)
+    (table : AbsArg) → fields ≡ (grid_of table).columns → keys ≡ first_column (grid_of table)
     → IsFound (λ x. exact (vlookup_of (map (arg_at x) (key ∷ table ∷ field ∷ rest)))) (λ x. functions.grid_of (arg_at x table)) (key ∷ table ∷ field ∷ rest) answer
 
 -- of HLOOKUP in a table whose first row has these keys; what is given is the place in the table with rows and columns exchanged
 abbrev pub IsTrueAcross : ℕ → List Abs → AbsArg → AbsArg → List AbsArg → Result (Result (ℕ × ℕ) ErrorKind) OpRefusal → Type 0
 IsTrueAcross fields keys key field rest answer =
-    (table : AbsArg) → fields ≡ (transposed (grid_of table)).columns → keys ≡ first_column (transposed (grid_of table)) → AllByRecursion IsSound (key ∷ table ∷ field ∷ rest)
+    (table : AbsArg) → fields ≡ (transposed (grid_of table)).columns → keys ≡ first_column (transposed (grid_of table))
     → IsFound (λ x. exact (hlookup_of (map (arg_at x) (key ∷ table ∷ field ∷ rest)))) (λ x. products.transposed (functions.grid_of (arg_at x table))) (key ∷ table ∷ field ∷ rest) answer

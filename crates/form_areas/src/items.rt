@@ -135,7 +135,7 @@ fn add_element(total: &mut Form, alloc: Global, item: &Abs) -> Result<(), FormSt
 {
     match item {
         Abs::Known(value) => add_known(total, alloc, value),
-        Abs::Affine(form) => total.add_to(form),
+        Abs::Affine(open) => total.add_to(&open.form),
         Abs::Test(_, _) => Ok(()),
     }
 }

@@ -158,7 +158,7 @@ pub(crate) fn factor_at(items: &[Abs], place: usize) -> Number<'_>
 {
     match items.get(place) {
         Some(Abs::Known(Value::Number(number))) => Number::Known(*number),
-        Some(Abs::Affine(form)) => Number::Open(form),
+        Some(Abs::Affine(open)) => Number::Open(&open.form),
         _ => Number::Known(Frac::zero()),
     }
 }

@@ -42,8 +42,10 @@ pub(crate) fn if_part(alloc: Global, whole: Span, args: &[Part]) -> Result<Part,
     };
     match value_of(value) {
         Ok(Abs::Known(value)) => known_test(alloc, whole, looks, value, others),
-        Ok(Abs::Affine(form)) => open_test(alloc, whole, looks, form, Rel::Ne, args),
-        Ok(Abs::Test(form, relation)) => open_test(alloc, whole, looks, form, *relation, args),
+        Ok(Abs::Affine(open)) => open_test(alloc, whole, looks, &open.form, Rel::Ne, args),
+        Ok(Abs::Test(open, relation)) => {
+            open_test(alloc, whole, looks, &open.form, *relation, args)
+        }
         Err(kind) => known_test(alloc, whole, looks, &Value::Error(kind), others),
     }
 }

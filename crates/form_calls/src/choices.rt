@@ -13,12 +13,11 @@ ghost use Rattle.recalculation.specs.Evaluation.{at_chosen, choose_place, choose
 ghost use Rattle.recalculation.specs.Looks.{chosen_looks, choosing_looks};
 
 use crate::ends::{error_part, miscounted_part, valueless_part};
-use affine_forms::Form;
 use cell_refs::{Cell, ErrorKind, Span};
 use form_extraction::{Outcome, Why};
 use form_ops::{constant_of, value_of};
 use form_parts::{Part, push_cells, single_of};
-use form_values::{Abs, AbsArg};
+use form_values::{Abs, AbsArg, Open};
 use memory::Memory;
 use sheet_model::{Value, to_number};
 use std::alloc::Global;
@@ -198,11 +197,11 @@ fn known_place(value: &Value) -> Result<i128, ErrorKind>
 }
 
 // The place that a form is, where it has no terms.
-fn open_place(form: &Form) -> Option<Result<i128, ErrorKind>>
+fn open_place(form: &Open) -> Option<Result<i128, ErrorKind>>
     ensures { result
         ≡ place_in (wanted (Affine form.now)) (known_number (wanted (Affine form.now))) }
 {
-    match constant_of(form) {
+    match constant_of(&form.form) {
         Some(number) => Some(Ok(number.floor())),
         None => None,
     }

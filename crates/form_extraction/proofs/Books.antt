@@ -17,8 +17,10 @@ use Rattle.recalculation.specs.Walks.{is_circular, unfolded}
 use Rattle.recalculation.specs.Evaluation as evaluation
 use Rattle.recalculation.specs.Evaluation.{evaluated, cell_value}
 use Rattle.recalculation.specs.Recalculation.{entry_value, number_or, recalculated, bounded_val, val}
-use Rattle.affine_forms.specs.Forms.{Assignment, decision_form}
-use Rattle.form_values.specs.Meaning.{abs_at, IsAbs}
+use Rattle.affine_forms.specs.Forms.{Assignment}
+use Rattle.form_values.specs.Entries.{open_decision}
+use Rattle.form_values.specs.Meaning.{abs_at}
+use Rattle.form_values.proofs.Opening.{IsAbs}
 use Rattle.form_values.specs.declared.abs.Abs.{Abs}
 use Rattle.form_values.specs.declared.abs.Abs.TheVariants.{Known, Affine, Test}
 use Rattle.form_values.specs.declared.abs.AbsArg.{AbsArg}
@@ -31,7 +33,7 @@ use Rattle.form_extraction.specs.declared.forms.CellForm.TheVariants.{Form, Bloc
 use Rattle.form_extraction.specs.declared.forms.CellForm.TheVariants as result
 use Rattle.form_extraction.specs.Places.{form_in, Decisions, overriding, left_by, filled, least_without, by_outcome, by_looks, entry_form, decision_or, form_over, bounded_form, form_of}
 use Rattle.form_extraction.proofs.Worth.{IsWorth, Agree}
-use Rattle.form_extraction.specs.Laws.{FormIsTheValue, OpenHasATerm}
+use Rattle.form_extraction.specs.Laws.{FormIsTheValue}
 use Rattle.form_extraction.proofs.Trees.{part_true}
 
 -- a form with the value of its cell
@@ -77,7 +79,7 @@ module _ (x : Assignment) where
   entry_worth forms values agree (Some Malformed) b h = cc
 
   -- ---- cells
-  decision_worth : (j : ℕ) → IsFormOf x (Number (x j)) (Affine (decision_form j))
+  decision_worth : (j : ℕ) → IsFormOf x (Number (x j)) (Affine (open_decision j))
   decision_worth j = ((record { rise = (omega arith, (λ e. ne_of_lt zero_ℚ one_ℚ zero_lt_one (sym e)), tt) }, refl), ap Number (whole (x j)))
     where
       whole : (y : ℚ) → y ≡ zero_ℚ +ℚ (one_ℚ *ℚ y +ℚ zero_ℚ)
@@ -92,7 +94,7 @@ module _ (x : Assignment) where
 
   cell_worth : (d : Option ℕ) (circular : Bool) (forms : Cell → Option Abs) (values : Cell → Value) → Agree x forms values → (e : Option Entry) (b : Abs)
       → decision_or d (if circular then Circular else entry_form forms e) ≡ Form b → IsFormOf x (number_or (option_map x d) (if circular then Error kind.Circular else entry_value values e)) b
-  cell_worth (Some j) circular forms values agree e b h = form_same (Number (x j)) (Affine (decision_form j)) b h (decision_worth j)
+  cell_worth (Some j) circular forms values agree e b h = form_same (Number (x j)) (Affine (open_decision j)) b h (decision_worth j)
   cell_worth None true forms values agree e b h = cc
   cell_worth None false forms values agree e b h = entry_worth forms values agree e b h
 
@@ -128,6 +130,3 @@ form_worth book decisions a f h x = unfolded_worth x book decisions (suc (length
 
 pub form_is_the_value : FormIsTheValue
 form_is_the_value book decisions a f h x = (form_worth book decisions a f h x).1
-
-pub open_has_a_term : OpenHasATerm
-open_has_a_term book decisions a f h = (form_worth book decisions a f h (λ j. zero_ℚ)).0

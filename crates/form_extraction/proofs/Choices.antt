@@ -23,12 +23,14 @@ use Rattle.sheet_funcs.specs.Arguments.{value_of}
 use Rattle.sheet_funcs.specs.Rounding.{place_of}
 use Rattle.recalculation.specs.Evaluation as evaluation
 use Rattle.recalculation.specs.Evaluation.{evaluated, all_evaluated, at_chosen, choosing, if_place, if_without, iferror_place, is_one_error, choose_place, choose_without}
-use Rattle.affine_forms.specs.Forms.{Assignment, AffineForm, worth}
+use Rattle.affine_forms.specs.Forms.{Assignment, worth}
 use Rattle.affine_forms.specs.declared.rel.Rel.{Rel}
 use Rattle.affine_forms.specs.declared.rel.Rel.TheVariants as rel
 use Rattle.affine_forms.proofs.Exact.{exact-followed_by, exact-turned_into}
-use Rattle.form_values.specs.Meaning.{abs_at, arg_at, IsAbs, IsOpen, IsSound}
+use Rattle.form_values.specs.Meaning.{abs_at, arg_at}
+use Rattle.form_values.proofs.Opening.{IsAbs, IsSound, arg_sound}
 use Rattle.affine_forms.specs.Relations.{holds}
+use Rattle.form_values.specs.declared.open_form.Open.{Open}
 use Rattle.form_values.specs.declared.abs.Abs.{Abs}
 use Rattle.form_values.specs.declared.abs.Abs.TheVariants.{Known, Affine, Test}
 use Rattle.form_values.specs.declared.abs.AbsArg.{AbsArg}
@@ -99,14 +101,14 @@ module _ (x : Assignment) (forms : Cell → Option Abs) (values : Cell → Value
   abbrev if_value : Trees → Value → Arg
   if_value ts v = exact (evaluation.chosen_or (arg.One (if_without (logical_in v))) (at_chosen (all_evaluated values ts) (if_place (logical_in v))))
 
-  open_true : (s : Span) (p : Part) (ts : Trees) → ArePartsTrue x forms values ts → (t : AffineForm) (r : Rel) → IsOpen t → (a : AbsArg) → both_branches s p (parts_of forms ts) t r ≡ Gives a
-      → IsWorth x (if_value ts (Logical (holds r (worth x t)))) a
-  open_true s p ts h t r o a e =
-      let one = branch ts h 0 (λ one. on_branch (slice_get (parts_of forms ts) 1) (λ other. outcome_by s (p ∷ parts_of forms ts) (if_test t r one other))) a e in
-      let other = branch ts h 1 (λ other. outcome_by s (p ∷ parts_of forms ts) (if_test t r one.value other)) a one.goes in
-      let g = tried_first s (p ∷ parts_of forms ts) (if_test t r one.value other.value) Gives a other.goes in
-      let c = table_right.choice (One (Test t r)) one.value other.value g.value t r refl (o, tt) one.sound other.sound g.is in
-      subst (IsWorth x _) (gives_same _ a g.goes) (c.sound, by_test (holds r (worth x t)) one.value other.value one.is other.is ∙ c.same x)
+  open_true : (s : Span) (p : Part) (ts : Trees) → ArePartsTrue x forms values ts → (t : Open) (r : Rel) → (a : AbsArg) → both_branches s p (parts_of forms ts) t.form r ≡ Gives a
+      → IsWorth x (if_value ts (Logical (holds r (worth x t.form)))) a
+  open_true s p ts h t r a e =
+      let one = branch ts h 0 (λ one. on_branch (slice_get (parts_of forms ts) 1) (λ other. outcome_by s (p ∷ parts_of forms ts) (if_test t.form r one other))) a e in
+      let other = branch ts h 1 (λ other. outcome_by s (p ∷ parts_of forms ts) (if_test t.form r one.value other)) a one.goes in
+      let g = tried_first s (p ∷ parts_of forms ts) (if_test t.form r one.value other.value) Gives a other.goes in
+      let c = table_right.choice (One (Test t r)) one.value other.value g.value t.form r refl g.is in
+      subst (IsWorth x _) (gives_same _ a g.goes) (arg_sound g.value, by_test (holds r (worth x t.form)) one.value other.value one.is other.is ∙ c x)
     where
       by_test : (b : Bool) (one other : AbsArg)
           → exact (evaluation.chosen_or (arg.One (Logical false)) (slice_get (all_evaluated values ts) 0)) ≡ single (arg_at x one)
@@ -118,10 +120,10 @@ module _ (x : Assignment) (forms : Cell → Option Abs) (values : Cell → Value
   test_true : (s : Span) (p : Part) (ts : Trees) → ArePartsTrue x forms values ts → (b : Abs) → IsAbs b → (a : AbsArg) → by_test s p (parts_of forms ts) b ≡ Gives a → IsWorth x (if_value ts (abs_at x b)) a
   test_true s p ts h (Known v) o a e =
       choice_true ts h (if_place (logical_in v)) (arg.One (if_without (logical_in v))) (One (Known (if_without (logical_in v)))) a ((tt, tt), refl) e
-  test_true s p ts h (Affine f) o a e =
-      subst (λ b. IsWorth x (exact (evaluation.chosen_or (arg.One (if_without (Ok b))) (at_chosen (all_evaluated values ts) (if_place (Ok b))))) a) (sym (not_zero (worth x f)))
-      (open_true s p ts h f rel.Ne o a e)
-  test_true s p ts h (Test f r) o a e = open_true s p ts h f r o a e
+  test_true s p ts h (Affine t) o a e =
+      subst (λ b. IsWorth x (exact (evaluation.chosen_or (arg.One (if_without (Ok b))) (at_chosen (all_evaluated values ts) (if_place (Ok b))))) a) (sym (not_zero (worth x t.form)))
+      (open_true s p ts h t rel.Ne a e)
+  test_true s p ts h (Test t r) o a e = open_true s p ts h t r a e
 
   pub if_true : (s : Span) (ts : Trees) → ArePartsTrue x forms values ts → (a : AbsArg) → if_outcome s (parts_of forms ts) ≡ Gives a
       → IsWorth x (exact (choosing func.If (all_evaluated values ts))) a

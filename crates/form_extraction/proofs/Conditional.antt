@@ -19,6 +19,7 @@ use Rattle.sheet_funcs.specs.Criteria.{meets, sum_where, sumif_by, sumif_of}
 use Rattle.sheet_funcs.specs.Arguments as functions
 use Rattle.recalculation.specs.Evaluation.{CellGrid, evaluated, all_evaluated}
 use Rattle.affine_forms.specs.Forms.{Assignment}
+use Rattle.form_values.proofs.Opening.{arg_sound}
 use Rattle.form_values.specs.Meaning.{abs_at, arg_at}
 use Rattle.form_values.specs.Trials.{Refusal}
 use Rattle.form_values.specs.declared.abs.Abs.{Abs}
@@ -158,15 +159,15 @@ module _ (x : Assignment) (forms : Cell → Option Abs) (values : Cell → Value
         let o = on_some x forms values agree (elements_at s places) (λ items. outcome_by whole parts (sum_of_elements items)) a e in
         let t = taken_match x forms values agree s (grid_of summed) m places o.0 o.1 in
         let q = tried_first whole parts (sum_of_elements o.0) Gives a o.2 in
-        let w = represents _ (Area (record { rows = 1; columns = 1; items = o.0 }) ∷ []) (exact (sum_of_elements o.0)) q.value (summed_is_right (record { rows = 1; columns = 1; items = o.0 }) t.0) q.is in
+        let w = represents _ (Area (record { rows = 1; columns = 1; items = o.0 }) ∷ []) (exact (sum_of_elements o.0)) q.value (summed_is_right (record { rows = 1; columns = 1; items = o.0 })) q.is in
         subst (IsWorth x _) (gives_same q.value a q.goes) (
-          w.sound,
+          arg_sound q.value,
           ap₂ (λ c us. exact (on_ok (numbers_among (met_among c us (grid_of summed).items)) (λ xs. counted (total xs)))) (value_known (wanted.value_of criterion) p.criterion p.criterion_known x)
               (grid_known tested p.elements p.elements_known x)
               ∙ ap (λ rs. exact (on_ok (functions.all_or_error rs) (λ xs. counted (total xs))))
               (met_numbers p.criterion p.elements (grid_of summed).items 0 (λ i. slice_index_or (grid_of summed).items i Empty) (λ k. ap (λ n. slice_index_or (grid_of summed).items n Empty) (omega arith))
               ∙ ap (λ places. filter_map number_at (map (λ i. slice_index_or (grid_of summed).items i Empty) places)) p.same ∙ ap (filter_map number_at) t.1)
-              ∙ w.same x,
+              ∙ w x,
         )
 
     abbrev by_met : Outcome

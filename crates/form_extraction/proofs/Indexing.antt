@@ -20,7 +20,8 @@ use Rattle.sheet_funcs.specs.declared.pick.Pick.TheVariants.{Part as Picked, Fau
 use Rattle.recalculation.specs.Evaluation.{CellGrid, evaluated, all_evaluated}
 use Rattle.affine_forms.specs.Forms.{Assignment}
 use Rattle.affine_forms.proofs.Exact.{exact-followed_by, exact-turned_into}
-use Rattle.form_values.specs.Meaning.{abs_at, arg_at, IsSound}
+use Rattle.form_values.specs.Meaning.{abs_at, arg_at}
+use Rattle.form_values.proofs.Opening.{IsSound}
 use Rattle.form_values.specs.Trials.{Refusal}
 use Rattle.form_values.specs.declared.abs.Abs.{Abs}
 use Rattle.form_values.specs.declared.abs.Abs.TheVariants.{Known}
@@ -65,7 +66,7 @@ module _ (x : Assignment) (forms : Cell → Option Abs) (values : Cell → Value
 
 -- what INDEX picks
 picks_same : (x : Assignment) (rows columns : ℕ) (args : List AbsArg) → AllByRecursion IsSound args → (pick : Pick) → exact (pick_form rows columns args) ≡ Ok pick → pick_of rows columns (map (arg_at x) args) ≡ pick
-picks_same x rows columns args h pick e = picked (exact (pick_form rows columns args)) (index_is_right rows columns (One (Known Empty)) args h) e
+picks_same x rows columns args h pick e = picked (exact (pick_form rows columns args)) (index_is_right rows columns (One (Known Empty)) args) e
   where
     picked : (r : Result Pick Refusal) → IsPick (λ x. pick_of rows columns (map (arg_at x) args)) (One (Known Empty) ∷ args) r → r ≡ Ok pick → pick_of rows columns (map (arg_at x) args) ≡ pick
     picked (Ok p) k e = let s : p ≡ pick = cc in k x ∙ s
@@ -121,7 +122,7 @@ module _ (x : Assignment) (forms : Cell → Option Abs) (values : Cell → Value
         → taken_from g (pick_of g.rows g.columns (map (arg_at x) args)) ≡ arg.One (Error k)
     certain_taken rows columns d e args h i =
         error_taken (pick_of g.rows g.columns (map (arg_at x) args))
-        (certain_is_picked x g.rows g.columns seen args k h (sym (ap₂ (λ rows columns. index_error rows columns seen args) d e) ∙ i))
+        (certain_is_picked x g.rows g.columns seen args k (sym (ap₂ (λ rows columns. index_error rows columns seen args) d e) ∙ i))
 
   pub index_true : (s : Span) (ts : Trees) → ArePartsTrue x forms values ts → (a : AbsArg) → index_outcome forms s (parts_of forms ts) ≡ Gives a
       → IsWorth x (exact (index_of (map exact (all_evaluated values ts)))) a

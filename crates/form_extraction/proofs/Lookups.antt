@@ -24,7 +24,8 @@ use Rattle.recalculation.specs.Evaluation.{CellGrid, values_in, evaluated, all_e
 use Rattle.recalculation.specs.Looks.{exchanged as exchanged_cells}
 use Rattle.recalculation.proofs.GridCells.{IsWhole, exchanged_values}
 use Rattle.affine_forms.specs.Forms.{Assignment}
-use Rattle.form_values.specs.Meaning.{abs_at, arg_at, IsAbs, IsSound}
+use Rattle.form_values.specs.Meaning.{abs_at, arg_at}
+use Rattle.form_values.proofs.Opening.{IsAbs, IsSound}
 use Rattle.form_values.specs.declared.abs.Abs.{Abs}
 use Rattle.form_values.specs.declared.abs.Abs.TheVariants.{Known}
 use Rattle.form_values.specs.declared.abs.AbsArg.{AbsArg}

@@ -171,8 +171,8 @@ module _ (forms : Cell → Option Abs) (total : (c : Cell) → (b : Abs) × (for
 
   test_never : (s : Span) (p : Part) (ps : List Part) → HaveForms ps → (b : Abs) → Never (by_test s p ps b)
   test_never s p ps h (Known v) = chosen_never ps h (if_place (logical_in v)) (One (Known (if_without (logical_in v))))
-  test_never s p ps h (Affine f) = both_never s p ps h f rel.Ne
-  test_never s p ps h (Test f r) = both_never s p ps h f r
+  test_never s p ps h (Affine o) = both_never s p ps h o.form rel.Ne
+  test_never s p ps h (Test o r) = both_never s p ps h o.form r
 
   place_never : (p : Part) (ps : List Part) → HaveForms ps → (o : Option (Result ℤ ErrorKind)) → Never (by_place p ps o)
   place_never p ps h (Some n) e = chosen_never ps h (choose_place n) _ e

@@ -23,7 +23,8 @@ use Rattle.affine_forms.specs.Forms.{Assignment, AffineForm}
 use Rattle.affine_forms.specs.declared.rel.Rel.{Rel}
 use Rattle.affine_forms.specs.declared.rel.Rel.TheVariants as rel
 use Rattle.affine_forms.proofs.Exact.{exact-followed_by, exact-turned_into}
-use Rattle.form_values.specs.Meaning.{arg_at, IsSound}
+use Rattle.form_values.specs.Meaning.{arg_at}
+use Rattle.form_values.proofs.Opening.{IsSound}
 use Rattle.form_values.specs.Refusals.{Varies}
 use Rattle.form_values.specs.Trials.{Refusal, Undecided}
 use Rattle.form_values.specs.declared.abs.Abs.{Abs}
@@ -78,11 +79,6 @@ module _ (forms : Cell → Option Abs) (values : Assignment → Cell → Value) 
   IsBranch none n v = v ≡ One (Known (Logical false))
   IsBranch (more t ts) zero v = IsOf forms values agree t v
   IsBranch (more t ts) (suc n) v = IsBranch ts n v
-
-  branch_sound : (ts : Trees) (n : ℕ) (v : AbsArg) → IsBranch ts n v → IsSound v
-  branch_sound none n v k = subst IsSound (sym k) (tt, tt)
-  branch_sound (more t ts) zero v k = k.0
-  branch_sound (more t ts) (suc n) v k = branch_sound ts n v k
 
   branch_value : (x : Assignment) (ts : Trees) (n : ℕ) (v : AbsArg) → IsBranch ts n v → exact (evaluation.chosen_or (arg.One (Logical false)) (slice_get (all_evaluated (values x) ts) n)) ≡ single (arg_at x v)
   branch_value x none n v k = ap (λ v. single (arg_at x v)) (sym k)
@@ -139,10 +135,10 @@ module _ (forms : Cell → Option Abs) (values : Assignment → Cell → Value) 
         whole_refuted values whole at cause e
         (break_so values whole cause c
         (some_same _ _ (λ x. ap elements_of (if_value a one other k l m x))
-        (subst (IsOutcomeOf (λ x. exact (chosen (arg_at x a) (arg_at x one) (arg_at x other))) (a ∷ one ∷ other ∷ [])) d (choice_is_right a one other f r q k.0 (branch_sound ts 0 one l) (branch_sound ts 1 other m)))))
+        (subst (IsOutcomeOf (λ x. exact (chosen (arg_at x a) (arg_at x one) (arg_at x other))) (a ∷ one ∷ other ∷ [])) d (choice_is_right a one other f r q))))
     if_own a one other k l m f r q at cause (undecided i d e c) =
         in_arguments values s func.If all at cause
-        (by i (subst (IsOutcomeOf (λ x. exact (chosen (arg_at x a) (arg_at x one) (arg_at x other))) (a ∷ one ∷ other ∷ [])) d (choice_is_right a one other f r q k.0 (branch_sound ts 0 one l) (branch_sound ts 1 other m))) e)
+        (by i (subst (IsOutcomeOf (λ x. exact (chosen (arg_at x a) (arg_at x one) (arg_at x other))) (a ∷ one ∷ other ∷ [])) d (choice_is_right a one other f r q)) e)
       where
         it_varies : (b : AbsArg) (i : ℕ) → (v : ArgumentVaries arg_at (a ∷ one ∷ other ∷ []) i) → v.argument ≡ b → Varies (λ x. arg_at x b)
         it_varies b i v e = subst (λ b. Varies (λ x. arg_at x b)) e v.varies
@@ -176,8 +172,8 @@ module _ (forms : Cell → Option Abs) (values : Assignment → Cell → Value) 
         → by_test s (part_of forms t) (parts_of forms ts) b ≡ Refused at cause → IsRefuted values whole at cause
     test_refuted h a k (Known v) q at cause e =
         in_arguments values s func.If all at cause (later_refuted values t ts at cause (chosen_refuted ts h (if_place (logical_in v)) (One (Known (if_without (logical_in v)))) at cause e))
-    test_refuted h a k (Affine f) q at cause e = open_refuted h a k f rel.Ne (ap asked q) at cause e
-    test_refuted h a k (Test f r) q at cause e = open_refuted h a k f r (ap asked q) at cause e
+    test_refuted h a k (Affine o) q at cause e = open_refuted h a k o.form rel.Ne (ap asked q) at cause e
+    test_refuted h a k (Test o r) q at cause e = open_refuted h a k o.form r (ap asked q) at cause e
 
   pub if_refuted : (s : Span) (ts : Trees) → ArePartsRefuted forms values agree ts → (at : Span) (cause : Why) → if_outcome s (parts_of forms ts) ≡ Refused at cause → IsRefuted values (tree.Call s func.If ts) at cause
   if_refuted s none h at cause e = absurd (gives_never _ at cause e)
@@ -202,7 +198,7 @@ module _ (forms : Cell → Option Abs) (values : Assignment → Cell → Value) 
   -- ---- CHOOSE
   -- a place that isn't known varies
   place_varies : (a : AbsArg) → IsSound a → (w : Wanted) → wanted.number_of a ≡ w → (c : Option ℚ) → known_number w ≡ c → place_in w c ≡ None → ArgumentVaries arg_at (a ∷ []) 0
-  place_varies a k w q c d n = by (exact (choose_form {A = AbsArg} a [])) refl (chosen_is_right a [] k)
+  place_varies a k w q c d n = by (exact (choose_form {A = AbsArg} a [])) refl (chosen_is_right a [])
     where
       open_place : (w : Wanted) → (c : Option ℚ) → known_number w ≡ c → place_in w c ≡ None → exact (choose_of {A = AbsArg} [] w) ≡ Err (Undecided 0)
       open_place (no_number k) c d n = cc

@@ -28,7 +28,8 @@ use Rattle.affine_forms.specs.Forms.{Assignment}
 use Rattle.affine_forms.specs.Steps.{total}
 use Rattle.form_values.specs.Entries.{entry}
 use Rattle.form_values.specs.Grids.{Raster}
-use Rattle.form_values.specs.Meaning.{abs_at, arg_at, IsAbs, IsSound}
+use Rattle.form_values.specs.Meaning.{abs_at, arg_at}
+use Rattle.form_values.proofs.Opening.{IsAbs, IsSound}
 use Rattle.form_values.specs.Refusals.{Varies}
 use Rattle.form_values.specs.Trials.{Refusal, Breaks, Undecided, on_given, given, made, one}
 use Rattle.form_values.specs.declared.abs.Abs.{Abs}
@@ -173,7 +174,7 @@ module _ (forms : Cell → Option Abs) (values : Assignment → Cell → Value) 
 
   -- ---- INDEX
   index_varies : (rows columns : ℕ) (args : List AbsArg) → AllByRecursion IsSound args → (r : Refusal) → exact (pick_form rows columns args) ≡ Err r → (i : ℕ) → r ≡ Undecided (suc i) → ArgumentVaries arg_at args i
-  index_varies rows columns args k r e i d = by (subst (IsPick (λ x. pick_of rows columns (map (arg_at x) args)) (One (Known Empty) ∷ args)) (e ∙ ap Err d) (index_is_right rows columns (One (Known Empty)) args k))
+  index_varies rows columns args k r e i d = by (subst (IsPick (λ x. pick_of rows columns (map (arg_at x) args)) (One (Known Empty) ∷ args)) (e ∙ ap Err d) (index_is_right rows columns (One (Known Empty)) args))
     where
       by : ArgumentVaries arg_at (One (Known Empty) ∷ args) (suc i) → ArgumentVaries arg_at args i
       by v = record { argument = v.argument; is_there = v.is_there; varies = v.varies }
@@ -183,9 +184,9 @@ module _ (forms : Cell → Option Abs) (values : Assignment → Cell → Value) 
   index_own s t ts g args k at cause (too_wide e c) = whole_refuted values _ at cause e (wide_so values _ cause c)
   index_own s t ts g args k at cause (behind b) = absurd (picked_never g b.value at cause b.goes)
   index_own s t ts g args k at cause (breaks d e c) =
-      absurd (subst (IsPick (λ x. pick_of g.rows g.columns (map (arg_at x) args)) (One (Known Empty) ∷ args)) d (index_is_right g.rows g.columns (One (Known Empty)) args (are_sound forms values agree ts args k)))
+      absurd (subst (IsPick (λ x. pick_of g.rows g.columns (map (arg_at x) args)) (One (Known Empty) ∷ args)) d (index_is_right g.rows g.columns (One (Known Empty)) args))
   index_own s t ts g args k at cause (undecided zero d e c) =
-      absurd (never (subst (IsPick (λ x. pick_of g.rows g.columns (map (arg_at x) args)) (One (Known Empty) ∷ args)) d (index_is_right g.rows g.columns (One (Known Empty)) args (are_sound forms values agree ts args k))))
+      absurd (never (subst (IsPick (λ x. pick_of g.rows g.columns (map (arg_at x) args)) (One (Known Empty) ∷ args)) d (index_is_right g.rows g.columns (One (Known Empty)) args)))
     where
       never : ArgumentVaries arg_at (One (Known Empty) ∷ args) 0 → ⊥
       never v =
@@ -282,7 +283,7 @@ module _ (forms : Cell → Option Abs) (values : Assignment → Cell → Value) 
 
       row : (c : AbsArg) (rest : List AbsArg) → IsSound c → AllByRecursion IsSound rest → IsRow c rest (exact (record_form g.columns keys (value_of a) (number_of c) (kinds_in rest)))
       row c rest p q =
-          subst (λ keys. IsRow c rest (exact (record_form g.columns keys (value_of a) (number_of c) (kinds_in rest)))) (keys_are g keys are) (lookup_is_right a (Area table) c rest k.0 table_sound p q)
+          subst (λ keys. IsRow c rest (exact (record_form g.columns keys (value_of a) (number_of c) (kinds_in rest)))) (keys_are g keys are) (lookup_is_right a (Area table) c rest)
 
       argument_refuted : (c : AbsArg) (rest : List AbsArg) → AreOf forms values agree ts (c ∷ rest) → (i : ℕ) → ArgumentVaries arg_at (a ∷ Area table ∷ c ∷ rest) i → (at : Span) → span_at s parts i ≡ at
           → (cause : Why) → cause ≡ why.Undecided → Refuted all at cause
@@ -376,8 +377,8 @@ module _ (forms : Cell → Option Abs) (values : Assignment → Cell → Value) 
     places_own a c k l g at cause (behind b) =
         let i = elements_never (elements_at g b.value) (summed_of g) at cause b.goes in
         total_own i.value at cause (tried_own s (parts_of forms ts) (sum_of_elements i.value) Gives at cause i.goes)
-    places_own a c k l g at cause (breaks d e w) = absurd (subst (IsPick _ (a ∷ c ∷ [])) d (places_are_right a c k.0 l.0))
-    places_own a c k l g at cause (undecided i d e w) = by i (subst (IsPick _ (a ∷ c ∷ [])) d (places_are_right a c k.0 l.0)) e
+    places_own a c k l g at cause (breaks d e w) = absurd (subst (IsPick _ (a ∷ c ∷ [])) d (places_are_right a c))
+    places_own a c k l g at cause (undecided i d e w) = by i (subst (IsPick _ (a ∷ c ∷ [])) d (places_are_right a c)) e
       where
         by : (i : ℕ) → ArgumentVaries arg_at (a ∷ c ∷ []) i → span_at s (parts_of forms ts) i ≡ at → IsRefuted values sum at cause
         by zero y e =

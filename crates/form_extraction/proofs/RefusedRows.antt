@@ -16,7 +16,7 @@ use Rattle.sheet_funcs.specs.Table.{called}
 use Rattle.recalculation.specs.Evaluation.{evaluated, all_evaluated, call_of}
 use Rattle.affine_forms.specs.Forms.{Assignment}
 use Rattle.affine_forms.proofs.Exact.{exact-followed_by}
-use Rattle.form_values.specs.Meaning.{arg_at, IsSound}
+use Rattle.form_values.specs.Meaning.{arg_at}
 use Rattle.form_values.specs.Refusals.{Bends, SomeBends}
 use Rattle.form_values.specs.Trials.{Trial}
 use Rattle.form_values.specs.declared.abs.Abs.{Abs}
@@ -35,7 +35,7 @@ use Rattle.form_extraction.specs.Formulas.{part_of, parts_of}
 use Rattle.form_extraction.specs.Refuted.{IsPart, itself, in_call, in_left, in_right, IsAmong, first, later, PartBends, IsSo, IsRefuted}
 use Rattle.form_extraction.proofs.Worth.{Agree}
 use Rattle.form_extraction.proofs.Indexing.{each_exact}
-use Rattle.form_extraction.proofs.Refusing.{Behind, gives_never, Own, too_wide, behind, breaks, undecided, tried_own, AmongRefuted, PartIsRefuted, ArePartsRefuted, IsOf, AreOf, are_sound, all_are, part_first, parts_first, argument_varies}
+use Rattle.form_extraction.proofs.Refusing.{Behind, gives_never, Own, too_wide, behind, breaks, undecided, tried_own, AmongRefuted, PartIsRefuted, ArePartsRefuted, IsOf, AreOf, all_are, part_first, parts_first, argument_varies}
 
 -- ---- from parts to the whole
 pub some_same : (v w : Assignment → List Value) → ((x : Assignment) → w x ≡ v x) → SomeBends w → SomeBends v
@@ -74,7 +74,7 @@ only_among p t (later x ts h) = absurd (has_some p none h)
 
 module _ (forms : Cell → Option Abs) (values : Assignment → Cell → Value) (agree : (x : Assignment) → Agree x forms (values x)) where
   -- ---- operators in front and behind
-  module _ (s : Span) (f : AbsArg → Trial AbsArg) (g : Arg → Calculation Arg) (row : (a : AbsArg) → IsSound a → IsOutcomeOf (λ x. exact (g (arg_at x a))) (a ∷ []) (exact (f a)))
+  module _ (s : Span) (f : AbsArg → Trial AbsArg) (g : Arg → Calculation Arg) (row : (a : AbsArg) → IsOutcomeOf (λ x. exact (g (arg_at x a))) (a ∷ []) (exact (f a)))
       (t u : Tree) (lift : (p : Tree) → IsPart p t → IsPart p u) (span : tree.span_of u ≡ s) (value : (x : Assignment) → evaluated (values x) u ≡ followed_by (evaluated (values x) t) g)
       (bends : SomeBends (λ x. elements_of (exact (evaluated (values x) u))) → PartBends values u) where
     turned_value : (a : AbsArg) → IsOf forms values agree t a → (x : Assignment) → exact (g (arg_at x a)) ≡ exact (evaluated (values x) u)
@@ -85,9 +85,9 @@ module _ (forms : Cell → Option Abs) (values : Assignment → Cell → Value) 
     turned_own a k at cause (behind b) = absurd (gives_never b.value at cause b.goes)
     turned_own a k at cause (breaks d e c) =
         whole_refuted values u at cause (span ∙ e)
-        (break_so values u cause c (bends (some_same _ _ (λ x. ap elements_of (turned_value a k x)) (subst (IsOutcomeOf (λ x. exact (g (arg_at x a))) (a ∷ [])) d (row a k.0)))))
+        (break_so values u cause c (bends (some_same _ _ (λ x. ap elements_of (turned_value a k x)) (subst (IsOutcomeOf (λ x. exact (g (arg_at x a))) (a ∷ [])) d (row a)))))
     turned_own a k at cause (undecided i d e c) =
-        let r = argument_varies forms values agree s (more t none) (a ∷ []) (k, tt) i (subst (IsOutcomeOf (λ x. exact (g (arg_at x a))) (a ∷ [])) d (row a k.0)) at e cause c in
+        let r = argument_varies forms values agree s (more t none) (a ∷ []) (k, tt) i (subst (IsOutcomeOf (λ x. exact (g (arg_at x a))) (a ∷ [])) d (row a)) at e cause c in
         record { part = r.part; is_part = lift r.part (only_among r.part t r.is_among); is_there = r.is_there; is_so = r.is_so }
 
     pub turned_refuted : PartIsRefuted forms values agree t → (at : Span) (cause : Why) → on_part (part_of forms t) (λ a. outcome_by s (part_of forms t ∷ []) (f a)) ≡ Refused at cause → IsRefuted values u at cause
@@ -123,11 +123,11 @@ module _ (forms : Cell → Option Abs) (values : Assignment → Cell → Value) 
     joined_own a b k l at cause (breaks d e c) =
         whole_refuted values both at cause e
         (break_so values both cause c
-        (some_same _ _ (λ x. ap elements_of (joined_value a b k l x)) (subst (IsOutcomeOf (λ x. exact (infix_of o (arg_at x a) (arg_at x b))) (a ∷ b ∷ [])) d (infix_is_right o a b k.0 l.0))))
+        (some_same _ _ (λ x. ap elements_of (joined_value a b k l x)) (subst (IsOutcomeOf (λ x. exact (infix_of o (arg_at x a) (arg_at x b))) (a ∷ b ∷ [])) d (infix_is_right o a b))))
     joined_own a b k l at cause (undecided i d e c) =
         in_pair at cause
         (argument_varies forms values agree s (more t (more u none)) (a ∷ b ∷ []) (k, (l, tt)) i
-        (subst (IsOutcomeOf (λ x. exact (infix_of o (arg_at x a) (arg_at x b))) (a ∷ b ∷ [])) d (infix_is_right o a b k.0 l.0)) at e cause c)
+        (subst (IsOutcomeOf (λ x. exact (infix_of o (arg_at x a) (arg_at x b))) (a ∷ b ∷ [])) d (infix_is_right o a b)) at e cause c)
 
     second_refuted : (a : AbsArg) → IsOf forms values agree t a → (at : Span) (cause : Why) → IsRefuted values u at cause ⊎ Behind (IsOf forms values agree u) (joined a) at cause → IsRefuted values both at cause
     second_refuted a k at cause (inl r) = in_parts values u both (λ p h. in_right s o t u h) at cause r
@@ -171,5 +171,5 @@ module _ (forms : Cell → Option Abs) (values : Assignment → Cell → Value) 
       → (SomeBends (λ x. elements_of (exact (evaluated (values x) (tree.Call s f ts)))) → PartBends values (tree.Call s f ts)) → ArePartsRefuted forms values agree ts → (at : Span) (cause : Why)
       → on_parts (parts_of forms ts) (λ args. outcome_by s (parts_of forms ts) (form_called f args)) ≡ Refused at cause → IsRefuted values (tree.Call s f ts) at cause
   plain_refuted s f ts right value bends h at cause e =
-      called_refuted s f ts (λ args. SomeBends (λ x. elements_of (called_at f args x))) (λ args k. right args (are_sound forms values agree ts args k))
+      called_refuted s f ts (λ args. SomeBends (λ x. elements_of (called_at f args x))) (λ args k. right args)
       (λ args k b. bends (some_same _ _ (λ x. ap elements_of (called_value f ts args k x ∙ sym (ap exact (value x)))) b)) h at cause e

@@ -13,7 +13,8 @@ use Rattle.sheet_model.specs.declared.value.Value.{Value}
 use Rattle.sheet_funcs.specs.Arguments as functions
 use Rattle.recalculation.specs.Evaluation.{CellGrid, evaluated, all_evaluated}
 use Rattle.affine_forms.specs.Forms.{Assignment}
-use Rattle.form_values.specs.Meaning.{arg_at, IsSound}
+use Rattle.form_values.specs.Meaning.{arg_at}
+use Rattle.form_values.proofs.Opening.{IsSound}
 use Rattle.form_values.specs.Refusals.{Varies}
 use Rattle.form_values.specs.Trials.{Trial, Breaks, Undecided}
 use Rattle.form_values.specs.declared.abs.Abs.{Abs}

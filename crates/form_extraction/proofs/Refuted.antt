@@ -48,7 +48,7 @@ use Rattle.form_extraction.proofs.Worth.{Agree}
 use Rattle.form_extraction.proofs.Agreeing.{form_is}
 use Rattle.form_extraction.proofs.Books.{form_worth}
 use Rattle.form_extraction.proofs.Lookups.{exchanged_matches}
-use Rattle.form_extraction.proofs.Refusing.{gives_never, PartIsRefuted, ArePartsRefuted, IsOf, AreOf, are_sound, all_are}
+use Rattle.form_extraction.proofs.Refusing.{gives_never, PartIsRefuted, ArePartsRefuted, IsOf, AreOf, all_are}
 use Rattle.form_extraction.proofs.RefusedRows.{bends_same, in_parts, turned_refuted, infix_refuted, called_refuted, plain_refuted}
 use Rattle.form_extraction.proofs.RefusedChoices.{if_refuted, iferror_refuted, choose_refuted}
 use Rattle.form_extraction.proofs.RefusedPicks.{size_refuted, index_refuted, lookup_refuted, sumif_refuted}
@@ -92,10 +92,10 @@ module _ (forms : Cell → Option Abs) (values : Assignment → Cell → Value) 
   AsMatrix ts args = IsOutcome (called_at func.MMult args) args (MatrixCase ts args) (exact (form_called func.MMult args))
 
   matrix_right : (ts : Trees) (args : List AbsArg) → AreOf forms values agree ts args → AsMatrix ts args
-  matrix_right none [] k = known_or_row func.MMult [] ⊥ (λ n. record { sound = (tt, tt); same = λ x. refl })
-  matrix_right (more t none) (a ∷ []) k = known_or_row func.MMult (a ∷ []) ⊥ (λ n. record { sound = (tt, tt); same = λ x. refl })
-  matrix_right (more t (more u none)) (a ∷ b ∷ []) k = mmult_is_right a b k.0.0 k.1.0.0
-  matrix_right (more t (more u (more v ts))) (a ∷ b ∷ c ∷ args) k = known_or_row func.MMult (a ∷ b ∷ c ∷ args) ⊥ (λ n. record { sound = (tt, tt); same = λ x. refl })
+  matrix_right none [] k = known_or_row func.MMult [] ⊥ (λ n. λ x. refl)
+  matrix_right (more t none) (a ∷ []) k = known_or_row func.MMult (a ∷ []) ⊥ (λ n. λ x. refl)
+  matrix_right (more t (more u none)) (a ∷ b ∷ []) k = mmult_is_right a b
+  matrix_right (more t (more u (more v ts))) (a ∷ b ∷ c ∷ args) k = known_or_row func.MMult (a ∷ b ∷ c ∷ args) ⊥ (λ n. λ x. refl)
   matrix_right none (a ∷ args) k = absurd k
   matrix_right (more t ts) [] k = absurd k
   matrix_right (more t none) (a ∷ b ∷ args) k = absurd k.1
@@ -124,7 +124,7 @@ module _ (forms : Cell → Option Abs) (values : Assignment → Cell → Value) 
   call_refuted s func.Rows ts h at cause e = size_refuted forms values agree s func.Rows (λ g. g.rows) ts h at cause e
   call_refuted s func.Columns ts h at cause e = size_refuted forms values agree s func.Columns (λ g. g.columns) ts h at cause e
   call_refuted s func.SumProduct ts h at cause e =
-      called_refuted forms values agree s func.SumProduct ts FactorsBend (λ args k. sumproduct_is_right args (are_sound forms values agree ts args k)) (factors_bend ts) h at cause e
+      called_refuted forms values agree s func.SumProduct ts FactorsBend (λ args k. sumproduct_is_right args) (factors_bend ts) h at cause e
   call_refuted s func.MMult ts h at cause e = called_refuted forms values agree s func.MMult ts (MatrixCase ts) (matrix_right ts) (matrix_bends s ts) h at cause e
   call_refuted s func.Sum ts h at cause e = plain_refuted forms values agree s func.Sum ts sum_is_right (λ x. refl) (λ b. b) h at cause e
   call_refuted s func.Average ts h at cause e = plain_refuted forms values agree s func.Average ts average_is_right (λ x. refl) (λ b. b) h at cause e

@@ -18,7 +18,8 @@ use Rattle.sheet_funcs.specs.Table.{called}
 use Rattle.recalculation.specs.Evaluation.{evaluated, all_evaluated, call_of, grid_of_areas}
 use Rattle.affine_forms.specs.Forms.{Assignment}
 use Rattle.affine_forms.proofs.Exact.{exact-followed_by, exact-turned_into}
-use Rattle.form_values.specs.Meaning.{arg_at, IsSound}
+use Rattle.form_values.specs.Meaning.{arg_at}
+use Rattle.form_values.proofs.Opening.{IsSound, arg_sound}
 use Rattle.form_values.specs.Trials.{Trial}
 use Rattle.form_values.specs.declared.abs.Abs.{Abs}
 use Rattle.form_values.specs.declared.abs.AbsArg.{AbsArg}
@@ -41,7 +42,7 @@ use Rattle.form_extraction.proofs.Choices.{if_true, iferror_true, choose_true}
 module _ (x : Assignment) (forms : Cell → Option Abs) (values : Cell → Value) (agree : Agree x forms values) where
   -- what represents a value under every assignment
   worth_at : (v : Assignment → Arg) (a : AbsArg) → Represents v a → IsWorth x (v x) a
-  worth_at v a h = (h.sound, h.same x)
+  worth_at v a h = (arg_sound a, h x)
 
   -- ---- operators
   turned_true : (s : Span) (f : AbsArg → Trial AbsArg) (g : Arg → Calculation Arg) → ((b c : AbsArg) → IsSound b → exact (f b) ≡ Ok c → IsWorth x (exact (g (arg_at x b))) c)
@@ -68,7 +69,7 @@ module _ (x : Assignment) (forms : Cell → Option Abs) (values : Cell → Value
       subst (IsWorth x _) same
       (subst (λ v. IsWorth x v q.value)
       (sym (exact-followed_by (evaluated values t) _ ∙ exact-followed_by (evaluated values u) (infix_of o (exact (evaluated values t))) ∙ ap₂ (λ v w. exact (infix_of o v w)) r.1 w.1))
-      (worth_at _ _ (table_right.pairs o p.value l.value q.value r.0 w.0 q.is)))
+      (worth_at _ _ (table_right.pairs o p.value l.value q.value q.is)))
 
   -- ---- calls that look at all their arguments
   pub record Values (ts : Trees) (f : List AbsArg → Outcome) (a : AbsArg) : Type 0 where
@@ -98,7 +99,7 @@ module _ (x : Assignment) (forms : Cell → Option Abs) (values : Cell → Value
       let q = tried_first s (parts_of forms ts) (form_called f p.args) Gives a p.goes in
       let same = gives_same q.value a q.goes in
       subst (IsWorth x _) same
-      (subst (λ v. IsWorth x v q.value) (sym (exact-followed_by (for_each (λ c. c) (all_evaluated values ts)) (called f) ∙ ap (λ vs. exact (called f vs)) p.same)) (worth_at _ _ (table_right.calls f p.args q.value n p.sound q.is)))
+      (subst (λ v. IsWorth x v q.value) (sym (exact-followed_by (for_each (λ c. c) (all_evaluated values ts)) (called f) ∙ ap (λ vs. exact (called f vs)) p.same)) (worth_at _ _ (table_right.calls f p.args q.value n q.is)))
 
   call_true : (s : Span) (f : Func) (ts : Trees) → ArePartsTrue x forms values ts → (a : AbsArg) → call_outcome forms s f (parts_of forms ts) ≡ Gives a → IsWorth x (exact (call_of f (all_evaluated values ts))) a
   call_true s func.If ts h a e = if_true x forms values s ts h a e
@@ -124,8 +125,8 @@ module _ (x : Assignment) (forms : Cell → Option Abs) (values : Cell → Value
     part_true (tree.Reference s areas) a e = reference_true x forms values agree (grid_of_areas (listed areas)) a (elements forms _) refl e
     part_true (tree.Call s f args) a e = call_true s f args (parts_true args) a e
     part_true (tree.Plus s t) a e = part_true t a e
-    part_true (tree.Minus s t) a e = turned_true s minus_form minus_of (λ b c o r. worth_at _ _ (table_right.minus b c o r)) t (λ b d. part_true t b d) a e
-    part_true (tree.Percent s t) a e = turned_true s percent_form percent_of (λ b c o r. worth_at _ _ (table_right.percent b c o r)) t (λ b d. part_true t b d) a e
+    part_true (tree.Minus s t) a e = turned_true s minus_form minus_of (λ b c o r. worth_at _ _ (table_right.minus b c r)) t (λ b d. part_true t b d) a e
+    part_true (tree.Percent s t) a e = turned_true s percent_form percent_of (λ b c o r. worth_at _ _ (table_right.percent b c r)) t (λ b d. part_true t b d) a e
     part_true (tree.Infix s o t u) a e = infix_true s o t u (λ b d. part_true t b d) (λ b d. part_true u b d) a e
     part_true (tree.WideNumber s y) a e = plain_true x _ a e
     part_true (tree.Name s name) a e = plain_true x _ a e

@@ -8,7 +8,8 @@ use Rattle.sheet_model.specs.declared.value.Value.{Value}
 use Rattle.sheet_model.specs.declared.grid.Arg.{Arg}
 use Rattle.recalculation.specs.Evaluation.{evaluated}
 use Rattle.affine_forms.specs.Forms.{Assignment}
-use Rattle.form_values.specs.Meaning.{abs_at, arg_at, IsAbs, IsSound}
+use Rattle.form_values.specs.Meaning.{abs_at, arg_at}
+use Rattle.form_values.proofs.Opening.{IsAbs, IsSound}
 use Rattle.form_values.specs.declared.abs.Abs.{Abs}
 use Rattle.form_values.specs.declared.abs.AbsArg.{AbsArg}
 use Rattle.form_extraction.specs.declared.forms.Outcome.TheVariants.{Gives}

@@ -66,8 +66,8 @@ both_branches whole test others t r =
 
 abbrev pub by_test : Span → Part → List Part → Abs → Outcome
 by_test whole test others (Known v) = chosen_or (One (Known (if_without (logical_in v)))) (at_chosen others (if_place (logical_in v)))
-by_test whole test others (Affine f) = both_branches whole test others f rel.Ne
-by_test whole test others (Test f r) = both_branches whole test others f r
+by_test whole test others (Affine o) = both_branches whole test others o.form rel.Ne
+by_test whole test others (Test o r) = both_branches whole test others o.form r
 
 abbrev pub if_outcome : Span → List Part → Outcome
 if_outcome whole (test ∷ others) = on_part test (λ a. by_test whole test others (value_of a))

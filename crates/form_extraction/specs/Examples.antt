@@ -22,7 +22,8 @@ use Rattle.sheet_model.specs.declared.value.Value.TheVariants.{Number, Text, Emp
 use Rattle.affine_forms.specs.Forms.{AffineForm, decision_form}
 use Rattle.affine_forms.specs.declared.rel.Rel.TheVariants as rel
 use Rattle.form_values.specs.declared.abs.Abs.{Abs}
-use Rattle.form_values.specs.declared.abs.Abs.TheVariants.{Known, Affine, Test}
+use Rattle.form_values.specs.Entries.{entry, test}
+use Rattle.form_values.specs.declared.abs.Abs.TheVariants.{Known}
 use Rattle.workbook.specs.declared.place.Place.TheVariants as place
 use Rattle.form_extraction.specs.declared.forms.CellForm.{CellForm}
 use Rattle.form_extraction.specs.declared.forms.CellForm.TheVariants.{Form, Refused, Blocked}
@@ -45,11 +46,11 @@ among (e ∷ others) c = if (e.0.0 == c.row) && (e.0.1 == c.col) then e.1 else a
 abbrev pub forms : Cell → Option Abs
 forms =
     among
-    (((0, 4), Some (Known (Number (whole 1)))) ∷ ((0, 5), Some (Affine (decision_form 0))) ∷
-    ((1, 0), Some (Affine (decision_form 0))) ∷ ((1, 1), Some (Affine (decision_form 1))) ∷ ((1, 2), Some (Known (Number (whole 3)))) ∷
-    ((1, 3), Some (Known (Text (97 ∷ [])))) ∷ ((1, 4), Some (Known (Number (whole 2)))) ∷ ((1, 5), Some (Affine (decision_form 1))) ∷
-    ((2, 0), Some (Test (decision_form 0) rel.Ge)) ∷ ((2, 1), None) ∷ ((2, 2), Some (Known (Error kind.NotAvailable))) ∷
-    ((2, 4), Some (Known (Number (whole 3)))) ∷ ((2, 5), Some (Affine (decision_form 2))) ∷ ((3, 1), None) ∷ [])
+    (((0, 4), Some (Known (Number (whole 1)))) ∷ ((0, 5), Some (entry (decision_form 0))) ∷
+    ((1, 0), Some (entry (decision_form 0))) ∷ ((1, 1), Some (entry (decision_form 1))) ∷ ((1, 2), Some (Known (Number (whole 3)))) ∷
+    ((1, 3), Some (Known (Text (97 ∷ [])))) ∷ ((1, 4), Some (Known (Number (whole 2)))) ∷ ((1, 5), Some (entry (decision_form 1))) ∷
+    ((2, 0), Some (test rel.Ge (decision_form 0))) ∷ ((2, 1), None) ∷ ((2, 2), Some (Known (Error kind.NotAvailable))) ∷
+    ((2, 4), Some (Known (Number (whole 3)))) ∷ ((2, 5), Some (entry (decision_form 2))) ∷ ((3, 1), None) ∷ [])
 
 -- ---- formulas
 abbrev pub span : ℕ → ℕ → Span
@@ -84,25 +85,25 @@ Hold examples = AllByRecursion Holds examples
 abbrev pub refusals : List Example
 refusals =
     -- =IF(TRUE();A2;A2*A2)
-    example (tree.Call (span 1 20) func.If (trees ((tree.Call (span 4 10) func.True (trees ([]))) ∷ (tree.Reference (span 11 13) (Listed (area 1 0 1 0) ∷ [])) ∷ (tree.Infix (span 14 19) op.Mul (tree.Reference (span 14 16) (Listed (area 1 0 1 0) ∷ [])) (tree.Reference (span 17 19) (Listed (area 1 0 1 0) ∷ []))) ∷ []))) (Form (Affine (affine (whole 0) ((0, whole 1) ∷ [])))) (cell 1 0 ∷ []) ∷
+    example (tree.Call (span 1 20) func.If (trees ((tree.Call (span 4 10) func.True (trees ([]))) ∷ (tree.Reference (span 11 13) (Listed (area 1 0 1 0) ∷ [])) ∷ (tree.Infix (span 14 19) op.Mul (tree.Reference (span 14 16) (Listed (area 1 0 1 0) ∷ [])) (tree.Reference (span 17 19) (Listed (area 1 0 1 0) ∷ []))) ∷ []))) (Form (entry (affine (whole 0) ((0, whole 1) ∷ [])))) (cell 1 0 ∷ []) ∷
     -- =IF(A2>=0;A2;0)
     example (tree.Call (span 1 15) func.If (trees ((tree.Infix (span 4 9) op.Ge (tree.Reference (span 4 6) (Listed (area 1 0 1 0) ∷ [])) (tree.Number (span 8 9) (whole 0))) ∷ (tree.Reference (span 10 12) (Listed (area 1 0 1 0) ∷ [])) ∷ (tree.Number (span 13 14) (whole 0)) ∷ []))) (Refused (span 1 15) why.Break) (cell 1 0 ∷ cell 1 0 ∷ []) ∷
     -- =IF(A2=0;B2;B2+A2)
-    example (tree.Call (span 1 18) func.If (trees ((tree.Infix (span 4 8) op.Eq (tree.Reference (span 4 6) (Listed (area 1 0 1 0) ∷ [])) (tree.Number (span 7 8) (whole 0))) ∷ (tree.Reference (span 9 11) (Listed (area 1 1 1 1) ∷ [])) ∷ (tree.Infix (span 12 17) op.Add (tree.Reference (span 12 14) (Listed (area 1 1 1 1) ∷ [])) (tree.Reference (span 15 17) (Listed (area 1 0 1 0) ∷ []))) ∷ []))) (Form (Affine (affine (whole 0) ((0, whole 1) ∷ (1, whole 1) ∷ [])))) (cell 1 0 ∷ cell 1 1 ∷ cell 1 1 ∷ cell 1 0 ∷ []) ∷
+    example (tree.Call (span 1 18) func.If (trees ((tree.Infix (span 4 8) op.Eq (tree.Reference (span 4 6) (Listed (area 1 0 1 0) ∷ [])) (tree.Number (span 7 8) (whole 0))) ∷ (tree.Reference (span 9 11) (Listed (area 1 1 1 1) ∷ [])) ∷ (tree.Infix (span 12 17) op.Add (tree.Reference (span 12 14) (Listed (area 1 1 1 1) ∷ [])) (tree.Reference (span 15 17) (Listed (area 1 0 1 0) ∷ []))) ∷ []))) (Form (entry (affine (whole 0) ((0, whole 1) ∷ (1, whole 1) ∷ [])))) (cell 1 0 ∷ cell 1 1 ∷ cell 1 1 ∷ cell 1 0 ∷ []) ∷
     -- =VLOOKUP(2;E1:F3;2;FALSE)
-    example (tree.Call (span 1 25) func.VLookup (trees ((tree.Number (span 9 10) (whole 2)) ∷ (tree.Reference (span 11 16) (Listed (area 0 4 2 5) ∷ [])) ∷ (tree.Number (span 17 18) (whole 2)) ∷ (tree.Logical (span 19 24) false) ∷ []))) (Form (Affine (affine (whole 0) ((1, whole 1) ∷ [])))) (cell 0 4 ∷ cell 1 4 ∷ cell 2 4 ∷ cell 1 5 ∷ []) ∷
+    example (tree.Call (span 1 25) func.VLookup (trees ((tree.Number (span 9 10) (whole 2)) ∷ (tree.Reference (span 11 16) (Listed (area 0 4 2 5) ∷ [])) ∷ (tree.Number (span 17 18) (whole 2)) ∷ (tree.Logical (span 19 24) false) ∷ []))) (Form (entry (affine (whole 0) ((1, whole 1) ∷ [])))) (cell 0 4 ∷ cell 1 4 ∷ cell 2 4 ∷ cell 1 5 ∷ []) ∷
     -- =VLOOKUP(A2;E1:F3;2;FALSE)
     example (tree.Call (span 1 26) func.VLookup (trees ((tree.Reference (span 9 11) (Listed (area 1 0 1 0) ∷ [])) ∷ (tree.Reference (span 12 17) (Listed (area 0 4 2 5) ∷ [])) ∷ (tree.Number (span 18 19) (whole 2)) ∷ (tree.Logical (span 20 25) false) ∷ []))) (Refused (span 9 11) why.Undecided) (cell 1 0 ∷ cell 0 4 ∷ cell 1 4 ∷ cell 2 4 ∷ []) ∷
     -- =A2*B2
     example (tree.Infix (span 1 6) op.Mul (tree.Reference (span 1 3) (Listed (area 1 0 1 0) ∷ [])) (tree.Reference (span 4 6) (Listed (area 1 1 1 1) ∷ []))) (Refused (span 1 6) why.Break) (cell 1 0 ∷ cell 1 1 ∷ []) ∷
     -- =A2>=0
-    example (tree.Infix (span 1 6) op.Ge (tree.Reference (span 1 3) (Listed (area 1 0 1 0) ∷ [])) (tree.Number (span 5 6) (whole 0))) (Form (Test (decision_form 0) rel.Ge)) (cell 1 0 ∷ []) ∷
+    example (tree.Infix (span 1 6) op.Ge (tree.Reference (span 1 3) (Listed (area 1 0 1 0) ∷ [])) (tree.Number (span 5 6) (whole 0))) (Form (test rel.Ge (decision_form 0))) (cell 1 0 ∷ []) ∷
     -- =A2&"x"
     example (tree.Infix (span 1 7) op.Cat (tree.Reference (span 1 3) (Listed (area 1 0 1 0) ∷ [])) (tree.Text (span 4 7) (120 ∷ []))) (Refused (span 1 3) why.Undecided) (cell 1 0 ∷ []) ∷
     -- =SUM(A2:D2;1)
-    example (tree.Call (span 1 13) func.Sum (trees ((tree.Reference (span 5 10) (Listed (area 1 0 1 3) ∷ [])) ∷ (tree.Number (span 11 12) (whole 1)) ∷ []))) (Form (Affine (affine (whole 4) ((0, whole 1) ∷ (1, whole 1) ∷ [])))) (cell 1 0 ∷ cell 1 1 ∷ cell 1 2 ∷ cell 1 3 ∷ []) ∷
+    example (tree.Call (span 1 13) func.Sum (trees ((tree.Reference (span 5 10) (Listed (area 1 0 1 3) ∷ [])) ∷ (tree.Number (span 11 12) (whole 1)) ∷ []))) (Form (entry (affine (whole 4) ((0, whole 1) ∷ (1, whole 1) ∷ [])))) (cell 1 0 ∷ cell 1 1 ∷ cell 1 2 ∷ cell 1 3 ∷ []) ∷
     -- =A2:B2
-    example (tree.Reference (span 1 6) (Listed (area 1 0 1 1) ∷ [])) (Form (Affine (affine (whole 0) ((0, whole 1) ∷ [])))) (cell 1 0 ∷ cell 1 1 ∷ []) ∷
+    example (tree.Reference (span 1 6) (Listed (area 1 0 1 1) ∷ [])) (Form (entry (affine (whole 0) ((0, whole 1) ∷ [])))) (cell 1 0 ∷ cell 1 1 ∷ []) ∷
     -- =H9
     example (tree.Reference (span 1 3) (Listed (area 8 7 8 7) ∷ [])) (Form (Known (Number (whole 0)))) (cell 8 7 ∷ []) ∷
     -- =B3+1
@@ -123,11 +124,11 @@ blocks =
     -- =IF(B3;A2;1)
     example (tree.Call (span 1 12) func.If (trees ((tree.Reference (span 4 6) (Listed (area 2 1 2 1) ∷ [])) ∷ (tree.Reference (span 7 9) (Listed (area 1 0 1 0) ∷ [])) ∷ (tree.Number (span 10 11) (whole 1)) ∷ []))) (Blocked (place.Cell (cell 2 1))) (cell 2 1 ∷ []) ∷
     -- =IFERROR(C3;A2)
-    example (tree.Call (span 1 15) func.IfError (trees ((tree.Reference (span 9 11) (Listed (area 2 2 2 2) ∷ [])) ∷ (tree.Reference (span 12 14) (Listed (area 1 0 1 0) ∷ [])) ∷ []))) (Form (Affine (affine (whole 0) ((0, whole 1) ∷ [])))) (cell 2 2 ∷ cell 1 0 ∷ []) ∷
+    example (tree.Call (span 1 15) func.IfError (trees ((tree.Reference (span 9 11) (Listed (area 2 2 2 2) ∷ [])) ∷ (tree.Reference (span 12 14) (Listed (area 1 0 1 0) ∷ [])) ∷ []))) (Form (entry (affine (whole 0) ((0, whole 1) ∷ [])))) (cell 2 2 ∷ cell 1 0 ∷ []) ∷
     -- =IFERROR(A2;B3)
-    example (tree.Call (span 1 15) func.IfError (trees ((tree.Reference (span 9 11) (Listed (area 1 0 1 0) ∷ [])) ∷ (tree.Reference (span 12 14) (Listed (area 2 1 2 1) ∷ [])) ∷ []))) (Form (Affine (affine (whole 0) ((0, whole 1) ∷ [])))) (cell 1 0 ∷ []) ∷
+    example (tree.Call (span 1 15) func.IfError (trees ((tree.Reference (span 9 11) (Listed (area 1 0 1 0) ∷ [])) ∷ (tree.Reference (span 12 14) (Listed (area 2 1 2 1) ∷ [])) ∷ []))) (Form (entry (affine (whole 0) ((0, whole 1) ∷ [])))) (cell 1 0 ∷ []) ∷
     -- =CHOOSE(2;B3;A2)
-    example (tree.Call (span 1 16) func.Choose (trees ((tree.Number (span 8 9) (whole 2)) ∷ (tree.Reference (span 10 12) (Listed (area 2 1 2 1) ∷ [])) ∷ (tree.Reference (span 13 15) (Listed (area 1 0 1 0) ∷ [])) ∷ []))) (Form (Affine (affine (whole 0) ((0, whole 1) ∷ [])))) (cell 1 0 ∷ []) ∷
+    example (tree.Call (span 1 16) func.Choose (trees ((tree.Number (span 8 9) (whole 2)) ∷ (tree.Reference (span 10 12) (Listed (area 2 1 2 1) ∷ [])) ∷ (tree.Reference (span 13 15) (Listed (area 1 0 1 0) ∷ [])) ∷ []))) (Form (entry (affine (whole 0) ((0, whole 1) ∷ [])))) (cell 1 0 ∷ []) ∷
     -- =CHOOSE(A2;B3;1)
     example (tree.Call (span 1 16) func.Choose (trees ((tree.Reference (span 8 10) (Listed (area 1 0 1 0) ∷ [])) ∷ (tree.Reference (span 11 13) (Listed (area 2 1 2 1) ∷ [])) ∷ (tree.Number (span 14 15) (whole 1)) ∷ []))) (Refused (span 8 10) why.Undecided) (cell 1 0 ∷ []) ∷
     []
@@ -136,11 +137,11 @@ blocks =
 abbrev pub picks : List Example
 picks =
     -- =INDEX(A2:B4;1;2)
-    example (tree.Call (span 1 17) func.Index (trees ((tree.Reference (span 7 12) (Listed (area 1 0 3 1) ∷ [])) ∷ (tree.Number (span 13 14) (whole 1)) ∷ (tree.Number (span 15 16) (whole 2)) ∷ []))) (Form (Affine (affine (whole 0) ((1, whole 1) ∷ [])))) (cell 1 1 ∷ []) ∷
+    example (tree.Call (span 1 17) func.Index (trees ((tree.Reference (span 7 12) (Listed (area 1 0 3 1) ∷ [])) ∷ (tree.Number (span 13 14) (whole 1)) ∷ (tree.Number (span 15 16) (whole 2)) ∷ []))) (Form (entry (affine (whole 0) ((1, whole 1) ∷ [])))) (cell 1 1 ∷ []) ∷
     -- =INDEX(A2:B4;B2;1)
     example (tree.Call (span 1 18) func.Index (trees ((tree.Reference (span 7 12) (Listed (area 1 0 3 1) ∷ [])) ∷ (tree.Reference (span 13 15) (Listed (area 1 1 1 1) ∷ [])) ∷ (tree.Number (span 16 17) (whole 1)) ∷ []))) (Refused (span 13 15) why.Undecided) (cell 1 1 ∷ []) ∷
     -- =SUMIF(E1:E3;">1";F1:F3)
-    example (tree.Call (span 1 24) func.SumIf (trees ((tree.Reference (span 7 12) (Listed (area 0 4 2 4) ∷ [])) ∷ (tree.Text (span 13 17) (62 ∷ 49 ∷ [])) ∷ (tree.Reference (span 18 23) (Listed (area 0 5 2 5) ∷ [])) ∷ []))) (Form (Affine (affine (whole 0) ((1, whole 1) ∷ (2, whole 1) ∷ [])))) (cell 0 4 ∷ cell 1 4 ∷ cell 2 4 ∷ cell 1 5 ∷ cell 2 5 ∷ []) ∷
+    example (tree.Call (span 1 24) func.SumIf (trees ((tree.Reference (span 7 12) (Listed (area 0 4 2 4) ∷ [])) ∷ (tree.Text (span 13 17) (62 ∷ 49 ∷ [])) ∷ (tree.Reference (span 18 23) (Listed (area 0 5 2 5) ∷ [])) ∷ []))) (Form (entry (affine (whole 0) ((1, whole 1) ∷ (2, whole 1) ∷ [])))) (cell 0 4 ∷ cell 1 4 ∷ cell 2 4 ∷ cell 1 5 ∷ cell 2 5 ∷ []) ∷
     -- =SUMIF(E1:E3;A2;F1:F3)
     example (tree.Call (span 1 22) func.SumIf (trees ((tree.Reference (span 7 12) (Listed (area 0 4 2 4) ∷ [])) ∷ (tree.Reference (span 13 15) (Listed (area 1 0 1 0) ∷ [])) ∷ (tree.Reference (span 16 21) (Listed (area 0 5 2 5) ∷ [])) ∷ []))) (Refused (span 13 15) why.Undecided) (cell 0 4 ∷ cell 1 4 ∷ cell 2 4 ∷ cell 1 0 ∷ []) ∷
     -- =SUMIF(A2:C2;">1";1/{1;0;0})
@@ -152,7 +153,7 @@ picks =
     -- =SUMPRODUCT(A2:B2;E1:E2)
     example (tree.Call (span 1 24) func.SumProduct (trees ((tree.Reference (span 12 17) (Listed (area 1 0 1 1) ∷ [])) ∷ (tree.Reference (span 18 23) (Listed (area 0 4 1 4) ∷ [])) ∷ []))) (Form (Known (Error kind.Value))) (cell 1 0 ∷ cell 1 1 ∷ cell 0 4 ∷ cell 1 4 ∷ []) ∷
     -- =MMULT(A2:B2;E1:E2)
-    example (tree.Call (span 1 19) func.MMult (trees ((tree.Reference (span 7 12) (Listed (area 1 0 1 1) ∷ [])) ∷ (tree.Reference (span 13 18) (Listed (area 0 4 1 4) ∷ [])) ∷ []))) (Form (Affine (affine (whole 0) ((0, whole 1) ∷ (1, whole 2) ∷ [])))) (cell 1 0 ∷ cell 1 1 ∷ cell 0 4 ∷ cell 1 4 ∷ []) ∷
+    example (tree.Call (span 1 19) func.MMult (trees ((tree.Reference (span 7 12) (Listed (area 1 0 1 1) ∷ [])) ∷ (tree.Reference (span 13 18) (Listed (area 0 4 1 4) ∷ [])) ∷ []))) (Form (entry (affine (whole 0) ((0, whole 1) ∷ (1, whole 2) ∷ [])))) (cell 1 0 ∷ cell 1 1 ∷ cell 0 4 ∷ cell 1 4 ∷ []) ∷
     -- =SUM(A2~B2;A2*B2)
     example (tree.Call (span 1 17) func.Sum (trees ((tree.Reference (span 5 10) (Listed (area 1 0 1 0) ∷ Listed (area 1 1 1 1) ∷ [])) ∷ (tree.Infix (span 11 16) op.Mul (tree.Reference (span 11 13) (Listed (area 1 0 1 0) ∷ [])) (tree.Reference (span 14 16) (Listed (area 1 1 1 1) ∷ []))) ∷ []))) (Refused (span 11 16) why.Break) (cell 1 0 ∷ cell 1 1 ∷ cell 1 0 ∷ cell 1 1 ∷ []) ∷
     []

@@ -8,10 +8,12 @@ use Rattle.recalculation.specs.Entries.{Book, entry}
 use Rattle.recalculation.specs.Entries as entries
 use Rattle.recalculation.specs.Recalculation.{val}
 use Rattle.recalculation.specs.Walks.{is_circular}
-use Rattle.affine_forms.specs.Forms.{Assignment, AffineForm, worth, decision_form}
+use Rattle.affine_forms.specs.Forms.{Assignment, worth}
 use Rattle.affine_forms.specs.declared.rel.Rel.{Rel}
-use Rattle.form_values.specs.Meaning.{abs_at, IsAbs}
+use Rattle.form_values.specs.Entries.{open_decision}
+use Rattle.form_values.specs.Meaning.{abs_at}
 use Rattle.affine_forms.specs.Relations.{holds}
+use Rattle.form_values.specs.declared.open_form.Open.{Open}
 use Rattle.form_values.specs.declared.abs.Abs.{Abs}
 use Rattle.form_values.specs.declared.abs.Abs.TheVariants.{Known, Affine, Test}
 use Rattle.form_extraction.specs.declared.forms.CellForm.TheVariants.{Form, Circular}
@@ -33,18 +35,14 @@ KnownIsTheValue =
 -- an affine one the number that its form is worth
 abbrev pub AffineIsTheNumber : Type 0
 AffineIsTheNumber =
-    (book : Book) (decisions : Decisions) (a : Cell) (f : AffineForm) → form_of book decisions a ≡ Form (Affine f) → (x : Assignment)
-    → val book (overriding decisions x) a ≡ Number (worth x f)
+    (book : Book) (decisions : Decisions) (a : Cell) (o : Open) → form_of book decisions a ≡ Form (Affine o) → (x : Assignment)
+    → val book (overriding decisions x) a ≡ Number (worth x o.form)
 
 -- and a test is TRUE exactly where its form is in its relation to 0, and else FALSE
 abbrev pub TestIsTrueWhereItHolds : Type 0
 TestIsTrueWhereItHolds =
-    (book : Book) (decisions : Decisions) (a : Cell) (f : AffineForm) (r : Rel) → form_of book decisions a ≡ Form (Test f r) → (x : Assignment)
-    → val book (overriding decisions x) a ≡ Logical (holds r (worth x f))
-
--- a form that isn't known has a term
-abbrev pub OpenHasATerm : Type 0
-OpenHasATerm = (book : Book) (decisions : Decisions) (a : Cell) (f : Abs) → form_of book decisions a ≡ Form f → IsAbs f
+    (book : Book) (decisions : Decisions) (a : Cell) (o : Open) (r : Rel) → form_of book decisions a ≡ Form (Test o r) → (x : Assignment)
+    → val book (overriding decisions x) a ≡ Logical (holds r (worth x o.form))
 
 -- ---- layers
 -- the form of a cell is what its text makes of the forms of the others
@@ -60,7 +58,7 @@ DependsOnLooked =
 -- ---- cells that need no formula
 -- a decision cell is its number, whatever its text says
 abbrev pub DecisionIsItself : Type 0
-DecisionIsItself = (book : Book) (decisions : Decisions) (a : Cell) (j : ℕ) → decisions a ≡ Some j → form_of book decisions a ≡ Form (Affine (decision_form j))
+DecisionIsItself = (book : Book) (decisions : Decisions) (a : Cell) (j : ℕ) → decisions a ≡ Some j → form_of book decisions a ≡ Form (Affine (open_decision j))
 
 -- a cell at which a walk without end starts that passes no decision cell is circular
 abbrev pub CircleIsCircular : Type 0

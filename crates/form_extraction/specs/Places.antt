@@ -10,7 +10,8 @@ use Rattle.formula_ast.specs.Tree.{Tree}
 use Rattle.sheet_model.specs.declared.value.Value.TheVariants.{Number, Empty}
 use Rattle.recalculation.specs.Entries.{Book, Entry, Constant, Formula, Malformed, Overriding, entry}
 use Rattle.recalculation.specs.Walks.{is_circular, unfolded}
-use Rattle.affine_forms.specs.Forms.{Assignment, decision_form}
+use Rattle.affine_forms.specs.Forms.{Assignment}
+use Rattle.form_values.specs.Entries.{open_decision}
 use Rattle.form_values.specs.declared.abs.Abs.{Abs}
 use Rattle.form_values.specs.declared.abs.Abs.TheVariants.{Known, Affine}
 use Rattle.form_values.specs.declared.abs.AbsArg.{AbsArg}
@@ -83,7 +84,7 @@ entry_form forms (Some (Formula t)) = formula_form forms t
 entry_form forms (Some Malformed) = result.Malformed
 
 abbrev pub decision_or : Option ℕ → CellForm → CellForm
-decision_or (Some j) f = Form (Affine (decision_form j))
+decision_or (Some j) f = Form (Affine (open_decision j))
 decision_or None f = f
 
 -- the form of a cell over those of the other cells

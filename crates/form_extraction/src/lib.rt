@@ -4,7 +4,7 @@
 mod forms;
 
 ghost use Rattle.form_extraction.specs.Examples.{Hold, blocks, picks, refusals};
-ghost use Rattle.form_extraction.specs.Laws.{AffineIsTheNumber, CircleIsCircular, CircularWhereCircle, DecisionIsItself, DependsOnLooked, FormEquation, FormIsTheValue, KnownIsTheValue, MalformedIsMalformed, OpenHasATerm, TestIsTrueWhereItHolds};
+ghost use Rattle.form_extraction.specs.Laws.{AffineIsTheNumber, CircleIsCircular, CircularWhereCircle, DecisionIsItself, DependsOnLooked, FormEquation, FormIsTheValue, KnownIsTheValue, MalformedIsMalformed, TestIsTrueWhereItHolds};
 ghost use Rattle.form_extraction.specs.Looked.{BlockedByLeast, LookedIsReferred, SideIsTheValue, SideOfCircle, SideOfNoCircle, SideRefusalsAreRight};
 ghost use Rattle.form_extraction.specs.Refuted.{RefusalsAreRight};
 
@@ -16,7 +16,6 @@ pub fn value_laws()
     ensures known { KnownIsTheValue }
     ensures number { AffineIsTheNumber }
     ensures test { TestIsTrueWhereItHolds }
-    ensures open { OpenHasATerm }
 {}
 
 /// The form of a cell is what its text makes of the forms of the others, and depends on those alone at which it looks.

@@ -97,7 +97,7 @@ module _ (q : Asked) (all : AllNumbers q) where
   -- a root with a form has that of a number
   has_number : (p : Place) → Contains q.roots p → (f : Abs) → option_and_then form_in (form_at q.book q.sides q.decisions p) ≡ Some f
       → worth_at q.book q.sides q.decisions p zeros ≡ number_in (abs_at (assigned zeros) f) → (g : AffineForm) × HasForm q.book q.sides q.decisions p g
-  has_number p i (Affine g) e w = (g, ap (option_and_then number_form) e)
+  has_number p i (Affine g) e w = (g.form, ap (option_and_then number_form) e)
   has_number p i (Known (Number x)) e w = (constant_form x, ap (option_and_then number_form) e)
   has_number p i (Known Empty) e w = (constant_form zero_ℚ, ap (option_and_then number_form) e)
   has_number p i (Known (Text t)) e w = absurd (no_number p i w)

@@ -26,9 +26,9 @@ pub(crate) fn answer_to_call(alloc: Global, name: &str, args: &[AbsArg]) -> Resu
     match args {
         [a] => one_sided(alloc, name, a),
         [a, b] => two_sided(alloc, name, a, b),
-        [AbsArg::One(Abs::Affine(form)), holding, failing] => {
+        [AbsArg::One(Abs::Affine(open)), holding, failing] => {
             let relation = relation_in(name)?;
-            Ok(if_test(alloc, form, relation, holding, failing)?)
+            Ok(if_test(alloc, &open.form, relation, holding, failing)?)
         }
         _ => Err(Stop::Unread),
     }

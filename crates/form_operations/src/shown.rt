@@ -26,9 +26,9 @@ pub(crate) fn show_elements(elements: &[Abs], to: &mut String) -> Result<(), Mem
 fn show(value: &Abs, to: &mut String) -> Result<(), Memory> {
     match value {
         Abs::Known(value) => show_value(value, to),
-        Abs::Affine(form) => show_form(form, to),
-        Abs::Test(form, relation) => {
-            show_form(form, to)?;
+        Abs::Affine(open) => show_form(&open.form, to),
+        Abs::Test(open, relation) => {
+            show_form(&open.form, to)?;
             Ok(to.push_str(relation_text(*relation))?)
         }
     }

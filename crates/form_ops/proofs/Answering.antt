@@ -25,6 +25,7 @@ use Rattle.form_values.specs.Entries.{entry, test}
 use Rattle.form_values.specs.Trials.{Trial, Refusal, Breaks, Undecided, Answers, made, and_then, given, on_given}
 use Rattle.form_values.specs.declared.refusal.OpRefusal.{OpRefusal}
 use Rattle.form_values.specs.declared.refusal.OpRefusal.TheVariants as refusal
+use Rattle.form_values.specs.declared.open_form.Open.{Open}
 use Rattle.form_values.specs.declared.abs.Abs.{Abs}
 use Rattle.form_values.specs.declared.abs.Abs.TheVariants.{Known, Affine, Test}
 use Rattle.form_values.specs.declared.abs.AbsArg.{AbsArg}
@@ -129,7 +130,7 @@ compared_numbers o x y f g r d e h =
     (ap (λ z. narrow (compared_sides o z y)) d ∙ ap (λ z. narrow (compared_sides o (Some f) z)) e) h
 
 -- two values that are no open logicals
-no_test : (o : Op) (a b : Abs) → ((f : AffineForm) (r : Rel) → a ≡ Test f r → ⊥) → ((f : AffineForm) (r : Rel) → b ≡ Test f r → ⊥)
+no_test : (o : Op) (a b : Abs) → ((f : Open) (r : Rel) → a ≡ Test f r → ⊥) → ((f : Open) (r : Rel) → b ≡ Test f r → ⊥)
     → compared_row o a b ≡ compared_sides o (comparable a) (comparable b)
 no_test o (Test f r) b m n = absurd (m f r refl)
 no_test o (Known v) (Known w) m n = refl
@@ -140,7 +141,7 @@ no_test o (Affine f) (Affine g) m n = refl
 no_test o (Affine f) (Test g r) m n = absurd (n g r refl)
 
 pub compared_answers : (o : Op) (a b : Abs) (x y : Option AffineForm) (r : Result Abs OpRefusal)
-    → ((f : AffineForm) (s : Rel) → a ≡ Test f s → ⊥) → ((f : AffineForm) (s : Rel) → b ≡ Test f s → ⊥) → x ≡ comparable a → y ≡ comparable b
+    → ((f : Open) (s : Rel) → a ≡ Test f s → ⊥) → ((f : Open) (s : Rel) → b ≡ Test f s → ⊥) → x ≡ comparable a → y ≡ comparable b
     → Answers (compared_sides o x y) r → Answers (compared_row o a b) r
 compared_answers o a b x y r m n d e h =
     same_answers (compared_sides o x y) (compared_row o a b) r

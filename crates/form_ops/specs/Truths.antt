@@ -1,6 +1,5 @@
 -- What an answer says of the values under all assignments.
 use Rattle.std.specs.Prelude.{◌≡◌, List, [], ◌∷◌, Some, Result}
-use Rattle.std.specs.List.{AllByRecursion}
 use Rattle.calculations.specs.Calculation.{exact}
 use Rattle.cell_refs.specs.declared.op.Op.{Op}
 use Rattle.formula_ast.specs.declared.func.Func.{Func}
@@ -9,7 +8,7 @@ use Rattle.sheet_model.specs.declared.grid.Arg.{Arg}
 use Rattle.sheet_funcs.specs.Arguments.{elements_of}
 use Rattle.affine_forms.specs.Forms.{Assignment, AffineForm}
 use Rattle.affine_forms.specs.declared.rel.Rel.{Rel}
-use Rattle.form_values.specs.Meaning.{arg_at, IsSound}
+use Rattle.form_values.specs.Meaning.{arg_at}
 use Rattle.form_values.specs.Refusals.{SomeBends}
 use Rattle.form_values.specs.declared.abs.AbsArg.{AbsArg}
 use Rattle.form_values.specs.declared.refusal.OpRefusal.{OpRefusal}
@@ -17,10 +16,10 @@ use Rattle.form_table.specs.Wanted.{value_of}
 use Rattle.form_truth.specs.Answered.{IsAnswer}
 use Rattle.form_truth.specs.Laws.{called_at, asked, chosen}
 
--- of sound arguments: what is given is the value under every assignment; where the answer is Break, an element of the value isn't
+-- what is given is the value under every assignment; where the answer is Break, an element of the value isn't
 -- affine; and an argument that leaves it undecided isn't the same under all
 abbrev pub IsTrueOf : (Assignment → Arg) → List AbsArg → Result AbsArg OpRefusal → Type 0
-IsTrueOf value args answer = AllByRecursion IsSound args → IsAnswer value args (SomeBends (λ x. elements_of (value x))) answer
+IsTrueOf value args answer = IsAnswer value args (SomeBends (λ x. elements_of (value x))) answer
 
 -- of a function's call
 abbrev pub IsTrueCall : Func → List AbsArg → Result AbsArg OpRefusal → Type 0

@@ -68,7 +68,7 @@ fn number_branch<'a>(side: &Side<'a>) -> Option<Number<'a>>
 {
     match side {
         Side::One(Abs::Known(Value::Number(number))) => { Some(Number::Known(*number)) }
-        Side::One(Abs::Affine(form)) => Some(Number::Open(form)),
+        Side::One(Abs::Affine(open)) => Some(Number::Open(&open.form)),
         Side::One(Abs::Known(_) | Abs::Test(_, _)) | Side::Area(_) => None,
     }
 }

@@ -47,7 +47,7 @@ fn number_in(value: &Abs) -> Result<Abs, OpRefusal>
 {
     match value {
         Abs::Known(known) => Ok(Abs::Known(number_or_zero(known))),
-        Abs::Affine(form) => Ok(Abs::Affine(form.copy()?)),
+        Abs::Affine(open) => Ok(Abs::Affine(open.copy()?)),
         Abs::Test(_, _) => Err(OpRefusal::Undecided(0)),
     }
 }

@@ -71,8 +71,8 @@ fn other_logical(value: &Abs) -> Result<Abs, Memory>
             Ok(holds) => Ok(logical(!holds)),
             Err(kind) => Ok(fault(kind)),
         },
-        Abs::Affine(form) => Ok(Abs::Test(form.copy()?, Rel::Eq)),
-        Abs::Test(form, relation) => Ok(Abs::Test(form.copy()?, relation.complement())),
+        Abs::Affine(open) => Ok(Abs::Test(open.copy()?, Rel::Eq)),
+        Abs::Test(open, relation) => Ok(Abs::Test(open.copy()?, relation.complement())),
     }
 }
 
@@ -277,7 +277,7 @@ fn open_logical(alloc: Global, value: &Abs) -> Result<Abs, Memory>
     ensures { IfOk result (λ test. test ≡ open_logical value.now) }
 {
     match value {
-        Abs::Affine(form) => Ok(Abs::Test(form.copy()?, Rel::Ne)),
+        Abs::Affine(open) => Ok(Abs::Test(open.copy()?, Rel::Ne)),
         Abs::Known(_) | Abs::Test(_, _) => value.copy(alloc),
     }
 }

@@ -73,7 +73,7 @@ pub fn operand_of(value: &Abs) -> Operand<'_>
             Ok(number) => Operand::Known(number),
             Err(kind) => Operand::Fault(kind),
         },
-        Abs::Affine(form) => Operand::Open(form),
+        Abs::Affine(open) => Operand::Open(&open.form),
         Abs::Test(_, _) => Operand::Test,
     }
 }
@@ -85,7 +85,7 @@ pub(crate) fn comparable(value: &Abs) -> Option<Number<'_>>
     match value {
         Abs::Known(Value::Number(number)) => Some(Number::Known(*number)),
         Abs::Known(Value::Empty) => Some(Number::Known(Frac::zero())),
-        Abs::Affine(form) => Some(Number::Open(form)),
+        Abs::Affine(open) => Some(Number::Open(&open.form)),
         Abs::Known(_) | Abs::Test(_, _) => None,
     }
 }

@@ -53,8 +53,10 @@ fn same_abs(a: &Abs, b: &Abs) -> bool
 {
     match (a, b) {
         (Abs::Known(v), Abs::Known(w)) => same_value(v, w),
-        (Abs::Affine(f), Abs::Affine(g)) => same_form(f, g),
-        (Abs::Test(f, r), Abs::Test(g, s)) => same_form(f, g) && order_of(*r) == order_of(*s),
+        (Abs::Affine(o), Abs::Affine(p)) => same_form(&o.form, &p.form),
+        (Abs::Test(o, r), Abs::Test(p, s)) => {
+            same_form(&o.form, &p.form) && order_of(*r) == order_of(*s)
+        }
         _ => false,
     }
 }

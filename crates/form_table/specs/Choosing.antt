@@ -58,8 +58,8 @@ order_of rel.Gt = 5
 -- of one kind, with one form, relation and value
 abbrev pub same_abs : Abs → Abs → Bool
 same_abs (Known v) (Known w) = same_value v w
-same_abs (Affine f) (Affine g) = same_form f g
-same_abs (Test f r) (Test g s) = same_form f g && (order_of r == order_of s)
+same_abs (Affine o) (Affine p) = same_form o.form p.form
+same_abs (Test o r) (Test p s) = same_form o.form p.form && (order_of r == order_of s)
 same_abs _ _ = false
 
 abbrev pub same_items : List Abs → List Abs → Bool
@@ -76,7 +76,7 @@ same_arg _ _ = false
 -- ---- branches that are numbers
 abbrev pub number_branch : AbsArg → Option AffineForm
 number_branch (One (Known (Number x))) = Some (constant_form x)
-number_branch (One (Affine f)) = Some f
+number_branch (One (Affine o)) = Some o.form
 number_branch _ = None
 
 -- the branch, where they do

@@ -13,9 +13,10 @@ use Rattle.affine_forms.specs.Forms.{AffineForm, decision_form}
 use Rattle.affine_forms.specs.declared.rel.Rel.TheVariants as rel
 use Rattle.sheet_funcs.specs.declared.pick.Pick.{Pick}
 use Rattle.sheet_funcs.specs.declared.pick.Pick.TheVariants.{Part, Fault}
+use Rattle.form_values.specs.Entries.{entry, test}
 use Rattle.form_values.specs.Trials.{Trial, given, Refusal, Breaks, Undecided}
 use Rattle.form_values.specs.declared.abs.Abs.{Abs}
-use Rattle.form_values.specs.declared.abs.Abs.TheVariants.{Known, Affine, Test}
+use Rattle.form_values.specs.declared.abs.Abs.TheVariants.{Known}
 use Rattle.form_values.specs.declared.abs.AbsArg.{AbsArg}
 use Rattle.form_values.specs.declared.abs.AbsArg.TheVariants.{One, Area}
 use Rattle.form_table.specs.Operators.{infix_form, minus_form, percent_form}
@@ -31,13 +32,13 @@ abbrev pub affine : ℚ → List (ℕ × ℚ) → AffineForm
 affine c ts = record { constant = c; terms = ts }
 
 abbrev pub x_is : Abs
-x_is = Affine (decision_form 0)
+x_is = entry (decision_form 0)
 
 abbrev pub y_is : Abs
-y_is = Affine (decision_form 1)
+y_is = entry (decision_form 1)
 
 abbrev pub t_is : Abs
-t_is = Test (decision_form 0) rel.Ge
+t_is = test rel.Ge (decision_form 0)
 
 abbrev pub one_is : Abs
 one_is = Known (Number one_ℚ)
@@ -106,13 +107,13 @@ Hold {A} examples = AllByRecursion (λ (e : Example A). narrow e.0 ≡ e.1) exam
 abbrev pub operators : List (Example AbsArg)
 operators =
     -- x+y
-    (infix_form op.Add x y, is (One (Affine (affine (zero_ℚ) ((0, one_ℚ) ∷ (1, one_ℚ) ∷ []))))) ∷
+    (infix_form op.Add x y, is (One (entry (affine (zero_ℚ) ((0, one_ℚ) ∷ (1, one_ℚ) ∷ []))))) ∷
     -- x+3
-    (infix_form op.Add x (number (whole_ℚ (pos 3))), is (One (Affine (affine (whole_ℚ (pos 3)) ((0, one_ℚ) ∷ []))))) ∷
+    (infix_form op.Add x (number (whole_ℚ (pos 3))), is (One (entry (affine (whole_ℚ (pos 3)) ((0, one_ℚ) ∷ []))))) ∷
     -- x-x
     (infix_form op.Sub x x, is (number (zero_ℚ))) ∷
     -- TRUE+x
-    (infix_form op.Add (logical true) x, is (One (Affine (affine (one_ℚ) ((0, one_ℚ) ∷ []))))) ∷
+    (infix_form op.Add (logical true) x, is (One (entry (affine (one_ℚ) ((0, one_ℚ) ∷ []))))) ∷
     -- "a"+x
     (infix_form op.Add letter x, is (fails kind.Value)) ∷
     -- t+1
@@ -122,13 +123,13 @@ operators =
     -- t+#N/A
     (infix_form op.Add t (fails kind.NotAvailable), is (fails kind.NotAvailable)) ∷
     -- x*2
-    (infix_form op.Mul x (number (whole_ℚ (pos 2))), is (One (Affine (affine (zero_ℚ) ((0, (whole_ℚ (pos 2))) ∷ []))))) ∷
+    (infix_form op.Mul x (number (whole_ℚ (pos 2))), is (One (entry (affine (zero_ℚ) ((0, (whole_ℚ (pos 2))) ∷ []))))) ∷
     -- 0*x
     (infix_form op.Mul (number (whole_ℚ (pos 0))) x, is (number (zero_ℚ))) ∷
     -- x*y
     (infix_form op.Mul x y, not_affine) ∷
     -- x/2
-    (infix_form op.Div x (number (whole_ℚ (pos 2))), is (One (Affine (affine (zero_ℚ) ((0, (frac (pos 1) 2)) ∷ []))))) ∷
+    (infix_form op.Div x (number (whole_ℚ (pos 2))), is (One (entry (affine (zero_ℚ) ((0, (frac (pos 1) 2)) ∷ []))))) ∷
     -- x/0
     (infix_form op.Div x (number (whole_ℚ (pos 0))), is (fails kind.Div0)) ∷
     -- t/0
@@ -156,11 +157,11 @@ operators =
     -- x=x
     (infix_form op.Eq x x, is (logical true)) ∷
     -- x<y
-    (infix_form op.Lt x y, is (One (Test (affine (zero_ℚ) ((0, one_ℚ) ∷ (1, (neg_ℚ one_ℚ)) ∷ [])) rel.Lt))) ∷
+    (infix_form op.Lt x y, is (One (test rel.Lt (affine (zero_ℚ) ((0, one_ℚ) ∷ (1, (neg_ℚ one_ℚ)) ∷ []))))) ∷
     -- 3>=x
-    (infix_form op.Ge (number (whole_ℚ (pos 3))) x, is (One (Test (affine (whole_ℚ (pos 3)) ((0, (neg_ℚ one_ℚ)) ∷ [])) rel.Ge))) ∷
+    (infix_form op.Ge (number (whole_ℚ (pos 3))) x, is (One (test rel.Ge (affine (whole_ℚ (pos 3)) ((0, (neg_ℚ one_ℚ)) ∷ []))))) ∷
     -- x<>
-    (infix_form op.Ne x (One (Known Empty)), is (One (Test (affine (zero_ℚ) ((0, one_ℚ) ∷ [])) rel.Ne))) ∷
+    (infix_form op.Ne x (One (Known Empty)), is (One (test rel.Ne (affine (zero_ℚ) ((0, one_ℚ) ∷ []))))) ∷
     -- x<"a"
     (infix_form op.Lt x letter, is (logical true)) ∷
     -- x>TRUE
@@ -176,21 +177,21 @@ operators =
     -- t=t
     (infix_form op.Eq t t, open_at 0) ∷
     -- -x
-    (minus_form x, is (One (Affine (affine (zero_ℚ) ((0, (neg_ℚ one_ℚ)) ∷ []))))) ∷
+    (minus_form x, is (One (entry (affine (zero_ℚ) ((0, (neg_ℚ one_ℚ)) ∷ []))))) ∷
     -- -t
     (minus_form t, open_at 0) ∷
     -- x%
-    (percent_form x, is (One (Affine (affine (zero_ℚ) ((0, (frac (pos 1) 100)) ∷ []))))) ∷
+    (percent_form x, is (One (entry (affine (zero_ℚ) ((0, (frac (pos 1) 100)) ∷ []))))) ∷
     -- {x;1}+{1;y}
-    (infix_form op.Add (column (x_is ∷ one_is ∷ [])) (column (one_is ∷ y_is ∷ [])), is (column (Affine (affine (one_ℚ) ((0, one_ℚ) ∷ [])) ∷ Affine (affine (one_ℚ) ((1, one_ℚ) ∷ [])) ∷ []))) ∷
+    (infix_form op.Add (column (x_is ∷ one_is ∷ [])) (column (one_is ∷ y_is ∷ [])), is (column (entry (affine (one_ℚ) ((0, one_ℚ) ∷ [])) ∷ entry (affine (one_ℚ) ((1, one_ℚ) ∷ [])) ∷ []))) ∷
     -- {x;1}*{y;1}
     (infix_form op.Mul (column (x_is ∷ one_is ∷ [])) (column (y_is ∷ one_is ∷ [])), not_affine) ∷
     -- {x;1}+{1;2;3}
     (infix_form op.Add (column (x_is ∷ one_is ∷ [])) (column (one_is ∷ one_is ∷ one_is ∷ [])), is (fails kind.Value)) ∷
     -- {x}+1 of a grid of one element
-    (infix_form op.Add (column (x_is ∷ [])) (number (whole_ℚ (pos 1))), is (One (Affine (affine (one_ℚ) ((0, one_ℚ) ∷ []))))) ∷
+    (infix_form op.Add (column (x_is ∷ [])) (number (whole_ℚ (pos 1))), is (One (entry (affine (one_ℚ) ((0, one_ℚ) ∷ []))))) ∷
     -- x*10^38 with 10^38 as the coefficient of x
-    (infix_form op.Mul (One (Affine (affine (zero_ℚ) ((0, (whole_ℚ (pos 100000000000000000000000000000000000000))) ∷ [])))) (number (whole_ℚ (pos 100000000000000000000000000000000000000))), too_wide) ∷
+    (infix_form op.Mul (One (entry (affine (zero_ℚ) ((0, (whole_ℚ (pos 100000000000000000000000000000000000000))) ∷ [])))) (number (whole_ℚ (pos 100000000000000000000000000000000000000))), too_wide) ∷
     -- 0*t
     (infix_form op.Mul (number (whole_ℚ (pos 0))) t, open_at 1) ∷
     -- x/t
@@ -219,11 +220,11 @@ operators =
 abbrev pub choices : List (Example AbsArg)
 choices =
     -- IF(x=0;y;x+y)
-    (if_test (decision_form 0) rel.Eq y (One (Affine (affine (zero_ℚ) ((0, one_ℚ) ∷ (1, one_ℚ) ∷ [])))), is (One (Affine (affine (zero_ℚ) ((0, one_ℚ) ∷ (1, one_ℚ) ∷ []))))) ∷
+    (if_test (decision_form 0) rel.Eq y (One (entry (affine (zero_ℚ) ((0, one_ℚ) ∷ (1, one_ℚ) ∷ [])))), is (One (entry (affine (zero_ℚ) ((0, one_ℚ) ∷ (1, one_ℚ) ∷ []))))) ∷
     -- IF(x<>0;x+y;y)
-    (if_test (decision_form 0) rel.Ne (One (Affine (affine (zero_ℚ) ((0, one_ℚ) ∷ (1, one_ℚ) ∷ [])))) y, is (One (Affine (affine (zero_ℚ) ((0, one_ℚ) ∷ (1, one_ℚ) ∷ []))))) ∷
+    (if_test (decision_form 0) rel.Ne (One (entry (affine (zero_ℚ) ((0, one_ℚ) ∷ (1, one_ℚ) ∷ [])))) y, is (One (entry (affine (zero_ℚ) ((0, one_ℚ) ∷ (1, one_ℚ) ∷ []))))) ∷
     -- IF(x<>0;y;x+y)
-    (if_test (decision_form 0) rel.Ne y (One (Affine (affine (zero_ℚ) ((0, one_ℚ) ∷ (1, one_ℚ) ∷ [])))), is y) ∷
+    (if_test (decision_form 0) rel.Ne y (One (entry (affine (zero_ℚ) ((0, one_ℚ) ∷ (1, one_ℚ) ∷ [])))), is y) ∷
     -- IF(x=0;1;y)
     (if_test (decision_form 0) rel.Eq (number (whole_ℚ (pos 1))) y, not_affine) ∷
     -- IF(x>=0;x;0)
@@ -252,21 +253,21 @@ choices =
 abbrev pub functions : List (Example AbsArg)
 functions =
     -- SUM(x;{y;t;"a"};TRUE)
-    (form_called func.Sum (x ∷ column (y_is ∷ t_is ∷ letter_is ∷ []) ∷ logical true ∷ []), is (One (Affine (affine (one_ℚ) ((0, one_ℚ) ∷ (1, one_ℚ) ∷ []))))) ∷
+    (form_called func.Sum (x ∷ column (y_is ∷ t_is ∷ letter_is ∷ []) ∷ logical true ∷ []), is (One (entry (affine (one_ℚ) ((0, one_ℚ) ∷ (1, one_ℚ) ∷ []))))) ∷
     -- SUM(x;t)
     (form_called func.Sum (x ∷ t ∷ []), open_at 1) ∷
     -- SUM(t;#N/A)
     (form_called func.Sum (t ∷ fails kind.NotAvailable ∷ []), is (fails kind.NotAvailable)) ∷
     -- AVERAGE(x;y)
-    (form_called func.Average (x ∷ y ∷ []), is (One (Affine (affine (zero_ℚ) ((0, (frac (pos 1) 2)) ∷ (1, (frac (pos 1) 2)) ∷ []))))) ∷
+    (form_called func.Average (x ∷ y ∷ []), is (One (entry (affine (zero_ℚ) ((0, (frac (pos 1) 2)) ∷ (1, (frac (pos 1) 2)) ∷ []))))) ∷
     -- AVERAGE({t;"a"})
     (form_called func.Average (column (t_is ∷ letter_is ∷ []) ∷ []), is (fails kind.Div0)) ∷
     -- COUNT(x;t;#N/A;1)
     (form_called func.Count (x ∷ t ∷ fails kind.NotAvailable ∷ (number (whole_ℚ (pos 1))) ∷ []), is (number (whole_ℚ (pos 2)))) ∷
     -- MIN(x+1;x+3)
-    (form_called func.Min (One (Affine (affine (one_ℚ) ((0, one_ℚ) ∷ []))) ∷ One (Affine (affine (whole_ℚ (pos 3)) ((0, one_ℚ) ∷ []))) ∷ []), is (One (Affine (affine (one_ℚ) ((0, one_ℚ) ∷ []))))) ∷
+    (form_called func.Min (One (entry (affine (one_ℚ) ((0, one_ℚ) ∷ []))) ∷ One (entry (affine (whole_ℚ (pos 3)) ((0, one_ℚ) ∷ []))) ∷ []), is (One (entry (affine (one_ℚ) ((0, one_ℚ) ∷ []))))) ∷
     -- MAX(x+1;x+3)
-    (form_called func.Max (One (Affine (affine (one_ℚ) ((0, one_ℚ) ∷ []))) ∷ One (Affine (affine (whole_ℚ (pos 3)) ((0, one_ℚ) ∷ []))) ∷ []), is (One (Affine (affine (whole_ℚ (pos 3)) ((0, one_ℚ) ∷ []))))) ∷
+    (form_called func.Max (One (entry (affine (one_ℚ) ((0, one_ℚ) ∷ []))) ∷ One (entry (affine (whole_ℚ (pos 3)) ((0, one_ℚ) ∷ []))) ∷ []), is (One (entry (affine (whole_ℚ (pos 3)) ((0, one_ℚ) ∷ []))))) ∷
     -- MIN(x;y)
     (form_called func.Min (x ∷ y ∷ []), not_affine) ∷
     -- MAX(x;1)
@@ -300,7 +301,7 @@ functions =
     -- POWER(2;3)
     (form_called func.Power ((number (whole_ℚ (pos 2))) ∷ (number (whole_ℚ (pos 3))) ∷ []), is (number (whole_ℚ (pos 8)))) ∷
     -- AND(TRUE;x)
-    (form_called func.And (logical true ∷ x ∷ []), is (One (Test (affine (zero_ℚ) ((0, one_ℚ) ∷ [])) rel.Ne))) ∷
+    (form_called func.And (logical true ∷ x ∷ []), is (One (test rel.Ne (affine (zero_ℚ) ((0, one_ℚ) ∷ []))))) ∷
     -- AND(t;FALSE)
     (form_called func.And (t ∷ logical false ∷ []), is (logical false)) ∷
     -- AND(TRUE;t;x)
@@ -310,9 +311,9 @@ functions =
     -- OR({"a"};t)
     (form_called func.Or (column (letter_is ∷ []) ∷ t ∷ []), is t) ∷
     -- NOT(t)
-    (form_called func.Not (t ∷ []), is (One (Test (affine (zero_ℚ) ((0, one_ℚ) ∷ [])) rel.Lt))) ∷
+    (form_called func.Not (t ∷ []), is (One (test rel.Lt (affine (zero_ℚ) ((0, one_ℚ) ∷ []))))) ∷
     -- NOT(x)
-    (form_called func.Not (x ∷ []), is (One (Test (affine (zero_ℚ) ((0, one_ℚ) ∷ [])) rel.Eq))) ∷
+    (form_called func.Not (x ∷ []), is (One (test rel.Eq (affine (zero_ℚ) ((0, one_ℚ) ∷ []))))) ∷
     -- N(x)
     (form_called func.N (x ∷ []), is x) ∷
     -- N(t)
@@ -326,13 +327,13 @@ functions =
     -- TRANSPOSE({x;1})
     (form_called func.Transpose (column (x_is ∷ one_is ∷ []) ∷ []), is (line (x_is ∷ one_is ∷ []))) ∷
     -- SUMPRODUCT({x;1};{1;y})
-    (form_called func.SumProduct (column (x_is ∷ one_is ∷ []) ∷ column (one_is ∷ y_is ∷ []) ∷ []), is (One (Affine (affine (zero_ℚ) ((0, one_ℚ) ∷ (1, one_ℚ) ∷ []))))) ∷
+    (form_called func.SumProduct (column (x_is ∷ one_is ∷ []) ∷ column (one_is ∷ y_is ∷ []) ∷ []), is (One (entry (affine (zero_ℚ) ((0, one_ℚ) ∷ (1, one_ℚ) ∷ []))))) ∷
     -- SUMPRODUCT({x;1};{y;1})
     (form_called func.SumProduct (column (x_is ∷ one_is ∷ []) ∷ column (y_is ∷ one_is ∷ []) ∷ []), not_affine) ∷
     -- SUMPRODUCT({t;1};{x;1})
     (form_called func.SumProduct (column (t_is ∷ one_is ∷ []) ∷ column (x_is ∷ one_is ∷ []) ∷ []), is (number (one_ℚ))) ∷
     -- MMULT(a line {1 1}; {x;y})
-    (form_called func.MMult (line (one_is ∷ one_is ∷ []) ∷ column (x_is ∷ y_is ∷ []) ∷ []), is (line (Affine (affine (zero_ℚ) ((0, one_ℚ) ∷ (1, one_ℚ) ∷ [])) ∷ []))) ∷
+    (form_called func.MMult (line (one_is ∷ one_is ∷ []) ∷ column (x_is ∷ y_is ∷ []) ∷ []), is (line (entry (affine (zero_ℚ) ((0, one_ℚ) ∷ (1, one_ℚ) ∷ [])) ∷ []))) ∷
     -- MATCH(x;{1;1};0)
     (form_called func.Match (x ∷ column (one_is ∷ one_is ∷ []) ∷ (number (whole_ℚ (pos 0))) ∷ []), open_at 0) ∷
     -- MATCH(1;{x;1};0)

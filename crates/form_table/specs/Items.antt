@@ -24,7 +24,7 @@ use Rattle.form_values.specs.Meaning.{elements_of}
 abbrev pub item_at : Abs → Option Wanted
 item_at (Known (Number x)) = Some (form (constant_form x))
 item_at (Known (Error k)) = Some (none k)
-item_at (Affine f) = Some (form f)
+item_at (Affine o) = Some (form o.form)
 item_at _ = None
 
 abbrev pub items_in : AbsArg → List Wanted
@@ -79,7 +79,7 @@ average_form args = of_items args mean
 -- a number, also an open one
 abbrev pub is_number : Abs → Bool
 is_number (Known (Number x)) = true
-is_number (Affine f) = true
+is_number (Affine o) = true
 is_number _ = false
 
 -- no error and nothing open stands in the way here

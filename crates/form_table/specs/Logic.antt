@@ -31,8 +31,8 @@ of_logical (Err k) = none k
 
 abbrev pub truth_of : ℕ → Abs → Truth
 truth_of i (Known v) = of_logical (logical_in v)
-truth_of i (Affine f) = opened i (Test f rel.Ne)
-truth_of i (Test f r) = opened i (Test f r)
+truth_of i (Affine o) = opened i (Test o rel.Ne)
+truth_of i (Test o r) = opened i (Test o r)
 
 -- an element of an area that is no number and no logical is skipped
 abbrev pub element_truth : ℕ → Abs → Option Truth
@@ -92,8 +92,8 @@ not_logical (Err k) = Known (Error k)
 
 abbrev pub not_abs : Abs → Abs
 not_abs (Known v) = not_logical (logical_in v)
-not_abs (Affine f) = Test f rel.Eq
-not_abs (Test f r) = Test f (reversed r)
+not_abs (Affine o) = Test o rel.Eq
+not_abs (Test o r) = Test o (reversed r)
 
 abbrev pub not_form : AbsArg → Trial AbsArg
 not_form a = given (One (not_abs (value_of a)))
@@ -101,8 +101,8 @@ not_form a = given (One (not_abs (value_of a)))
 -- an open logical is 1 or 0
 abbrev pub n_abs : Abs → Trial Abs
 n_abs (Known v) = given (Known (number_or_zero v))
-n_abs (Affine f) = given (Affine f)
-n_abs (Test f r) = undecided 0
+n_abs (Affine o) = given (Affine o)
+n_abs (Test o r) = undecided 0
 
 abbrev pub n_form : AbsArg → Trial AbsArg
 n_form a = one (n_abs (value_of a))

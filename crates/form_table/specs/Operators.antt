@@ -83,7 +83,7 @@ relation_of _ = rel.Eq
 abbrev pub comparable : Abs → Option AffineForm
 comparable (Known (Number x)) = Some (constant_form x)
 comparable (Known Empty) = Some (constant_form zero_ℚ)
-comparable (Affine f) = Some f
+comparable (Affine o) = Some o.form
 comparable _ = None
 
 -- a side that is no number is greater than one that is
@@ -94,13 +94,13 @@ compared_sides o None y = given (Known (Logical (asks_for o Greater)))
 
 abbrev pub is_logical : Abs → Bool
 is_logical (Known (Logical b)) = true
-is_logical (Test f r) = true
+is_logical (Test o r) = true
 is_logical _ = false
 
 -- an open logical is greater than what is no logical
 abbrev pub compared_row : Op → Abs → Abs → Trial Abs
-compared_row o (Test f r) b = if is_logical b then undecided 0 else given (Known (Logical (asks_for o Greater)))
-compared_row o a (Test f r) = if is_logical a then undecided 1 else given (Known (Logical (asks_for o Less)))
+compared_row o (Test t r) b = if is_logical b then undecided 0 else given (Known (Logical (asks_for o Greater)))
+compared_row o a (Test t r) = if is_logical a then undecided 1 else given (Known (Logical (asks_for o Less)))
 compared_row o a b = compared_sides o (comparable a) (comparable b)
 
 abbrev pub compared : Op → Abs → Abs → Trial Abs

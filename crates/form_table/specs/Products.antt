@@ -23,7 +23,7 @@ use Rattle.form_table.specs.Items.{is_number}
 -- an element as a factor: what is no number, an open logical too, counts as 0
 abbrev pub factor : Abs → AffineForm
 factor (Known (Number x)) = constant_form x
-factor (Affine f) = f
+factor (Affine o) = o.form
 factor _ = constant_form zero_ℚ
 
 -- the product of some factors, from the left

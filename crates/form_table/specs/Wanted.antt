@@ -50,8 +50,8 @@ of_number (Err k) = none k
 
 abbrev pub wanted : Abs → Wanted
 wanted (Known v) = of_number (number_in v)
-wanted (Affine f) = form f
-wanted (Test f r) = open_test
+wanted (Affine o) = form o.form
+wanted (Test o r) = open_test
 
 abbrev pub number_of : AbsArg → Wanted
 number_of a = wanted (value_of a)

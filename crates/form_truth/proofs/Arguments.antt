@@ -3,7 +3,8 @@ use Rattle.std.specs.List.{AllByRecursion}
 use Rattle.std.proofs.Common.{◌≡◌, refl, sym, ap, ◌∙◌, List, [], ◌∷◌, map}
 use Rattle.sheet_funcs.specs.Arguments as arguments
 use Rattle.affine_forms.specs.Forms.{Assignment}
-use Rattle.form_values.specs.Meaning.{abs_at, arg_at, elements_of, IsAbs}
+use Rattle.form_values.specs.Meaning.{abs_at, arg_at, elements_of}
+use Rattle.form_values.proofs.Opening.{IsAbs}
 use Rattle.form_values.specs.Refusals.{Varies}
 use Rattle.form_values.specs.declared.abs.Abs.{Abs}
 use Rattle.form_values.specs.declared.abs.AbsArg.{AbsArg}

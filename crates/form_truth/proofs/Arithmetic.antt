@@ -12,9 +12,9 @@ use Rattle.sheet_model.specs.declared.value.Value.{Value}
 use Rattle.sheet_model.specs.declared.value.Value.TheVariants.{Number, Error}
 use Rattle.affine_forms.specs.Forms.{Assignment, AffineForm, IsForm, worth, sum_at}
 use Rattle.affine_forms.specs.Steps.{added, subtracted, scaled}
-use Rattle.affine_forms.proofs.Worths.{added_worth, subtracted_worth, scaled_worth}
+use Rattle.affine_forms.proofs.Worths.{added_is_form, added_worth, scaled_is_form, scaled_worth, subtracted_worth}
 use Rattle.affine_forms.proofs.Directions.{moves, moved, worth_moved, both_move}
-use Rattle.form_values.specs.Meaning.{IsOpen}
+use Rattle.form_values.proofs.Opening.{IsOpen}
 use Rattle.form_values.specs.Refusals.{Bends, bends, jumps, middle, midpoint}
 use Rattle.form_values.specs.Trials.{Trial, Refusal, Breaks, Undecided, given, breaks, undecided, fault, made}
 use Rattle.form_values.specs.declared.abs.Abs.{Abs}
@@ -23,26 +23,27 @@ use Rattle.form_values.specs.Entries.{entry}
 use Rattle.form_table.specs.Operators.{by_constants, product_row, divided_by, quotient_row, zero_divisor}
 use Rattle.form_truth.proofs.Right.{IsRight}
 use Rattle.form_truth.proofs.Exact.{exact-made, exact-and_then}
+use Rattle.form_truth.proofs.Formed.{subtracted_is_form}
 use Rattle.form_truth.proofs.Fitting.{entry_at, constant_is, open_is, at_value, at_value_worth, zero_is_not_one}
 use Rattle.form_truth.proofs.Bending.{midpoint_is, product_bends}
 use Rattle.form_truth.proofs.Numbers.{RowIsRight}
 
 -- a form that is calculated is right where its value is the function's
-pub made_right : (args : List Abs) (value : Assignment → Value) (c : Calculation AffineForm) → ((x : Assignment) → value x ≡ Number (worth x (exact c))) → IsRight value args (exact (made entry c))
-made_right args value c h =
-    subst (IsRight value args) (sym (exact-made entry c)) (λ x. h x ∙ sym (entry_at x (exact c)))
+pub made_right : (args : List Abs) (value : Assignment → Value) (c : Calculation AffineForm) → IsForm (exact c) → ((x : Assignment) → value x ≡ Number (worth x (exact c))) → IsRight value args (exact (made entry c))
+made_right args value c i h =
+    subst (IsRight value args) (sym (exact-made entry c)) (λ x. h x ∙ sym (entry_at x (exact c) i))
 
 module _ (a b : Abs) where
   pub sum_row : RowIsRight a b (λ x y. calculated (sum x y)) no_error (λ f g. made entry (added f g))
   sum_row = record {
     errors = λ p y k e. cc;
-    forms = λ f g i j d e s n. made_right (a ∷ b ∷ []) _ (added f g) (λ x. ap Number (sym (added_worth x f g)));
+    forms = λ f g i j d e s n. made_right (a ∷ b ∷ []) _ (added f g) (added_is_form f g i j) (λ x. ap Number (sym (added_worth x f g)));
   }
 
   pub difference_row : RowIsRight a b (λ x y. calculated (sum x (neg_ℚ y))) no_error (λ f g. made entry (subtracted f g))
   difference_row = record {
     errors = λ p y k e. cc;
-    forms = λ f g i j d e s n. made_right (a ∷ b ∷ []) _ (subtracted f g) (λ x. ap Number (sym (subtracted_worth x f g)));
+    forms = λ f g i j d e s n. made_right (a ∷ b ∷ []) _ (subtracted f g) (subtracted_is_form f g i j) (λ x. ap Number (sym (subtracted_worth x f g)));
   }
 
 -- ---- products
@@ -66,11 +67,11 @@ module _ (a b : Abs) where
   product_right f g i j (Some k) l d e =
       subst (IsRight (λ x. Number (worth x f *ℚ worth x g)) (a ∷ b ∷ []))
       (sym (exact-and_then (by_constants f g (Some k) l) (λ h. given (entry h)) ∙ ap (λ r. exact (Rattle.form_values.specs.Trials.on_given r (λ h. given (entry h)))) (exact-made (λ h. h) (scaled k g))))
-      (λ x. ap Number (mul_comm (worth x f) (worth x g) ∙ ap (λ t. worth x g *ℚ t) (constant_is f k d x) ∙ sym (scaled_worth x k g)) ∙ sym (entry_at x (exact (scaled k g))))
+      (λ x. ap Number (mul_comm (worth x f) (worth x g) ∙ ap (λ t. worth x g *ℚ t) (constant_is f k d x) ∙ sym (scaled_worth x k g)) ∙ sym (entry_at x (exact (scaled k g)) (scaled_is_form k g j)))
   product_right f g i j None (Some l) d e =
       subst (IsRight (λ x. Number (worth x f *ℚ worth x g)) (a ∷ b ∷ []))
       (sym (exact-and_then (by_constants f g None (Some l)) (λ h. given (entry h)) ∙ ap (λ r. exact (Rattle.form_values.specs.Trials.on_given r (λ h. given (entry h)))) (exact-made (λ h. h) (scaled l f))))
-      (λ x. ap Number (ap (λ t. worth x f *ℚ t) (constant_is g l e x) ∙ sym (scaled_worth x l f)) ∙ sym (entry_at x (exact (scaled l f))))
+      (λ x. ap Number (ap (λ t. worth x f *ℚ t) (constant_is g l e x) ∙ sym (scaled_worth x l f)) ∙ sym (entry_at x (exact (scaled l f)) (scaled_is_form l f i)))
   product_right f g i j None None d e = open_product_bends f g (i, open_is f d) (j, open_is g e)
 
   pub times_row : RowIsRight a b (λ x y. calculated (product x y)) no_error product_row
@@ -127,7 +128,7 @@ module _ (a b : Abs) where
   quotient_right : (f g : AffineForm) → IsForm f → IsForm g → (l : Option ℚ) → constant_of g ≡ l → certain_by zero_divisor l ≡ None
       → IsRight (λ x. exact (divided (worth x f) (worth x g))) (a ∷ b ∷ []) (exact (divided_by f l))
   quotient_right f g i j (Some y) e n =
-      made_right (a ∷ b ∷ []) _ (scaled (inv_ℚ y) f) (λ x. ap (λ t. exact (divided (worth x f) t)) (constant_is g y e x) ∙ divided_some (worth x f) y (is_zero y) refl n ∙ ap Number (sym (scaled_worth x (inv_ℚ y) f)))
+      made_right (a ∷ b ∷ []) _ (scaled (inv_ℚ y) f) (scaled_is_form (inv_ℚ y) f i) (λ x. ap (λ t. exact (divided (worth x f) t)) (constant_is g y e x) ∙ divided_some (worth x f) y (is_zero y) refl n ∙ ap Number (sym (scaled_worth x (inv_ℚ y) f)))
   quotient_right f g i j None e n = open_quotient_bends f g (j, open_is g e)
 
   pub over_row : RowIsRight a b divided zero_divisor quotient_row

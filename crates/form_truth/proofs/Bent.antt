@@ -19,7 +19,8 @@ use Rattle.sheet_model.specs.declared.grid.Arg.TheVariants as arg
 use Rattle.sheet_funcs.specs.Arguments.{answered, counted}
 use Rattle.sheet_funcs.specs.Rounding.{rounded, magnitude, abs_of, int_of, remainder, mod_of, power_of}
 use Rattle.affine_forms.specs.Forms.{AffineForm, IsForm, worth, has_terms}
-use Rattle.form_values.specs.Meaning.{arg_at, IsAbs, IsOpen, elements_of}
+use Rattle.form_values.specs.Meaning.{arg_at, elements_of}
+use Rattle.form_values.proofs.Opening.{IsAbs, IsOpen}
 use Rattle.form_values.specs.Refusals.{Bends, jumps, middle}
 use Rattle.form_values.specs.Trials.{breaks}
 use Rattle.form_values.specs.declared.abs.Abs.{Abs}

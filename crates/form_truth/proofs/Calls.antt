@@ -15,7 +15,8 @@ use Rattle.sheet_model.specs.declared.grid.Arg.TheVariants as arg
 use Rattle.sheet_funcs.specs.Arguments.{on_ok}
 use Rattle.sheet_funcs.specs.Rounding as numbers
 use Rattle.affine_forms.specs.Forms.{Assignment, AffineForm, IsForm, worth, has_terms}
-use Rattle.form_values.specs.Meaning.{abs_at, arg_at, IsAbs, IsOpen, elements_of}
+use Rattle.form_values.specs.Meaning.{abs_at, arg_at, elements_of}
+use Rattle.form_values.proofs.Opening.{IsAbs, IsOpen}
 use Rattle.form_values.specs.Refusals.{Bends, bends, middle, midpoint}
 use Rattle.form_values.specs.Trials.{Trial, breaks, one}
 use Rattle.form_values.specs.declared.abs.Abs.{Abs}

@@ -14,7 +14,8 @@ use Rattle.sheet_funcs.specs.Picks.{picked, part_of, pick_at, pick_of}
 use Rattle.sheet_funcs.specs.declared.pick.Pick.{Pick}
 use Rattle.sheet_funcs.specs.Rounding as numbers
 use Rattle.affine_forms.specs.Forms.{Assignment, AffineForm}
-use Rattle.form_values.specs.Meaning.{arg_at, IsSound}
+use Rattle.form_values.specs.Meaning.{arg_at}
+use Rattle.form_values.proofs.Opening.{IsSound, args_sound}
 use Rattle.form_values.specs.declared.abs.Abs.{Abs}
 use Rattle.form_values.specs.declared.abs.Abs.TheVariants.{Known, Affine, Test}
 use Rattle.form_values.specs.declared.abs.AbsArg.{AbsArg}
@@ -165,4 +166,4 @@ module _ (x : Assignment) (rows columns : ℕ) (items : List Abs) where
   by_test places h false e k d = cc
 
 pub certain_is_picked : CertainIsPicked
-certain_is_picked x rows columns items places k h e = by_test x rows columns items places h (picks_ref_error columns items (pick_in_range rows columns places)) refl k e
+certain_is_picked x rows columns items places k e = by_test x rows columns items places (args_sound places) (picks_ref_error columns items (pick_in_range rows columns places)) refl k e

@@ -33,7 +33,7 @@ error_behind x (Known (Number y)) k vs e h = ap (behind_first y) h
 error_behind x (Known (Text y)) k vs e h = h
 error_behind x (Known (Logical y)) k vs e h = h
 error_behind x (Known Empty) k vs e h = h
-error_behind x (Affine f) k vs e h = ap (behind_first (worth x f)) h
+error_behind x (Affine o) k vs e h = ap (behind_first (worth x o.form)) h
 error_behind x (Test f r) k vs e h = h
 
 -- ---- one place, with what is certain of those that follow

@@ -20,7 +20,8 @@ use Rattle.affine_forms.proofs.Exact.{exact-followed_by}
 use Rattle.affine_forms.proofs.Worths.{subtracted_worth, added_is_form, negated_is_form}
 use Rattle.affine_forms.proofs.Directions.{Moves, moves, moved, worth_moved, reached, reached_worth}
 use Rattle.affine_forms.proofs.Multiples.{multiple_true, multiple_false, Apart, forms_differ}
-use Rattle.form_values.specs.Meaning.{arg_at, IsAbs, IsOpen}
+use Rattle.form_values.specs.Meaning.{arg_at}
+use Rattle.form_values.proofs.Opening.{IsAbs, IsOpen}
 use Rattle.affine_forms.specs.Relations.{holds}
 use Rattle.form_values.specs.Refusals.{Bends, bends, SomeBends, Varies, middle, midpoint}
 use Rattle.form_values.specs.Trials.{Breaks, given, on_given, made}
@@ -49,7 +50,7 @@ pub record IsBranch (a : AbsArg) (f : AffineForm) : Type 0 where
 
 branch_is : (a : AbsArg) → AllByRecursion IsAbs (meaning.elements_of a) → (f : AffineForm) → number_branch a ≡ Some f → IsBranch a f
 branch_is (One (Known (Number y))) h f e = let s : constant_form y ≡ f = cc in subst (IsBranch (One (Known (Number y)))) s (record { form = record { rise = tt }; worth_is = λ x. ap (λ w. arg.One (Number w)) (sym (constant_worth x y)) })
-branch_is (One (Affine g)) h f e = let s : g ≡ f = cc in subst (IsBranch (One (Affine g))) s (record { form = h.0.0; worth_is = λ x. refl })
+branch_is (One (Affine g)) h f e = let s : g.form ≡ f = cc in subst (IsBranch (One (Affine g))) s (record { form = h.0.0; worth_is = λ x. refl })
 branch_is (One (Known (Text t))) h f e = cc
 branch_is (One (Known (Logical b))) h f e = cc
 branch_is (One (Known Empty)) h f e = cc
@@ -238,16 +239,16 @@ other_forms (One (Known (Number y))) (One (Known (Number z))) h k f g d e n =
     subst (λ f. same_form f g ≡ false) p (subst (λ g. same_form (constant_form y) g ≡ false) q (and_true (eq_ℚ y z) n))
 other_forms (One (Known (Number y))) (One (Affine g')) h k f g d e n =
     let p : constant_form y ≡ f = cc in
-    let q : g' ≡ g = cc in
-    subst (λ f. same_form f g ≡ false) p (subst (λ g. same_form (constant_form y) g ≡ false) q (known_terms y g' k.0.1))
+    let q : g'.form ≡ g = cc in
+    subst (λ f. same_form f g ≡ false) p (subst (λ g. same_form (constant_form y) g ≡ false) q (known_terms y g'.form k.0.1))
 other_forms (One (Affine f')) (One (Known (Number z))) h k f g d e n =
-    let p : f' ≡ f = cc in
+    let p : f'.form ≡ f = cc in
     let q : constant_form z ≡ g = cc in
-    subst (λ f. same_form f g ≡ false) p (subst (λ g. same_form f' g ≡ false) q (terms_known f' z h.0.1))
+    subst (λ f. same_form f g ≡ false) p (subst (λ g. same_form f'.form g ≡ false) q (terms_known f'.form z h.0.1))
 other_forms (One (Affine f')) (One (Affine g')) h k f g d e n =
-    let p : f' ≡ f = cc in
-    let q : g' ≡ g = cc in
-    subst (λ f. same_form f g ≡ false) p (subst (λ g. same_form f' g ≡ false) q n)
+    let p : f'.form ≡ f = cc in
+    let q : g'.form ≡ g = cc in
+    subst (λ f. same_form f g ≡ false) p (subst (λ g. same_form f'.form g ≡ false) q n)
 other_forms (One (Known (Text y))) b h k f g d e n = cc
 other_forms (One (Known (Logical y))) b h k f g d e n = cc
 other_forms (One (Known Empty)) b h k f g d e n = cc

@@ -14,7 +14,8 @@ use Rattle.sheet_model.specs.declared.grid.Arg.TheVariants as arg
 use Rattle.sheet_funcs.specs.Arguments as functions
 use Rattle.sheet_funcs.specs.Rounding as numbers
 use Rattle.affine_forms.specs.Forms.{Assignment, AffineForm, worth}
-use Rattle.form_values.specs.Meaning.{abs_at, arg_at, IsSound}
+use Rattle.form_values.specs.Meaning.{abs_at, arg_at}
+use Rattle.form_values.proofs.Opening.{IsSound, abs_sound, arg_sound}
 use Rattle.form_values.specs.declared.abs.Abs.{Abs}
 use Rattle.form_values.specs.declared.abs.Abs.TheVariants.{Known, Affine, Test}
 use Rattle.form_values.specs.declared.abs.AbsArg.{AbsArg}
@@ -26,7 +27,7 @@ use Rattle.form_table.specs.Criteria.{places_from, by_known}
 use Rattle.form_table.specs.Lookups.{known_value, known_keys}
 use Rattle.form_truth.specs.Rows.{ArgumentVaries}
 use Rattle.form_truth.specs.Picks.{IsPick, PlacesAreRight, chosen_by, ChosenIsRight, worth_chosen, CertainIsChosen}
-use Rattle.form_truth.proofs.Arguments.{value_at, value_sound}
+use Rattle.form_truth.proofs.Arguments.{value_at}
 use Rattle.form_truth.proofs.Fitting.{fits, constant_is}
 use Rattle.form_truth.proofs.Matching.{Asked, asks_none, asks_form, asks_test, asked, asked_there}
 use Rattle.form_truth.proofs.Varying.{value_known, argument_open, grid_open, grid_known}
@@ -40,7 +41,7 @@ module _ (tested criterion : AbsArg) (h : IsSound tested) (i : IsSound criterion
   by_parts (Some vs) d (Some v) e = λ x. ap₂ (places_from 0) (value_at x criterion ∙ value_known (value_of criterion) v e x) (grid_known tested vs d x)
 
 pub places_are_right : PlacesAreRight
-places_are_right tested criterion h i = by_parts tested criterion h i (known_keys (grid_of tested).items) refl (known_value (value_of criterion)) refl
+places_are_right tested criterion = by_parts tested criterion (arg_sound tested) (arg_sound criterion) (known_keys (grid_of tested).items) refl (known_value (value_of criterion)) refl
 
 -- ---- CHOOSE
 module _ (place : AbsArg) (choices : List AbsArg) where
@@ -58,8 +59,8 @@ module _ (place : AbsArg) (choices : List AbsArg) where
   by_number open_test (asks_test d v) = v
 
 pub chosen_is_right : ChosenIsRight
-chosen_is_right place choices h =
-    by_number place choices (number_of place) (asked_there (place ∷ choices) 0 place refl (λ x. numbers.number_of (arg_at x place)) (number_of place) (asked place (number_of place) (fits (value_of place) (value_sound place h))))
+chosen_is_right place choices =
+    by_number place choices (number_of place) (asked_there (place ∷ choices) 0 place refl (λ x. numbers.number_of (arg_at x place)) (number_of place) (asked place (number_of place) (fits (value_of place) (abs_sound (value_of place)))))
 
 -- ---- choices that are certainly the error for no choice
 -- elements that are this error alone

@@ -12,7 +12,8 @@ use Rattle.sheet_funcs.specs.Arguments.{all_or_error, behind_first}
 use Rattle.sheet_funcs.specs.Items as values
 use Rattle.sheet_funcs.specs.Items.{number_at, numbers_of}
 use Rattle.affine_forms.specs.Forms.{Assignment, AffineForm, IsForm, worth}
-use Rattle.form_values.specs.Meaning.{abs_at, arg_at, IsAbs, elements_of}
+use Rattle.form_values.specs.Meaning.{abs_at, arg_at, elements_of}
+use Rattle.form_values.proofs.Opening.{IsAbs}
 use Rattle.form_values.specs.Refusals.{Varies}
 use Rattle.form_values.specs.declared.abs.Abs.{Abs}
 use Rattle.form_values.specs.declared.abs.Abs.TheVariants.{Known, Affine, Test}

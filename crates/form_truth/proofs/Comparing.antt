@@ -13,13 +13,15 @@ use Rattle.sheet_model.specs.Operators.{asks_for, compared as compared_values, j
 use Rattle.sheet_model.specs.Conversions.{text_in}
 use Rattle.sheet_model.specs.declared.value.Value.{Value}
 use Rattle.sheet_model.specs.declared.value.Value.TheVariants.{Number, Text, Logical, Empty, Error}
-use Rattle.affine_forms.specs.Forms.{Assignment, AffineForm, worth, constant_form}
+use Rattle.affine_forms.specs.Forms.{Assignment, AffineForm, IsForm, worth, constant_form}
 use Rattle.affine_forms.specs.Steps.{subtracted}
 use Rattle.affine_forms.proofs.Worths.{subtracted_worth}
-use Rattle.form_values.specs.Meaning.{abs_at, IsAbs, IsOpen}
+use Rattle.form_values.specs.Meaning.{abs_at}
+use Rattle.form_values.proofs.Opening.{IsAbs, IsOpen}
 use Rattle.affine_forms.specs.Relations.{holds}
 use Rattle.form_values.specs.Trials.{made}
 use Rattle.affine_forms.specs.declared.rel.Rel.{Rel}
+use Rattle.form_values.specs.declared.open_form.Open.{Open}
 use Rattle.form_values.specs.declared.abs.Abs.{Abs}
 use Rattle.form_values.specs.declared.abs.Abs.TheVariants.{Known, Affine, Test}
 use Rattle.form_values.specs.Entries.{test}
@@ -27,6 +29,7 @@ use Rattle.form_table.specs.Operators.{relation_of, compared, joined}
 use Rattle.form_truth.proofs.Relations.{takes, holds_takes}
 use Rattle.form_truth.proofs.Right.{IsRight}
 use Rattle.form_truth.proofs.Exact.{exact-made}
+use Rattle.form_truth.proofs.Formed.{subtracted_is_form}
 use Rattle.form_truth.proofs.Fitting.{test_at, constant_worth, affine_varies, test_varies}
 
 -- whether an operator compares
@@ -80,12 +83,12 @@ cmp_difference x y =
 
 module _ (o : Op) (c : compares o ≡ true) where
   -- a test of the difference is the comparison
-  pub difference_right : (args : List Abs) (value : Assignment → Value) (f g : AffineForm) → ((x : Assignment) → value x ≡ Logical (asks_for o (number_cmp (worth x f) (worth x g))))
+  pub difference_right : (args : List Abs) (value : Assignment → Value) (f g : AffineForm) → IsForm f → IsForm g → ((x : Assignment) → value x ≡ Logical (asks_for o (number_cmp (worth x f) (worth x g))))
       → IsRight value args (exact (made (test (relation_of o)) (subtracted f g)))
-  difference_right args value f g h =
+  difference_right args value f g i j h =
       subst (IsRight value args) (sym (exact-made (test (relation_of o)) (subtracted f g)))
       (λ x. h x ∙ ap Logical (sym (same_orders o c _) ∙ ap (takes (relation_of o)) (cmp_difference (worth x f) (worth x g)) ∙ sym (holds_takes (relation_of o) (worth x f -ℚ worth x g)) ∙ ap (holds (relation_of o)) (sym (subtracted_worth x f g)))
-      ∙ sym (test_at x (relation_of o) (exact (subtracted f g))))
+      ∙ sym (test_at x (relation_of o) (exact (subtracted f g)) (subtracted_is_form f g i j)))
 
   -- a known value beside a number
   numbers : (x : Assignment) (p : ℚ) (f : AffineForm) → Logical (asks_for o (number_cmp p (worth x f))) ≡ Logical (asks_for o (number_cmp (worth x (constant_form p)) (worth x f)))
@@ -95,30 +98,30 @@ module _ (o : Op) (c : compares o ≡ true) where
   numbers_behind x p f = ap (λ q. Logical (asks_for o (number_cmp (worth x f) q))) (sym (constant_worth x p))
 
   -- an affine form on the right of a known value
-  known_affine : (v : Value) (f : AffineForm) → IsOpen f → IsRight (λ x. compared_values o v (Number (worth x f))) (Known v ∷ Affine f ∷ []) (exact (compared o (Known v) (Affine f)))
-  known_affine (Number p) f h = difference_right (Known (Number p) ∷ Affine f ∷ []) _ (constant_form p) f (λ x. numbers x p f)
+  known_affine : (v : Value) (f : Open) → IsOpen f.form → IsRight (λ x. compared_values o v (Number (worth x f.form))) (Known v ∷ Affine f ∷ []) (exact (compared o (Known v) (Affine f)))
+  known_affine (Number p) f h = difference_right (Known (Number p) ∷ Affine f ∷ []) _ (constant_form p) f.form record { rise = tt } h.0 (λ x. numbers x p f.form)
   known_affine (Text t) f h = λ x. refl
   known_affine (Logical b) f h = λ x. refl
-  known_affine Empty f h = difference_right (Known Empty ∷ Affine f ∷ []) _ (constant_form zero_ℚ) f (λ x. numbers x zero_ℚ f)
+  known_affine Empty f h = difference_right (Known Empty ∷ Affine f ∷ []) _ (constant_form zero_ℚ) f.form record { rise = tt } h.0 (λ x. numbers x zero_ℚ f.form)
   known_affine (Error k) f h = λ x. refl
 
   -- on its left
-  affine_known : (f : AffineForm) (v : Value) → IsOpen f → IsRight (λ x. compared_values o (Number (worth x f)) v) (Affine f ∷ Known v ∷ []) (exact (compared o (Affine f) (Known v)))
-  affine_known f (Number p) h = difference_right (Affine f ∷ Known (Number p) ∷ []) _ f (constant_form p) (λ x. numbers_behind x p f)
+  affine_known : (f : Open) (v : Value) → IsOpen f.form → IsRight (λ x. compared_values o (Number (worth x f.form)) v) (Affine f ∷ Known v ∷ []) (exact (compared o (Affine f) (Known v)))
+  affine_known f (Number p) h = difference_right (Affine f ∷ Known (Number p) ∷ []) _ f.form (constant_form p) h.0 record { rise = tt } (λ x. numbers_behind x p f.form)
   affine_known f (Text t) h = λ x. refl
   affine_known f (Logical b) h = λ x. refl
-  affine_known f Empty h = difference_right (Affine f ∷ Known Empty ∷ []) _ f (constant_form zero_ℚ) (λ x. numbers_behind x zero_ℚ f)
+  affine_known f Empty h = difference_right (Affine f ∷ Known Empty ∷ []) _ f.form (constant_form zero_ℚ) h.0 record { rise = tt } (λ x. numbers_behind x zero_ℚ f.form)
   affine_known f (Error k) h = λ x. refl
 
   -- a test beside a known value
-  known_test : (v : Value) (f : AffineForm) (r : Rel) → IsOpen f → IsRight (λ x. compared_values o v (Logical (holds r (worth x f)))) (Known v ∷ Test f r ∷ []) (exact (compared o (Known v) (Test f r)))
+  known_test : (v : Value) (f : Open) (r : Rel) → IsOpen f.form → IsRight (λ x. compared_values o v (Logical (holds r (worth x f.form)))) (Known v ∷ Test f r ∷ []) (exact (compared o (Known v) (Test f r)))
   known_test (Number p) f r h = λ x. refl
   known_test (Text t) f r h = λ x. refl
   known_test (Logical b) f r h = record { argument = Test f r; is_there = refl; varies = test_varies f r h }
   known_test Empty f r h = λ x. refl
   known_test (Error k) f r h = λ x. refl
 
-  test_known : (f : AffineForm) (r : Rel) (v : Value) → IsOpen f → IsRight (λ x. compared_values o (Logical (holds r (worth x f))) v) (Test f r ∷ Known v ∷ []) (exact (compared o (Test f r) (Known v)))
+  test_known : (f : Open) (r : Rel) (v : Value) → IsOpen f.form → IsRight (λ x. compared_values o (Logical (holds r (worth x f.form))) v) (Test f r ∷ Known v ∷ []) (exact (compared o (Test f r) (Known v)))
   test_known f r (Number p) h = λ x. refl
   test_known f r (Text t) h = λ x. refl
   test_known f r (Logical b) h = record { argument = Test f r; is_there = refl; varies = test_varies f r h }
@@ -132,7 +135,7 @@ module _ (o : Op) (c : compares o ≡ true) where
   compared_right (Known v) (Affine g) h k n = known_affine v g k
   compared_right (Known v) (Test g s) h k n = known_test v g s k
   compared_right (Affine f) (Known w) h k n = affine_known f w h
-  compared_right (Affine f) (Affine g) h k n = difference_right (Affine f ∷ Affine g ∷ []) _ f g (λ x. refl)
+  compared_right (Affine f) (Affine g) h k n = difference_right (Affine f ∷ Affine g ∷ []) _ f.form g.form h.0 k.0 (λ x. refl)
   compared_right (Affine f) (Test g s) h k n = λ x. refl
   compared_right (Test f r) (Known w) h k n = test_known f r w h
   compared_right (Test f r) (Affine g) h k n = λ x. refl
@@ -160,7 +163,7 @@ known_open (Logical b) (Test g s) k n = record { argument = Test g s; is_there =
 known_open Empty (Test g s) k n = record { argument = Test g s; is_there = refl; varies = test_varies g s k }
 known_open (Error e) (Test g s) k n = λ x. refl
 
-affine_joined : (f : AffineForm) (b : Abs) → IsOpen f → IsRight (λ x. joined_texts (text_in (Number (worth x f))) (text_in (abs_at x b))) (Affine f ∷ b ∷ []) (exact (joined (Affine f) b))
+affine_joined : (f : Open) (b : Abs) → IsOpen f.form → IsRight (λ x. joined_texts (text_in (Number (worth x f.form))) (text_in (abs_at x b))) (Affine f ∷ b ∷ []) (exact (joined (Affine f) b))
 affine_joined f (Known (Number p)) h = record { argument = Affine f; is_there = refl; varies = affine_varies f h }
 affine_joined f (Known (Text t)) h = record { argument = Affine f; is_there = refl; varies = affine_varies f h }
 affine_joined f (Known (Logical b)) h = record { argument = Affine f; is_there = refl; varies = affine_varies f h }
@@ -169,7 +172,7 @@ affine_joined f (Known (Error k)) h = λ x. refl
 affine_joined f (Affine g) h = record { argument = Affine f; is_there = refl; varies = affine_varies f h }
 affine_joined f (Test g s) h = record { argument = Affine f; is_there = refl; varies = affine_varies f h }
 
-test_joined : (f : AffineForm) (r : Rel) (b : Abs) → IsOpen f → IsRight (λ x. joined_texts (text_in (Logical (holds r (worth x f)))) (text_in (abs_at x b))) (Test f r ∷ b ∷ []) (exact (joined (Test f r) b))
+test_joined : (f : Open) (r : Rel) (b : Abs) → IsOpen f.form → IsRight (λ x. joined_texts (text_in (Logical (holds r (worth x f.form)))) (text_in (abs_at x b))) (Test f r ∷ b ∷ []) (exact (joined (Test f r) b))
 test_joined f r (Known (Number p)) h = record { argument = Test f r; is_there = refl; varies = test_varies f r h }
 test_joined f r (Known (Text t)) h = record { argument = Test f r; is_there = refl; varies = test_varies f r h }
 test_joined f r (Known (Logical b)) h = record { argument = Test f r; is_there = refl; varies = test_varies f r h }

@@ -1,11 +1,9 @@
 -- COUNTIF of open arguments.
 use Rattle.std.specs.Prelude.{filter, length, suc, pos}
 use Rattle.std.specs.List.{AllByRecursion}
-use Rattle.std.proofs.Common.{◌≡◌, refl, sym, ap, ◌∙◌, subst, Bool, true, false, if◌then◌else◌, List, [], ◌∷◌, map, Option, Some, None, Result, Ok, Err, ℕ}
+use Rattle.std.proofs.Common.{◌≡◌, refl, sym, ap, ◌∙◌, subst, Bool, true, false, if◌then◌else◌, List, [], ◌∷◌, map, Option, Some, None, Ok, ℕ}
 use Rattle.fractions.specs.Whole.{whole_ℚ}
 use Rattle.calculations.specs.Calculation.{exact}
-use Rattle.cell_refs.specs.declared.error_kind.ErrorKind.{ErrorKind}
-use Rattle.cell_refs.specs.declared.error_kind.ErrorKind.TheVariants as kind
 use Rattle.sheet_model.specs.declared.value.Value.{Value}
 use Rattle.sheet_model.specs.declared.value.Value.TheVariants.{Number, Text, Logical, Empty, Error}
 use Rattle.sheet_model.specs.declared.grid.Arg.{Arg}
@@ -15,8 +13,9 @@ use Rattle.sheet_funcs.specs.Arguments as functions
 use Rattle.sheet_funcs.specs.Sums.{how_many}
 use Rattle.sheet_funcs.specs.Criteria.{meets, countif_of}
 use Rattle.affine_forms.specs.Forms.{Assignment}
-use Rattle.form_values.specs.Meaning.{abs_at, arg_at, IsAbs}
-use Rattle.form_values.specs.Trials.{Trial, Refusal, given, and_then, on_given}
+use Rattle.form_values.specs.Meaning.{abs_at, arg_at}
+use Rattle.form_values.proofs.Opening.{IsAbs, IsSound}
+use Rattle.form_values.specs.Trials.{Trial, given, and_then}
 use Rattle.form_values.specs.declared.abs.Abs.{Abs}
 use Rattle.form_values.specs.declared.abs.Abs.TheVariants.{Known, Affine, Test}
 use Rattle.form_values.specs.declared.abs.AbsArg.{AbsArg}
@@ -27,9 +26,7 @@ use Rattle.form_table.specs.Lookups.{known_keys, error_of}
 use Rattle.form_table.specs.Criteria.{places_from, by_known, met_places, countif_form}
 use Rattle.form_table.specs.Products.{or_fault}
 use Rattle.form_table.specs.Table.{of_two}
-use Rattle.form_values.specs.Meaning.{IsSound}
 use Rattle.form_truth.proofs.Right.{IsRightArg, ArgumentVaries}
-use Rattle.form_truth.proofs.Exact.{exact-and_then}
 use Rattle.form_truth.proofs.Arguments.{value_at, value_sound, argument_varies}
 use Rattle.form_truth.proofs.Varying.{value_varies, grid_open, grid_known}
 
@@ -85,24 +82,3 @@ countif_right [] h = λ x. refl
 countif_right (a ∷ []) h = λ x. refl
 countif_right (a ∷ b ∷ []) h = by_criterion a b h.0 h.1.0 (wanted.value_of b) (value_sound b h.1.0) refl
 countif_right (a ∷ b ∷ c ∷ args) h = λ x. refl
-
--- what is given is known
-given_known : {A : Type 0} (f : A → Value) (r : Result A Refusal) (a : AbsArg) → exact (on_given r (λ p. given (One (Known (f p))))) ≡ Ok a → IsSound a
-given_known f (Ok p) a e = let s : One (Known (f p)) ≡ a = cc in subst IsSound s (tt, tt)
-given_known f (Err w) a e = cc
-
-pub known_sound : {A : Type 0} (c : Trial A) (f : A → Value) (a : AbsArg) → exact (and_then c (λ p. given (One (Known (f p))))) ≡ Ok a → IsSound a
-known_sound c f a e = given_known f (exact c) a (sym (exact-and_then c (λ p. given (One (Known (f p))))) ∙ e)
-
-two_sound : (b : Option ErrorKind) (c : Trial (List ℕ)) (a : AbsArg) → exact (or_fault b (and_then c counted)) ≡ Ok a → IsSound a
-two_sound (Some k) c a e = let s : One (Known (Error k)) ≡ a = cc in subst IsSound s (tt, tt)
-two_sound None c a e = known_sound c (λ places. Number (how_many places)) a e
-
-fault_sound : (k : ErrorKind) (a : AbsArg) → ◌≡◌ {A = Result AbsArg Refusal} (Ok (One (Known (Error k)))) (Ok a) → IsSound a
-fault_sound k a e = let s : One (Known (Error k)) ≡ a = cc in subst IsSound s (tt, tt)
-
-pub countif_sound : (args : List AbsArg) (a : AbsArg) → exact (of_two countif_form args) ≡ Ok a → IsSound a
-countif_sound [] a e = fault_sound kind.Value a e
-countif_sound (b ∷ []) a e = fault_sound kind.Value a e
-countif_sound (b ∷ c ∷ []) a e = two_sound (error_of (wanted.value_of c)) (met_places (grid_of b).items (wanted.value_of c)) a e
-countif_sound (b ∷ c ∷ d ∷ args) a e = fault_sound kind.Value a e

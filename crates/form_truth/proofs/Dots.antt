@@ -20,7 +20,8 @@ use Rattle.affine_forms.specs.Steps.{added, scaled}
 use Rattle.affine_forms.proofs.Exact.{exact-followed_by, exact-turned_into}
 use Rattle.affine_forms.proofs.Worths.{added_worth, added_is_form, scaled_worth, scaled_is_form}
 use Rattle.form_values.specs.Grids.{Raster}
-use Rattle.form_values.specs.Meaning.{abs_at, arg_at, IsAbs}
+use Rattle.form_values.specs.Meaning.{abs_at, arg_at}
+use Rattle.form_values.proofs.Opening.{IsAbs}
 use Rattle.form_values.specs.Refusals.{Bends}
 use Rattle.form_values.specs.Trials.{Trial, Refusal, Breaks, Undecided, given, on_given, and_then, made, one, through_tried, each_tried}
 use Rattle.form_values.specs.declared.abs.Abs.{Abs}
@@ -194,7 +195,7 @@ factor_form (Known (Text t)) h = record { rise = tt }
 factor_form (Known (Logical b)) h = record { rise = tt }
 factor_form (Known Empty) h = record { rise = tt }
 factor_form (Known (Error k)) h = record { rise = tt }
-factor_form (Affine f) h = h.0
+factor_form (Affine o) h = h.0
 factor_form (Test f r) h = record { rise = tt }
 
 pub item_sound : (items : List Abs) (n : ℕ) → AllByRecursion IsAbs items → IsAbs (slice_index_or items n (Known Empty))
@@ -301,7 +302,7 @@ module _ (args : List AbsArg) (g : Raster) (gs : List Raster) (is : map grid_of 
   dot_result : (r : Result AffineForm Refusal) → IsDot (factors_at (g ∷ gs)) (λ place. factors_forms (g ∷ gs) place sound) numbers_at (λ x place. factors_are x (g ∷ gs) place) (below (length g.items)) r
       → IsRightSum (λ x. arg.One (Number (exact (products.dot (map (numbers_at x) (below (length g.items))))))) args (FactorsBend args)
       (exact (on_given (exact (on_given r (λ f. given (entry f)))) (λ a. given (One a))))
-  dot_result (Ok h) k = λ x. ap (λ y. arg.One (Number y)) (k.1 x) ∙ ap arg.One (sym (entry_at x h))
+  dot_result (Ok h) k = λ x. ap (λ y. arg.One (Number y)) (k.1 x) ∙ ap arg.One (sym (entry_at x h k.0))
   dot_result (Err Breaks) k = bent_factors k
   dot_result (Err (Undecided i)) k = absurd k
 

@@ -21,7 +21,8 @@ use Rattle.sheet_funcs.specs.declared.lookups.MatchKind.{MatchKind}
 use Rattle.sheet_funcs.specs.declared.lookups.MatchKind.TheVariants.{Equal, Rising}
 use Rattle.affine_forms.specs.Forms.{Assignment, AffineForm}
 use Rattle.form_values.specs.Grids.{Raster}
-use Rattle.form_values.specs.Meaning.{abs_at, arg_at, IsAbs, IsSound}
+use Rattle.form_values.specs.Meaning.{abs_at, arg_at}
+use Rattle.form_values.proofs.Opening.{IsAbs, IsSound, arg_sound, args_sound}
 use Rattle.form_values.specs.Refusals.{Varies}
 use Rattle.form_values.specs.Trials.{Refusal, Breaks, Undecided, given, undecided}
 use Rattle.form_values.specs.declared.abs.Abs.{Abs}
@@ -41,7 +42,6 @@ use Rattle.form_truth.proofs.LookupSteps.{looked_up, lookup_steps}
 use Rattle.form_truth.proofs.Matching.{Asked, asks_form, asks_test, asked}
 use Rattle.form_truth.proofs.Matrices.{grid_sound}
 use Rattle.form_truth.proofs.Records.{record_right}
-use Rattle.form_truth.proofs.SoundRows.{one_sound}
 use Rattle.form_truth.proofs.Transposing.{grid_at, grid_is, element_is, transpose_right}
 use Rattle.form_truth.proofs.Varying.{argument_open, items_vary, keys_open}
 
@@ -220,7 +220,7 @@ module _ (key table column : AbsArg) (rest : List AbsArg) (h : IsSound key) (i :
   right = by_outcome (exact (record_form fields keys b (number_of column) (kinds_in rest))) refl refused
 
 pub lookup_is_right : LookupIsRight
-lookup_is_right key table column rest h i j l = right key table column rest h i j l
+lookup_is_right key table column rest = right key table column rest (arg_sound key) (arg_sound table) (arg_sound column) (args_sound rest)
 
 -- ---- HLOOKUP
 same_area : (g h : Rectangle) → arg.Area g ≡ arg.Area h → g ≡ h
@@ -259,5 +259,4 @@ module _ (key table row : AbsArg) (rest : List AbsArg) (i : IsSound table) where
   across (Err (Undecided n)) h = table_varies n h
 
 pub across_is_right : AcrossIsRight
-across_is_right key table row rest h i j l =
-    across key table row rest i _ (lookup_is_right key (Area (transposed (grid_of table))) row rest h (one_sound table i).exchanged j l)
+across_is_right key table row rest = across key table row rest (arg_sound table) _ (lookup_is_right key (Area (transposed (grid_of table))) row rest)

@@ -9,14 +9,17 @@ use Rattle.sheet_model.specs.declared.value.Value.{Value}
 use Rattle.sheet_model.specs.declared.value.Value.TheVariants.{Number, Logical}
 use Rattle.affine_forms.specs.Forms.{Assignment, AffineForm, IsForm, worth, has_terms, are_some, constant_form}
 use Rattle.affine_forms.proofs.Directions.{moves, reached, reached_worth}
-use Rattle.form_values.specs.Meaning.{abs_at, IsAbs, IsOpen}
+use Rattle.form_values.specs.Meaning.{abs_at}
+use Rattle.form_values.proofs.Opening.{IsAbs, IsOpen, opened}
 use Rattle.affine_forms.specs.Relations.{holds}
 use Rattle.form_values.specs.Refusals.{Varies}
 use Rattle.affine_forms.specs.declared.rel.Rel.{Rel}
 use Rattle.affine_forms.specs.declared.rel.Rel.TheVariants as rel
+use Rattle.form_values.specs.declared.open_form.Open.{Open}
 use Rattle.form_values.specs.declared.abs.Abs.{Abs}
 use Rattle.form_values.specs.declared.abs.Abs.TheVariants.{Known, Affine, Test}
 use Rattle.form_table.specs.Wanted.{Wanted, form, open_test, none, wanted, of_number, constant_of}
+use Rattle.form_values.specs.OpenForms as open_forms
 use Rattle.form_values.specs.Entries.{entry, number_of_form, test, test_of_form}
 
 -- ---- constants
@@ -30,20 +33,28 @@ no_terms x f h = by_terms f.terms h
     by_terms [] h = add-zero f.constant
     by_terms (t ∷ ts) h = absurd (true≢false h)
 
--- a form as a value is that form at each assignment
-pub entry_at : (x : Assignment) (f : AffineForm) → abs_at x (entry f) ≡ Number (worth x f)
-entry_at x f = by_test (has_terms f) refl
+-- what isn't open has no term
+not_open : (f : AffineForm) → IsForm f → open_forms.is_open f ≡ false → has_terms f ≡ false
+not_open f i e = by_test (has_terms f) refl
   where
-    by_test : (b : Bool) → has_terms f ≡ b → abs_at x (number_of_form b f) ≡ Number (worth x f)
-    by_test true h = refl
-    by_test false h = ap Number (sym (no_terms x f h))
+    by_test : (b : Bool) → has_terms f ≡ b → b ≡ false
+    by_test true h = absurd (true≢false (sym (opened f i h) ∙ e))
+    by_test false h = refl
 
-pub test_at : (x : Assignment) (r : Rel) (f : AffineForm) → abs_at x (test r f) ≡ Logical (holds r (worth x f))
-test_at x r f = by_test (has_terms f) refl
+-- a form as a value is that form at each assignment
+pub entry_at : (x : Assignment) (f : AffineForm) → IsForm f → abs_at x (entry f) ≡ Number (worth x f)
+entry_at x f i = by_test (open_forms.is_open f) refl
   where
-    by_test : (b : Bool) → has_terms f ≡ b → abs_at x (test_of_form b r f) ≡ Logical (holds r (worth x f))
+    by_test : (b : Bool) (h : open_forms.is_open f ≡ b) → abs_at x (number_of_form f b h) ≡ Number (worth x f)
     by_test true h = refl
-    by_test false h = ap (λ w. Logical (holds r w)) (sym (no_terms x f h))
+    by_test false h = ap Number (sym (no_terms x f (not_open f i h)))
+
+pub test_at : (x : Assignment) (r : Rel) (f : AffineForm) → IsForm f → abs_at x (test r f) ≡ Logical (holds r (worth x f))
+test_at x r f i = by_test (open_forms.is_open f) refl
+  where
+    by_test : (b : Bool) (h : open_forms.is_open f ≡ b) → abs_at x (test_of_form r f b h) ≡ Logical (holds r (worth x f))
+    by_test true h = refl
+    by_test false h = ap (λ w. Logical (holds r w)) (sym (no_terms x f (not_open f i h)))
 
 -- a number that is known is the form's at each assignment
 pub constant_is : (f : AffineForm) (c : ℚ) → constant_of f ≡ Some c → (x : Assignment) → worth x f ≡ c
@@ -85,11 +96,11 @@ one_above = refl
 pub zero_is_not_one : zero_ℚ ≢ one_ℚ
 zero_is_not_one e = true≢false (sym zero_below ∙ ap (λ x. le_ℚ x zero_ℚ) e ∙ one_above)
 
-pub affine_varies : (f : AffineForm) → IsOpen f → Varies (λ x. abs_at x (Affine f))
-affine_varies f h = record {
-  one = at_value f h zero_ℚ;
-  other = at_value f h one_ℚ;
-  differ = λ e. let d : worth (at_value f h zero_ℚ) f ≡ worth (at_value f h one_ℚ) f = cc in zero_is_not_one (sym (at_value_worth f h zero_ℚ) ∙ d ∙ at_value_worth f h one_ℚ);
+pub affine_varies : (o : Open) → IsOpen o.form → Varies (λ x. abs_at x (Affine o))
+affine_varies o h = record {
+  one = at_value o.form h zero_ℚ;
+  other = at_value o.form h one_ℚ;
+  differ = λ e. let d : worth (at_value o.form h zero_ℚ) o.form ≡ worth (at_value o.form h one_ℚ) o.form = cc in zero_is_not_one (sym (at_value_worth o.form h zero_ℚ) ∙ d ∙ at_value_worth o.form h one_ℚ);
 }
 
 -- a relation holds of one of -1, 0 and 1, and fails of another
@@ -108,9 +119,10 @@ parts rel.Ne = record { within = one_ℚ; without = zero_ℚ; holds_within = ref
 parts rel.Ge = record { within = zero_ℚ; without = frac (negsuc 0) 1; holds_within = refl; fails_without = refl }
 parts rel.Gt = record { within = one_ℚ; without = zero_ℚ; holds_within = refl; fails_without = refl }
 
-pub test_varies : (f : AffineForm) (r : Rel) → IsOpen f → Varies (λ x. abs_at x (Test f r))
-test_varies f r h =
+pub test_varies : (o : Open) (r : Rel) → IsOpen o.form → Varies (λ x. abs_at x (Test o r))
+test_varies o r h =
     let p = parts r in
+    let f = o.form in
     record {
       one = at_value f h p.within;
       other = at_value f h p.without;
@@ -131,5 +143,5 @@ fits (Known v) h = by_number (number_in v) refl
     by_number : (r : Result ℚ ErrorKind) → number_in v ≡ r → Fits (Known v) (of_number r)
     by_number (Ok c) e = is_form (constant_form c) record { rise = tt } (inl (v, refl)) (λ x. e ∙ ap Ok (sym (constant_worth x c)))
     by_number (Err k) e = is_none k (λ x. e)
-fits (Affine f) h = is_form f h.0 (inr h.1) (λ x. refl)
+fits (Affine o) h = is_form o.form h.0 (inr h.1) (λ x. refl)
 fits (Test f r) h = is_open (λ x. (_, refl)) (test_varies f r h)

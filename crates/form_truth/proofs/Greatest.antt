@@ -142,7 +142,7 @@ two_terms_bend best f fs h k e =
     (λ s. d.other (sym (sum_along 0 d.decision f.terms k.rise) ∙ sym s ∙ sum_along 0 d.decision best.terms h.rise))
 
 extreme_right : (fs : List AffineForm) (best : AffineForm) → AllByRecursion IsForm fs → IsForm best → IsRight (λ x. Number (greatest (worth x best ∷ map (worth x) fs))) [] (exact (extreme (λ x y. le_ℚ y x) best fs))
-extreme_right [] best h k = λ x. sym (entry_at x best)
+extreme_right [] best h k = λ x. sym (entry_at x best k)
 extreme_right (f ∷ fs) best h k = by_test (λ next n. extreme_right fs next h.1 n) (same_terms f.terms best.terms) refl
   where
     next_form : (b : Bool) → IsForm (if b then f else best)

@@ -7,7 +7,8 @@ use Rattle.cell_refs.specs.declared.op.Op.TheVariants as op
 use Rattle.sheet_model.specs.Operators.{infix_value, calculated, divided, raised}
 use Rattle.sheet_model.specs.declared.value.Value.{Value}
 use Rattle.affine_forms.specs.Steps.{added, subtracted}
-use Rattle.form_values.specs.Meaning.{abs_at, IsAbs}
+use Rattle.form_values.specs.Meaning.{abs_at}
+use Rattle.form_values.proofs.Opening.{IsAbs}
 use Rattle.form_values.specs.Trials.{made}
 use Rattle.form_values.specs.declared.abs.Abs.{Abs}
 use Rattle.form_values.specs.declared.abs.Abs.TheVariants.{Known, Affine, Test}

@@ -14,7 +14,8 @@ use Rattle.sheet_funcs.specs.Arguments.{on_ok, all_or_error, behind_first}
 use Rattle.sheet_funcs.specs.Items.{logical_at, logicals_in, logicals_of}
 use Rattle.sheet_funcs.specs.Logic.{and_of, or_of, of_some}
 use Rattle.affine_forms.specs.Forms.{Assignment, worth}
-use Rattle.form_values.specs.Meaning.{abs_at, arg_at, IsAbs, elements_of}
+use Rattle.form_values.specs.Meaning.{abs_at, arg_at, elements_of}
+use Rattle.form_values.proofs.Opening.{IsAbs}
 use Rattle.affine_forms.specs.Relations.{holds}
 use Rattle.form_values.specs.Refusals.{Varies}
 use Rattle.form_values.specs.Trials.{one}
@@ -53,8 +54,8 @@ of_result x (Err k) = refl
 
 single_truth : (x : Assignment) (i : ℕ) (a : Abs) → IsTruth x (truth_of i a) (logical_in (abs_at x a))
 single_truth x i (Known v) = of_result x (logical_in v)
-single_truth x i (Affine f) = (not (is_zero (worth x f)), refl, ap Logical (sym (not_zero (worth x f))))
-single_truth x i (Test f r) = (holds r (worth x f), refl, refl)
+single_truth x i (Affine o) = (not (is_zero (worth x o.form)), refl, ap Logical (sym (not_zero (worth x o.form))))
+single_truth x i (Test o r) = (holds r (worth x o.form), refl, refl)
 
 of_element : (x : Assignment) (o : Option (Result Bool ErrorKind)) (ts : List Truth) (rs : List (Result Bool ErrorKind)) → AreTruths x ts rs → AreTruths x (cons_option (option_map of_logical o) ts) (cons_option o rs)
 of_element x None ts rs h = h
@@ -63,8 +64,8 @@ of_element x (Some r) ts rs h = (of_result x r, h)
 area_truths : (x : Assignment) (i : ℕ) (items : List Abs) → AreTruths x (filter_map (element_truth i) items) (filter_map logical_at (map (abs_at x) items))
 area_truths x i [] = tt
 area_truths x i (Known v ∷ items) = of_element x (logical_at v) _ _ (area_truths x i items)
-area_truths x i (Affine f ∷ items) = ((not (is_zero (worth x f)), refl, ap Logical (sym (not_zero (worth x f)))), area_truths x i items)
-area_truths x i (Test f r ∷ items) = ((holds r (worth x f), refl, refl), area_truths x i items)
+area_truths x i (Affine o ∷ items) = ((not (is_zero (worth x o.form)), refl, ap Logical (sym (not_zero (worth x o.form)))), area_truths x i items)
+area_truths x i (Test o r ∷ items) = ((holds r (worth x o.form), refl, refl), area_truths x i items)
 
 arg_truths : (x : Assignment) (i : ℕ) (a : AbsArg) → AreTruths x (truths_in i a) (logicals_in (arg_at x a))
 arg_truths x i (One a) = (single_truth x i a, tt)

@@ -1,17 +1,16 @@
 -- Of known arguments a row is the function.
-use Rattle.std.specs.List.{list_all, AllByRecursion}
+use Rattle.std.specs.List.{list_all}
 use Rattle.std.proofs.Common.{◌≡◌, refl, sym, ap₂, true, true≢false, List, [], ◌∷◌, map}
 use Rattle.sheet_model.specs.declared.value.Value.{Value}
 use Rattle.sheet_model.specs.declared.grid.Arg.{Arg}
 use Rattle.sheet_model.specs.declared.grid.Arg.TheVariants as arg
 use Rattle.affine_forms.specs.Forms.{Assignment}
-use Rattle.form_values.specs.Meaning.{abs_at, arg_at, IsAbs}
+use Rattle.form_values.specs.Meaning.{abs_at, arg_at}
 use Rattle.form_values.specs.declared.abs.Abs.{Abs}
 use Rattle.form_values.specs.declared.abs.Abs.TheVariants.{Known, Affine, Test}
 use Rattle.form_values.specs.declared.abs.AbsArg.{AbsArg}
 use Rattle.form_values.specs.declared.abs.AbsArg.TheVariants.{One, Area}
 use Rattle.form_values.specs.Known.{is_known, value_in, all_known, values_in, known_arg}
-use Rattle.form_values.specs.Meaning.{IsSound}
 use Rattle.form_truth.proofs.Sameness.{both_true}
 
 items_in : (x : Assignment) (items : List Abs) → list_all is_known items ≡ true → map (abs_at x) items ≡ map value_in items
@@ -37,11 +36,3 @@ elements_back x (v ∷ vs) = let e = elements_back x vs in λ i. v ∷ (e i)
 pub known_back : (x : Assignment) (v : Arg) → arg_at x (known_arg v) ≡ v
 known_back x (arg.One v) = refl
 known_back x (arg.Area g) = let e = elements_back x g.items in λ i. arg.Area (record { rows = g.rows; columns = g.columns; items = e i })
-
-elements_sound : (vs : List Value) → AllByRecursion IsAbs (map Known vs)
-elements_sound [] = tt
-elements_sound (v ∷ vs) = (tt, elements_sound vs)
-
-pub known_sound : (v : Arg) → IsSound (known_arg v)
-known_sound (arg.One v) = (tt, tt)
-known_sound (arg.Area g) = elements_sound g.items

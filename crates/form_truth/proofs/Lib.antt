@@ -3,6 +3,7 @@ pub mod Relations
 pub mod Exact
 pub mod Arguments
 pub mod Fitting
+pub mod Formed
 pub mod Bending
 pub mod Numbers
 pub mod Arithmetic
@@ -28,7 +29,6 @@ pub mod Transposing
 pub mod Junctions
 pub mod Dots
 pub mod Matrices
-pub mod SoundRows
 pub mod Varying
 pub mod Counting
 pub mod Ended
@@ -36,8 +36,6 @@ pub mod Matching
 pub mod Elements
 pub mod Knowns
 pub mod Joining
-pub mod Sounds
-pub mod SoundItems
 pub mod Rows
 pub mod NoForm
 pub mod Table

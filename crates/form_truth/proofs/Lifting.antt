@@ -17,9 +17,10 @@ use Rattle.sheet_funcs.specs.Arguments.{elements_of}
 use Rattle.affine_forms.specs.Forms.{Assignment, negated}
 use Rattle.affine_forms.specs.Steps.{scaled}
 use Rattle.affine_forms.proofs.Exact.{exact-followed_by, exact-turned_into}
-use Rattle.affine_forms.proofs.Worths.{negated_worth, scaled_worth}
+use Rattle.affine_forms.proofs.Worths.{negated_is_form, negated_worth, scaled_is_form, scaled_worth}
 use Rattle.form_values.specs.Grids.{Raster}
-use Rattle.form_values.specs.Meaning.{abs_at, arg_at, IsAbs}
+use Rattle.form_values.specs.Meaning.{abs_at, arg_at}
+use Rattle.form_values.proofs.Opening.{IsAbs}
 use Rattle.form_values.specs.Refusals.{Bends, Varies}
 use Rattle.form_values.specs.Trials.{Trial, Refusal, Breaks, Undecided, given, on_given, and_then, each_tried, one}
 use Rattle.form_values.specs.declared.abs.Abs.{Abs}
@@ -159,9 +160,9 @@ percent_element : (args : List AbsArg) (a : Abs) → IsAbs a → (Varies (λ x. 
     → EachIsRight percent_abs (λ x a. exact (percent_value (abs_at x a))) args a (exact (percent_abs a))
 percent_element args (Known v) h k =
     subst (EachIsRight percent_abs (λ x a. exact (percent_value (abs_at x a))) args (Known v)) (sym (exact-made Known (percent_value v))) (λ x. refl)
-percent_element args (Affine f) h k =
-    subst (EachIsRight percent_abs (λ x a. exact (percent_value (abs_at x a))) args (Affine f)) (sym (exact-made entry (scaled (inv_ℚ (whole_ℚ (pos 100))) f)))
-    (λ x. ap Number (sym (scaled_worth x (inv_ℚ (whole_ℚ (pos 100))) f)) ∙ sym (entry_at x (exact (scaled (inv_ℚ (whole_ℚ (pos 100))) f))))
+percent_element args (Affine o) h k =
+    subst (EachIsRight percent_abs (λ x a. exact (percent_value (abs_at x a))) args (Affine o)) (sym (exact-made entry (scaled (inv_ℚ (whole_ℚ (pos 100))) o.form)))
+    (λ x. ap Number (sym (scaled_worth x (inv_ℚ (whole_ℚ (pos 100))) o.form)) ∙ sym (entry_at x (exact (scaled (inv_ℚ (whole_ℚ (pos 100))) o.form)) (scaled_is_form (inv_ℚ (whole_ℚ (pos 100))) o.form h.0)))
 percent_element args (Test f r) h k = k (test_varies f r h)
 
 -- ---- minus
@@ -169,7 +170,7 @@ minus_element : (args : List AbsArg) (a : Abs) → IsAbs a → (Varies (λ x. ab
     → EachIsRight minus_abs (λ x a. exact (minus_value (abs_at x a))) args a (exact (minus_abs a))
 minus_element args (Known v) h k =
     subst (EachIsRight minus_abs (λ x a. exact (minus_value (abs_at x a))) args (Known v)) (sym (exact-made Known (minus_value v))) (λ x. refl)
-minus_element args (Affine f) h k = λ x. ap Number (sym (negated_worth x f)) ∙ sym (entry_at x (negated f))
+minus_element args (Affine o) h k = λ x. ap Number (sym (negated_worth x o.form)) ∙ sym (entry_at x (negated o.form) (negated_is_form o.form h.0))
 minus_element args (Test f r) h k = k (test_varies f r h)
 
 -- ---- what is done to each element

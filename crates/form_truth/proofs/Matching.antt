@@ -26,7 +26,8 @@ use Rattle.sheet_funcs.specs.declared.lookups.MatchKind.TheVariants.{Equal, Risi
 use Rattle.affine_forms.specs.Forms.{Assignment, AffineForm, IsForm, worth, constant_form}
 use Rattle.affine_forms.specs.Relations.{holds}
 use Rattle.form_values.specs.Grids.{Raster}
-use Rattle.form_values.specs.Meaning.{abs_at, arg_at, IsOpen}
+use Rattle.form_values.specs.Meaning.{abs_at, arg_at}
+use Rattle.form_values.proofs.Opening.{IsOpen, abs_sound, arg_sound, IsSound}
 use Rattle.form_values.specs.Refusals.{Varies}
 use Rattle.form_values.specs.Trials.{Trial, Refusal, Breaks, Undecided, given, and_then, on_given}
 use Rattle.form_values.specs.declared.abs.Abs.{Abs}
@@ -36,12 +37,10 @@ use Rattle.form_values.specs.declared.abs.AbsArg.TheVariants.{One, Area}
 use Rattle.form_table.specs.Wanted as wanted
 use Rattle.form_table.specs.Wanted.{Wanted, form, open_test, none, grid_of, number_of, constant_of, known_number}
 use Rattle.form_table.specs.Lookups.{may_be_key, known_value, known_keys, pick_in, is_never_found, by_kind, by_keys, has_no_place, has_no_place_by, by_places, lookup_form, lookup_pick_form, match_pick, match_form}
-use Rattle.form_values.specs.Meaning.{IsSound}
 use Rattle.form_truth.specs.Picks.{IsPick, FoundIsRight}
 use Rattle.form_truth.proofs.Right.{IsRightArg, ArgumentVaries}
 use Rattle.form_truth.proofs.Exact.{exact-and_then}
 use Rattle.form_truth.proofs.Fitting.{Fits, is_none, is_form, is_open, fits, constant_is, open_is, constant_worth, at_value, at_value_worth, zero_is_not_one}
-use Rattle.form_truth.proofs.Counting.{known_sound}
 use Rattle.form_truth.proofs.Ended.{never_found_right}
 use Rattle.form_truth.proofs.Arguments.{value_at, value_sound, argument_varies}
 use Rattle.form_truth.proofs.Varying.{value_known, argument_open, grid_open, items_known}
@@ -150,7 +149,7 @@ logical_asked a = by (wanted.value_of a) refl
     by : (v : Abs) → wanted.value_of a ≡ v → IsLogical (λ x. functions_numbers.number_of (arg_at x a)) (wanted.wanted v)
     by (Known v) e = by_number (number_in v)
     by (Affine f) e = tt
-    by (Test f r) e = λ x. (if holds r (worth x f) then one_ℚ else zero_ℚ, ap number_in (value_at x a ∙ ap (abs_at x) e), asked_by (holds r (worth x f)))
+    by (Test o r) e = λ x. (if holds r (worth x o.form) then one_ℚ else zero_ℚ, ap number_in (value_at x a ∙ ap (abs_at x) e), asked_by (holds r (worth x o.form)))
 
 -- ---- the pick in a grid
 abbrev grid_at : Assignment → Raster → Rectangle
@@ -343,10 +342,7 @@ match_right (key ∷ keys ∷ a ∷ []) h =
     (asked_there (key ∷ keys ∷ a ∷ []) 2 a refl (λ x. functions_numbers.number_of (arg_at x a)) (number_of a) (asked a (number_of a) (fits (wanted.value_of a) (value_sound a h.1.1.0)))) (logical_asked a))
 match_right (key ∷ keys ∷ a ∷ b ∷ others) h = λ x. refl
 
-pub match_sound : (args : List AbsArg) (a : AbsArg) → exact (match_form args) ≡ Ok a → IsSound a
-match_sound args a e = known_sound (match_pick args) place_value a e
-
 pub found_is_right : FoundIsRight
-found_is_right key keys kind h i j =
-    picks_right key keys (kind ∷ []) h i (λ x. functions_numbers.number_of (arg_at x kind)) (number_of kind)
-    (asked_there (key ∷ keys ∷ kind ∷ []) 2 kind refl (λ x. functions_numbers.number_of (arg_at x kind)) (number_of kind) (asked kind (number_of kind) (fits (wanted.value_of kind) (value_sound kind j)))) (logical_asked kind)
+found_is_right key keys kind =
+    picks_right key keys (kind ∷ []) (arg_sound key) (arg_sound keys) (λ x. functions_numbers.number_of (arg_at x kind)) (number_of kind)
+    (asked_there (key ∷ keys ∷ kind ∷ []) 2 kind refl (λ x. functions_numbers.number_of (arg_at x kind)) (number_of kind) (asked kind (number_of kind) (fits (wanted.value_of kind) (abs_sound (wanted.value_of kind))))) (logical_asked kind)

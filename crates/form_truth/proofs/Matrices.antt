@@ -18,7 +18,8 @@ use Rattle.sheet_funcs.specs.Sums as sums
 use Rattle.affine_forms.specs.Forms.{Assignment, AffineForm, IsForm, worth, constant_form}
 use Rattle.affine_forms.proofs.Exact.{exact-followed_by, exact-turned_into}
 use Rattle.form_values.specs.Grids.{Raster}
-use Rattle.form_values.specs.Meaning.{abs_at, arg_at, IsAbs, elements_of}
+use Rattle.form_values.specs.Meaning.{abs_at, arg_at, elements_of}
+use Rattle.form_values.proofs.Opening.{IsAbs}
 use Rattle.form_values.specs.Refusals.{Bends, bends, jumps, middle}
 use Rattle.form_values.specs.Trials.{Trial, Refusal, Breaks, Undecided, given, on_given, and_then, one, fault, each_tried}
 use Rattle.form_values.specs.declared.abs.Abs.{Abs}
@@ -148,9 +149,9 @@ module _ (g h : Raster) (left : AllByRecursion IsAbs g.items) (right : AllByRecu
       subst (AreElements (p ∷ places)) (sym (exact-and_then (product_at g h p) (λ f. and_then (each_tried (product_at g h) places) (λ fs. given (f ∷ fs)))))
       (first_right p places (exact (product_at g h p)) (element_right p) (each_tried (product_at g h) places) (all_right places))
 
-  entries_at : (x : Assignment) (fs : List AffineForm) → map Number (map (worth x) fs) ≡ map (abs_at x) (map entry fs)
-  entries_at x [] = refl
-  entries_at x (f ∷ fs) = let e = sym (entry_at x f) in let r = entries_at x fs in λ i. (e i) ∷ (r i)
+  entries_at : (x : Assignment) (fs : List AffineForm) → AllByRecursion IsForm fs → map Number (map (worth x) fs) ≡ map (abs_at x) (map entry fs)
+  entries_at x [] h = refl
+  entries_at x (f ∷ fs) h = let e = sym (entry_at x f h.0) in let r = entries_at x fs h.1 in λ i. (e i) ∷ (r i)
 
   -- ---- the whole, of arguments with these grids
   module _ (a b : AbsArg) (first : grid_of a ≡ g) (second : grid_of b ≡ h) where
@@ -184,7 +185,7 @@ module _ (g h : Raster) (left : AllByRecursion IsAbs g.items) (right : AllByRecu
         }
 
     made_result : (r : Result (List AffineForm) Refusal) → AreElements places r → IsRightSum made_at (a ∷ b ∷ []) (PairBends a b) (exact (on_given r (λ fs. given (of_forms g.rows h.columns fs))))
-    made_result (Ok fs) k = λ x. ap (λ vs. arg.Area (record { rows = g.rows; columns = h.columns; items = vs })) (ap (map Number) (k.1 x) ∙ entries_at x fs)
+    made_result (Ok fs) k = λ x. ap (λ vs. arg.Area (record { rows = g.rows; columns = h.columns; items = vs })) (ap (map Number) (k.1 x) ∙ entries_at x fs k.0)
     made_result (Err Breaks) k = bent_pair k
     made_result (Err (Undecided i)) k = absurd k
 

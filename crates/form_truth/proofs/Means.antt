@@ -1,4 +1,5 @@
 -- AVERAGE and COUNT of open arguments.
+use Rattle.std.specs.List.{AllByRecursion}
 use Rattle.std.specs.Prelude.{flat_map, ◌++◌, filter, length, pos}
 use Rattle.std.proofs.Common.{◌≡◌, refl, sym, ap, ap₂, ◌∙◌, subst, List, [], ◌∷◌, map, suc}
 use Rattle.fractions.specs.Rational.{ℚ, ◌/ℚ◌, inv_ℚ}
@@ -10,7 +11,7 @@ use Rattle.sheet_model.specs.declared.grid.Arg.TheVariants as arg
 use Rattle.sheet_funcs.specs.Arguments as values
 use Rattle.sheet_funcs.specs.Sums as sums
 use Rattle.sheet_funcs.specs.Sums.{average_of, count_of, how_many}
-use Rattle.affine_forms.specs.Forms.{Assignment, AffineForm, worth}
+use Rattle.affine_forms.specs.Forms.{Assignment, AffineForm, worth, IsForm}
 use Rattle.affine_forms.specs.Steps.{total, scaled}
 use Rattle.affine_forms.proofs.Exact.{exact-followed_by, exact-turned_into}
 use Rattle.affine_forms.proofs.Worths.{scaled_worth}
@@ -23,8 +24,9 @@ use Rattle.form_values.specs.Entries.{entry}
 use Rattle.form_table.specs.Items.{mean, average_form, count_form, is_number, forms_of}
 use Rattle.form_truth.proofs.Right.{IsRight, IsRightArg}
 use Rattle.form_truth.proofs.Exact.{exact-made}
+use Rattle.form_truth.proofs.Formed.{mean_is_form}
 use Rattle.form_truth.proofs.Fitting.{entry_at}
-use Rattle.form_truth.proofs.Collecting.{AreSound}
+use Rattle.form_truth.proofs.Collecting.{AreSound, all_forms}
 use Rattle.form_truth.proofs.Sums.{of_items_right, total_worth}
 
 -- ---- AVERAGE
@@ -49,14 +51,14 @@ mean_worth x f fs =
     ap₂ (λ s n. s /ℚ Rattle.fractions.specs.Whole.whole_ℚ (pos n)) (total_worth x (f ∷ fs)) (as_many x (f ∷ fs)) ∙ sym (scaled_worth x (inv_ℚ (how_many (f ∷ fs))) (exact (total (f ∷ fs))))
     ∙ ap (worth x) (sym (exact-followed_by (total (f ∷ fs)) (scaled (inv_ℚ (how_many (f ∷ fs))))))
 
-mean_row : (fs : List AffineForm) → IsRight (λ x. mean_value (map (worth x) fs)) [] (exact (mean fs))
-mean_row [] = λ x. refl
-mean_row (f ∷ fs) =
+mean_row : (fs : List AffineForm) → AllByRecursion IsForm fs → IsRight (λ x. mean_value (map (worth x) fs)) [] (exact (mean fs))
+mean_row [] h = λ x. refl
+mean_row (f ∷ fs) h =
     subst (IsRight (λ x. mean_value (map (worth x) (f ∷ fs))) []) (sym (exact-made entry (followed_by (total (f ∷ fs)) (scaled (inv_ℚ (how_many (f ∷ fs)))))))
-    (λ x. ap Number (mean_worth x f fs) ∙ sym (entry_at x (exact (followed_by (total (f ∷ fs)) (scaled (inv_ℚ (how_many (f ∷ fs))))))))
+    (λ x. ap Number (mean_worth x f fs) ∙ sym (entry_at x (exact (followed_by (total (f ∷ fs)) (scaled (inv_ℚ (how_many (f ∷ fs)))))) (mean_is_form f fs h)))
 
 pub average_right : (args : List AbsArg) → AreSound args → IsRightArg (λ x. exact (average_of (map (arg_at x) args))) args (exact (average_form args))
-average_right args sound = of_items_right args sound mean_value mean (mean_row (forms_of args)) sums.mean mean_is
+average_right args sound = of_items_right args sound mean_value mean (mean_row (forms_of args) (all_forms args sound)) sums.mean mean_is
 
 -- ---- COUNT
 counts : (x : Assignment) (items : List Abs) → length (filter sums.is_number (map (abs_at x) items)) ≡ length (filter is_number items)

@@ -14,7 +14,8 @@ use Rattle.sheet_funcs.specs.Rounding.{place_of}
 use Rattle.sheet_funcs.specs.declared.pick.Pick.{Pick}
 use Rattle.sheet_funcs.specs.declared.pick.Pick.TheVariants.{Fault}
 use Rattle.affine_forms.specs.Forms.{Assignment, AffineForm, worth}
-use Rattle.form_values.specs.Meaning.{arg_at, IsSound}
+use Rattle.form_values.specs.Meaning.{arg_at}
+use Rattle.form_values.proofs.Opening.{IsSound, arg_sound}
 use Rattle.form_values.specs.declared.abs.AbsArg.{AbsArg}
 use Rattle.form_table.specs.Wanted as wanted
 use Rattle.form_table.specs.Wanted.{Wanted, form, open_test, none, number_of, constant_of, known_number}
@@ -146,9 +147,9 @@ single_place rows columns grid a h false =
     (number_of a) (placed_at (grid ∷ a ∷ []) 1 rows a refl h)
 
 pub index_is_right : IndexIsRight
-index_is_right rows columns grid [] h = λ x. refl
-index_is_right rows columns grid (a ∷ []) h = single_place rows columns grid a h.0 (rows == 1)
-index_is_right rows columns grid (a ∷ b ∷ []) h =
+index_is_right rows columns grid [] = λ x. refl
+index_is_right rows columns grid (a ∷ []) = single_place rows columns grid a (arg_sound a) (rows == 1)
+index_is_right rows columns grid (a ∷ b ∷ []) =
     two_places (grid ∷ a ∷ b ∷ []) rows columns (λ x. functions_numbers.number_of (arg_at x a)) (λ x. functions_numbers.number_of (arg_at x b)) (number_of a) (number_of b)
-    (placed_at (grid ∷ a ∷ b ∷ []) 1 rows a refl h.0) (placed_at (grid ∷ a ∷ b ∷ []) 2 columns b refl h.1.0)
-index_is_right rows columns grid (a ∷ b ∷ c ∷ others) h = λ x. refl
+    (placed_at (grid ∷ a ∷ b ∷ []) 1 rows a refl (arg_sound a)) (placed_at (grid ∷ a ∷ b ∷ []) 2 columns b refl (arg_sound b))
+index_is_right rows columns grid (a ∷ b ∷ c ∷ others) = λ x. refl

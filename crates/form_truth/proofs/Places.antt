@@ -24,7 +24,8 @@ use Rattle.sheet_funcs.specs.Arguments.{answered, counted, on_ok}
 use Rattle.sheet_funcs.specs.Rounding as numbers
 use Rattle.sheet_funcs.specs.Rounding.{rounded, magnitude, half, is_place, rounded_half_up, rounded_at, round_of}
 use Rattle.affine_forms.specs.Forms.{Assignment, AffineForm, IsForm, worth, has_terms}
-use Rattle.form_values.specs.Meaning.{abs_at, arg_at, IsAbs, IsOpen, elements_of}
+use Rattle.form_values.specs.Meaning.{abs_at, arg_at, elements_of}
+use Rattle.form_values.proofs.Opening.{IsAbs, IsOpen}
 use Rattle.form_values.specs.Refusals.{Bends, jumps, middle}
 use Rattle.form_values.specs.Trials.{breaks, undecided}
 use Rattle.form_values.specs.declared.abs.Abs.{Abs}

@@ -20,7 +20,7 @@ use Rattle.sheet_model.specs.Operators.{calculated, raised}
 use Rattle.sheet_model.specs.declared.value.Value.{Value}
 use Rattle.sheet_model.specs.declared.value.Value.TheVariants.{Number, Error}
 use Rattle.affine_forms.specs.Forms.{Assignment, AffineForm, IsForm, worth, has_terms}
-use Rattle.form_values.specs.Meaning.{IsOpen}
+use Rattle.form_values.proofs.Opening.{IsOpen}
 use Rattle.form_values.specs.Refusals.{Bends, bends, jumps, middle, midpoint}
 use Rattle.form_values.specs.Trials.{given, breaks}
 use Rattle.form_values.specs.declared.abs.Abs.{Abs}
@@ -214,7 +214,7 @@ module _ (a b : Abs) where
   known_right : (f g : AffineForm) → IsForm f → (y : ℚ) → constant_of g ≡ Some y → IsTrue (has_terms f) → is_exponent y ≡ true → (c d : Bool) → is_zero y ≡ c → eq_ℚ y one_ℚ ≡ d
       → IsRight (λ x. exact (raised (worth x f) (worth x g))) (a ∷ b ∷ []) (exact (if c then given (Known (Number one_ℚ)) else if d then given (entry f) else breaks))
   known_right f g i y s h e true d z o = λ x. ap (λ w. exact (raised (worth x f) w)) (constant_is g y s x) ∙ raised_by_zero (worth x f) y (zero_test y z)
-  known_right f g i y s h e false true z o = λ x. ap (λ w. exact (raised (worth x f) w)) (constant_is g y s x) ∙ raised_by_one (worth x f) y ((eq_iff y one_ℚ).0 o) ∙ sym (entry_at x f)
+  known_right f g i y s h e false true z o = λ x. ap (λ w. exact (raised (worth x f) w)) (constant_is g y s x) ∙ raised_by_one (worth x f) y ((eq_iff y one_ℚ).0 o) ∙ sym (entry_at x f i)
   known_right f g i y s h e false false z o =
       subst (λ (value : Assignment → Value). Bends value) (λ k x. exact (raised (worth x f) (sym (constant_is g y s x) k))) (open_base_bends f y (i, h) e z o (numerator y) refl)
 

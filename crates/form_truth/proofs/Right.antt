@@ -1,10 +1,10 @@
--- When an outcome is right for a value, apart from soundness, also of single values.
-use Rattle.std.specs.Prelude.{◌≡◌, List, Result, Ok, Err, ⊤}
+-- When an outcome is right for a value, also of single values.
+use Rattle.std.specs.Prelude.{◌≡◌, List, Result, Ok, Err}
 use Rattle.sheet_model.specs.declared.value.Value.{Value}
 use Rattle.sheet_model.specs.declared.grid.Arg.{Arg}
 use Rattle.sheet_funcs.specs.Arguments.{elements_of}
 use Rattle.affine_forms.specs.Forms.{Assignment}
-use Rattle.form_values.specs.Meaning.{abs_at, arg_at, IsSound}
+use Rattle.form_values.specs.Meaning.{abs_at, arg_at}
 use Rattle.form_values.specs.Refusals.{Bends, SomeBends}
 use Rattle.form_values.specs.Trials.{Refusal, Breaks, Undecided}
 use Rattle.form_values.specs.declared.abs.Abs.{Abs}
@@ -28,8 +28,3 @@ abbrev pub IsRightArg : (Assignment → Arg) → List AbsArg → Result AbsArg R
 IsRightArg value args (Ok a) = (x : Assignment) → value x ≡ arg_at x a
 IsRightArg value args (Err Breaks) = SomeBends (λ x. elements_of (value x))
 IsRightArg value args (Err (Undecided i)) = ArgumentVaries arg_at args i
-
--- what is given is sound
-abbrev pub GivesSound : Result AbsArg Refusal → Type 0
-GivesSound (Ok a) = IsSound a
-GivesSound (Err r) = ⊤

@@ -12,6 +12,7 @@ use Rattle.affine_forms.proofs.Multiples.{same_form_is}
 use Rattle.form_values.specs.Grids.{Raster}
 use Rattle.affine_forms.specs.declared.rel.Rel.{Rel}
 use Rattle.affine_forms.specs.declared.rel.Rel.TheVariants as rel
+use Rattle.form_values.proofs.Opening.{same_open}
 use Rattle.form_values.specs.declared.abs.Abs.{Abs}
 use Rattle.form_values.specs.declared.abs.Abs.TheVariants.{Known, Affine, Test}
 use Rattle.form_values.specs.declared.abs.AbsArg.{AbsArg}
@@ -100,9 +101,9 @@ same_value_is (Error k) Empty h = cc
 
 same_abs_is : (a b : Abs) → same_abs a b ≡ true → a ≡ b
 same_abs_is (Known v) (Known w) h = ap Known (same_value_is v w h)
-same_abs_is (Affine f) (Affine g) h = ap Affine (same_form_is f g h)
-same_abs_is (Test f r) (Test g s) h =
-    let a = both_true (same_form f g) _ h in ap₂ Test (same_form_is f g a.0) (same_relation_is r s a.1)
+same_abs_is (Affine o) (Affine p) h = ap Affine (same_open o p (same_form_is o.form p.form h))
+same_abs_is (Test o r) (Test p s) h =
+    let a = both_true (same_form o.form p.form) _ h in ap₂ Test (same_open o p (same_form_is o.form p.form a.0)) (same_relation_is r s a.1)
 same_abs_is (Known v) (Affine g) h = cc
 same_abs_is (Known v) (Test g s) h = cc
 same_abs_is (Affine f) (Known w) h = cc

@@ -15,7 +15,8 @@ use Rattle.sheet_funcs.specs.Information.{n_of, isnumber_of, isblank_of, number_
 use Rattle.sheet_funcs.specs.Logic.{not_of}
 use Rattle.sheet_funcs.specs.Sums as sums
 use Rattle.affine_forms.specs.Forms.{Assignment, worth}
-use Rattle.form_values.specs.Meaning.{abs_at, arg_at, IsAbs, elements_of}
+use Rattle.form_values.specs.Meaning.{abs_at, arg_at, elements_of}
+use Rattle.form_values.proofs.Opening.{IsAbs}
 use Rattle.affine_forms.specs.Relations.{holds, reversed}
 use Rattle.form_values.specs.Refusals.{Varies}
 use Rattle.form_values.specs.Trials.{one}
@@ -59,8 +60,8 @@ not_result x (Err k) = refl
 
 not_at : (x : Assignment) (a : Abs) → exact (on_ok (logical_in (abs_at x a)) (λ b. answered (Logical (not b)))) ≡ arg.One (abs_at x (not_abs a))
 not_at x (Known v) = not_result x (logical_in v)
-not_at x (Affine f) = ap (λ b. arg.One (Logical b)) (zero_is_eq (worth x f))
-not_at x (Test f r) = ap (λ b. arg.One (Logical b)) (reversed_holds r (worth x f))
+not_at x (Affine o) = ap (λ b. arg.One (Logical b)) (zero_is_eq (worth x o.form))
+not_at x (Test o r) = ap (λ b. arg.One (Logical b)) (reversed_holds r (worth x o.form))
 
 pub not_right : (a : AbsArg) → AllByRecursion IsAbs (elements_of a) → IsRightArg (λ x. exact (not_of (arg_at x a))) (a ∷ []) (exact (not_form a))
 not_right a h = λ x. ap (λ v. exact (on_ok (logical_in v) (λ b. answered (Logical (not b))))) (value_at x a) ∙ not_at x (value_of a)

@@ -1,4 +1,5 @@
 -- SUM, MIN and MAX of open arguments.
+use Rattle.std.specs.List.{AllByRecursion}
 use Rattle.std.specs.Prelude.{flat_map}
 use Rattle.std.proofs.Common.{◌≡◌, refl, sym, ap, ◌∙◌, subst, List, [], ◌∷◌, map, ℕ, Option, Some, None, Result, Ok, Err, arith}
 use Rattle.fractions.specs.Rational.{ℚ, zero_ℚ, ◌+ℚ◌}
@@ -12,7 +13,7 @@ use Rattle.sheet_funcs.specs.Arguments.{on_ok, counted}
 use Rattle.sheet_funcs.specs.Items.{numbers_of}
 use Rattle.sheet_funcs.specs.Sums as values
 use Rattle.sheet_funcs.specs.Sums.{sum_of, least, lesser, min_of}
-use Rattle.affine_forms.specs.Forms.{Assignment, AffineForm, worth, constant_form}
+use Rattle.affine_forms.specs.Forms.{Assignment, AffineForm, worth, constant_form, IsForm}
 use Rattle.affine_forms.specs.Steps.{added, total}
 use Rattle.affine_forms.proofs.Exact.{exact-followed_by, exact-turned_into}
 use Rattle.affine_forms.proofs.Worths.{added_worth}
@@ -25,8 +26,9 @@ use Rattle.form_values.specs.Entries.{entry}
 use Rattle.form_table.specs.Items.{items_in, first_error, first_open, forms_of, of_items, on_items, sum_form}
 use Rattle.form_truth.proofs.Right.{IsRight, IsRightArg, ArgumentVaries}
 use Rattle.form_truth.proofs.Exact.{exact-made, exact-and_then}
+use Rattle.form_truth.proofs.Formed.{total_is_form}
 use Rattle.form_truth.proofs.Fitting.{entry_at, constant_worth}
-use Rattle.form_truth.proofs.Collecting.{AreSound, all_items, items_fail, items_give, none_open, first_open_varies}
+use Rattle.form_truth.proofs.Collecting.{AreSound, all_items, items_fail, items_give, none_open, first_open_varies, all_forms}
 use Rattle.form_truth.proofs.Choosing.{one_bends}
 
 -- a single value as an argument
@@ -72,11 +74,11 @@ through_sums x (f ∷ fs) so_far s e =
 pub total_worth : (x : Assignment) (fs : List AffineForm) → exact (values.total (map (worth x) fs)) ≡ worth x (exact (total fs))
 total_worth x fs = through_sums x fs (constant_form zero_ℚ) zero_ℚ (sym (constant_worth x zero_ℚ))
 
-sum_row : (fs : List AffineForm) → IsRight (λ x. Number (exact (values.total (map (worth x) fs)))) [] (exact (made entry (total fs)))
-sum_row fs =
+sum_row : (fs : List AffineForm) → AllByRecursion IsForm fs → IsRight (λ x. Number (exact (values.total (map (worth x) fs)))) [] (exact (made entry (total fs)))
+sum_row fs h =
     subst (IsRight (λ x. Number (exact (values.total (map (worth x) fs)))) []) (sym (exact-made entry (total fs)))
-    (λ x. ap Number (total_worth x fs) ∙ sym (entry_at x (exact (total fs))))
+    (λ x. ap Number (total_worth x fs) ∙ sym (entry_at x (exact (total fs)) (total_is_form fs h)))
 
 pub sum_right : (args : List AbsArg) → AreSound args → IsRightArg (λ x. exact (sum_of (map (arg_at x) args))) args (exact (sum_form args))
 sum_right args sound =
-    of_items_right args sound (λ xs. Number (exact (values.total xs))) (λ fs. made entry (total fs)) (sum_row (forms_of args)) (λ xs. counted (values.total xs)) (λ xs. exact-turned_into (λ y. arg.One (Number y)) (values.total xs))
+    of_items_right args sound (λ xs. Number (exact (values.total xs))) (λ fs. made entry (total fs)) (sum_row (forms_of args) (all_forms args sound)) (λ xs. counted (values.total xs)) (λ xs. exact-turned_into (λ y. arg.One (Number y)) (values.total xs))

@@ -5,7 +5,8 @@ use Rattle.sheet_model.specs.declared.value.Value.{Value}
 use Rattle.sheet_funcs.specs.Arguments.{value_of, only_of}
 use Rattle.sheet_funcs.specs.Arguments as functions
 use Rattle.affine_forms.specs.Forms.{Assignment}
-use Rattle.form_values.specs.Meaning.{abs_at, arg_at, IsAbs}
+use Rattle.form_values.specs.Meaning.{abs_at, arg_at}
+use Rattle.form_values.proofs.Opening.{IsAbs, IsSound}
 use Rattle.form_values.specs.Refusals.{Varies}
 use Rattle.form_values.specs.declared.abs.Abs.{Abs}
 use Rattle.form_values.specs.declared.abs.Abs.TheVariants.{Known, Affine, Test}
@@ -15,7 +16,6 @@ use Rattle.form_table.specs.Wanted as wanted
 use Rattle.form_table.specs.Wanted.{grid_of}
 use Rattle.form_values.specs.Known.{is_known, value_in}
 use Rattle.form_table.specs.Lookups.{known_value, known_keys}
-use Rattle.form_values.specs.Meaning.{IsSound}
 use Rattle.form_truth.proofs.Arguments.{value_sound, argument_varies}
 use Rattle.form_truth.proofs.Fitting.{affine_varies, test_varies}
 

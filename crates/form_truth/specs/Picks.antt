@@ -1,7 +1,7 @@
 -- The part of a grid that INDEX picks, the place that MATCH finds, and the record and field of VLOOKUP and HLOOKUP, by open places and
 -- keys: what is given is that under every assignment, none is refused as not affine, and an argument that leaves it undecided varies.
 use Rattle.std.specs.Prelude.{◌≡◌, ℕ, ◌+◌, ◌*◌, ℤ, true, List, [], ◌∷◌, map, slice_get, Some, Result, Ok, Err}
-use Rattle.std.specs.List.{AllByRecursion, list_all}
+use Rattle.std.specs.List.{list_all}
 use Rattle.calculations.specs.Calculation.{exact}
 use Rattle.fractions.specs.Rational.{ℚ}
 use Rattle.fractions.specs.Floor.{floor_ℚ}
@@ -24,7 +24,7 @@ use Rattle.sheet_funcs.specs.declared.pick.Pick.{Pick}
 use Rattle.sheet_funcs.specs.declared.pick.Pick.TheVariants.{Part, Fault}
 use Rattle.sheet_funcs.specs.Rounding.{number_of}
 use Rattle.affine_forms.specs.Forms.{Assignment}
-use Rattle.form_values.specs.Meaning.{abs_at, arg_at, IsSound}
+use Rattle.form_values.specs.Meaning.{abs_at, arg_at}
 use Rattle.form_values.specs.Trials.{Refusal, Breaks, Undecided}
 use Rattle.form_values.specs.Grids.{Raster}
 use Rattle.form_values.specs.declared.abs.Abs.{Abs}
@@ -48,8 +48,7 @@ IsPick value args (Err (Undecided i)) = ArgumentVaries arg_at args i
 -- INDEX, whose grid is its first argument
 abbrev pub IndexIsRight : Type 0
 IndexIsRight =
-    (rows columns : ℕ) (grid : AbsArg) (places : List AbsArg) → AllByRecursion IsSound places
-    → IsPick (λ x. pick_of rows columns (map (arg_at x) places)) (grid ∷ places) (exact (pick_form rows columns places))
+    (rows columns : ℕ) (grid : AbsArg) (places : List AbsArg) → IsPick (λ x. pick_of rows columns (map (arg_at x) places)) (grid ∷ places) (exact (pick_form rows columns places))
 
 -- an error that is certainly picked of a grid with these elements: out of range there is no other, and else one element is picked that is it
 abbrev pub IsErrorPicked : ErrorKind → ℕ → List Abs → Pick → Type 0
@@ -58,14 +57,13 @@ IsErrorPicked k columns items (Part top left bottom right) = (bottom ≡ top) ×
 
 abbrev pub CertainIsPicked : Type 0
 CertainIsPicked =
-    (x : Assignment) (rows columns : ℕ) (items : List Abs) (places : List AbsArg) (k : ErrorKind) → AllByRecursion IsSound places → index_error rows columns items places ≡ Some k
+    (x : Assignment) (rows columns : ℕ) (items : List Abs) (places : List AbsArg) (k : ErrorKind) → index_error rows columns items places ≡ Some k
     → IsErrorPicked k columns items (pick_of rows columns (map (arg_at x) places))
 
 -- MATCH of a key, keys and a kind
 abbrev pub FoundIsRight : Type 0
 FoundIsRight =
-    (key keys kind : AbsArg) → IsSound key → IsSound keys → IsSound kind
-    → IsPick (λ x. lookup_pick (arg_at x key) (arg_at x keys) (number_of (arg_at x kind))) (key ∷ keys ∷ kind ∷ []) (exact (lookup_pick_form key keys (open_values.number_of kind)))
+    (key keys kind : AbsArg) → IsPick (λ x. lookup_pick (arg_at x key) (arg_at x keys) (number_of (arg_at x kind))) (key ∷ keys ∷ kind ∷ []) (exact (lookup_pick_form key keys (open_values.number_of kind)))
 
 -- ---- VLOOKUP
 -- the first element of each row
@@ -84,22 +82,19 @@ IsRecord value table args (Err (Undecided i)) = ArgumentVaries arg_at args i
 
 abbrev pub LookupIsRight : Type 0
 LookupIsRight =
-    (key table column : AbsArg) (rest : List AbsArg) → IsSound key → IsSound table → IsSound column → AllByRecursion IsSound rest
-    → IsRecord (λ x. exact (vlookup_of (map (arg_at x) (key ∷ table ∷ column ∷ rest)))) (λ x. functions.grid_of (arg_at x table)) (key ∷ table ∷ column ∷ rest)
+    (key table column : AbsArg) (rest : List AbsArg) → IsRecord (λ x. exact (vlookup_of (map (arg_at x) (key ∷ table ∷ column ∷ rest)))) (λ x. functions.grid_of (arg_at x table)) (key ∷ table ∷ column ∷ rest)
     (exact (record_form (grid_of table).columns (first_column (grid_of table)) (value_of key) (open_values.number_of column) (kinds_in rest)))
 
 -- HLOOKUP is the same with rows and columns exchanged
 abbrev pub AcrossIsRight : Type 0
 AcrossIsRight =
-    (key table row : AbsArg) (rest : List AbsArg) → IsSound key → IsSound table → IsSound row → AllByRecursion IsSound rest
-    → IsRecord (λ x. exact (hlookup_of (map (arg_at x) (key ∷ table ∷ row ∷ rest)))) (λ x. products.transposed (functions.grid_of (arg_at x table))) (key ∷ table ∷ row ∷ rest)
+    (key table row : AbsArg) (rest : List AbsArg) → IsRecord (λ x. exact (hlookup_of (map (arg_at x) (key ∷ table ∷ row ∷ rest)))) (λ x. products.transposed (functions.grid_of (arg_at x table))) (key ∷ table ∷ row ∷ rest)
     (exact (record_form (transposed (grid_of table)).columns (first_column (transposed (grid_of table))) (value_of key) (open_values.number_of row) (kinds_in rest)))
 
 -- ---- SUMIF: the places of the elements that meet the criterion; the tested grid is its first argument
 abbrev pub PlacesAreRight : Type 0
 PlacesAreRight =
-    (tested criterion : AbsArg) → IsSound tested → IsSound criterion
-    → IsPick (λ x. places_from 0 (functions.value_of (arg_at x criterion)) (functions.elements_of (arg_at x tested))) (tested ∷ criterion ∷ [])
+    (tested criterion : AbsArg) → IsPick (λ x. places_from 0 (functions.value_of (arg_at x criterion)) (functions.elements_of (arg_at x tested))) (tested ∷ criterion ∷ [])
     (exact (met_places (grid_of tested).items (value_of criterion)))
 
 -- an error that is certainly the first among the summed elements is so under every assignment
@@ -115,8 +110,7 @@ chosen_by choices (Ok x) = choice_at choices (floor_ℚ x)
 
 abbrev pub ChosenIsRight : Type 0
 ChosenIsRight =
-    (place : AbsArg) (choices : List AbsArg) → IsSound place
-    → IsPick (λ x. chosen_by choices (number_of (arg_at x place))) (place ∷ choices) (exact (choose_form place choices))
+    (place : AbsArg) (choices : List AbsArg) → IsPick (λ x. chosen_by choices (number_of (arg_at x place))) (place ∷ choices) (exact (choose_form place choices))
 
 -- and where each choice is the error that stands where there is none, it is so at each place
 abbrev pub worth_chosen : Assignment → Result AbsArg ErrorKind → Arg

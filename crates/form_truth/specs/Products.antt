@@ -1,14 +1,13 @@
 -- SUMPRODUCT and MMULT. A sum of products may be affine, or even constant, where a product in it is neither; so where there is no form,
 -- it is a product that bends.
 use Rattle.std.specs.Prelude.{◌<◌, ℕ, List, [], ◌∷◌, map, take}
-use Rattle.std.specs.List.{AllByRecursion}
 use Rattle.fractions.specs.Rational.{◌*ℚ◌}
 use Rattle.calculations.specs.Calculation.{exact}
 use Rattle.formula_ast.specs.declared.func.Func.TheVariants as func
 use Rattle.sheet_model.specs.declared.value.Value.TheVariants.{Number}
 use Rattle.sheet_funcs.specs.Arguments as arguments
 use Rattle.sheet_funcs.specs.Products as products
-use Rattle.form_values.specs.Meaning.{arg_at, IsSound}
+use Rattle.form_values.specs.Meaning.{arg_at}
 use Rattle.form_values.specs.Refusals.{Bends}
 use Rattle.form_values.specs.declared.abs.AbsArg.{AbsArg}
 use Rattle.form_table.specs.Wanted.{grid_of}
@@ -24,8 +23,7 @@ pub record FactorsBend (args : List AbsArg) : Type 0 where
 
 abbrev pub SumProductIsRight : Type 0
 SumProductIsRight =
-    (args : List AbsArg) → AllByRecursion IsSound args
-    → IsOutcome (called_at func.SumProduct args) args (FactorsBend args) (exact (form_called func.SumProduct args))
+    (args : List AbsArg) → IsOutcome (called_at func.SumProduct args) args (FactorsBend args) (exact (form_called func.SumProduct args))
 
 -- the product of an element in a row of the first grid and the one for it in a column of the second
 pub record PairBends (a b : AbsArg) : Type 0 where
@@ -39,5 +37,4 @@ pub record PairBends (a b : AbsArg) : Type 0 where
 
 abbrev pub MatrixProductIsRight : Type 0
 MatrixProductIsRight =
-    (a b : AbsArg) → IsSound a → IsSound b
-    → IsOutcome (called_at func.MMult (a ∷ b ∷ [])) (a ∷ b ∷ []) (PairBends a b) (exact (form_called func.MMult (a ∷ b ∷ [])))
+    (a b : AbsArg) → IsOutcome (called_at func.MMult (a ∷ b ∷ [])) (a ∷ b ∷ []) (PairBends a b) (exact (form_called func.MMult (a ∷ b ∷ [])))

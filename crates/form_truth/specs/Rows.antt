@@ -4,15 +4,14 @@ use Rattle.std.specs.Prelude.{◌≡◌, ℕ, List, slice_get, Some, Result, Ok,
 use Rattle.sheet_model.specs.declared.grid.Arg.{Arg}
 use Rattle.sheet_funcs.specs.Arguments.{elements_of}
 use Rattle.affine_forms.specs.Forms.{Assignment}
-use Rattle.form_values.specs.Meaning.{arg_at, IsSound}
+use Rattle.form_values.specs.Meaning.{arg_at}
 use Rattle.form_values.specs.Refusals.{SomeBends, Varies}
 use Rattle.form_values.specs.Trials.{Refusal, Breaks, Undecided}
 use Rattle.form_values.specs.declared.abs.AbsArg.{AbsArg}
 
--- an open argument has a value under every assignment, and is sound
-pub record Represents (value : Assignment → Arg) (a : AbsArg) : Type 0 where
-  pub sound : IsSound a
-  pub same : (x : Assignment) → value x ≡ arg_at x a
+-- an open argument has a value under every assignment
+abbrev pub Represents : (Assignment → Arg) → AbsArg → Type 0
+Represents value a = (x : Assignment) → value x ≡ arg_at x a
 
 -- the argument at a place varies, where `at` says what an argument is at an assignment
 pub record ArgumentVaries {A V : Type 0} (at : Assignment → A → V) (args : List A) (place : ℕ) : Type 0 where

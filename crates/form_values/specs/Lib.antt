@@ -1,3 +1,4 @@
+pub mod OpenForms
 pub mod Grids
 pub mod Meaning
 pub mod Entries

@@ -1,12 +1,12 @@
 // What a value is while some decisions are open.
 ghost use Rattle.std.specs.Prelude.{◌≡◌, ◌<◌, ◌+◌, ◌*◌, IfOk, IfNone, IfSome, IsTrue, Some, length, map, slice_get};
-ghost use Rattle.affine_forms.specs.Forms.{has_terms};
 ghost use Rattle.form_values.specs.Entries.{entry, test};
 ghost use Rattle.form_values.specs.Grids.{IsFull};
 ghost use Rattle.form_values.specs.Known.{all_known, is_known, known_arg, value_in, values_in};
 ghost use Rattle.form_values.specs.declared.abs.Abs.TheVariants.{Known};
 ghost use Rattle.form_values.specs.Meaning.{elements_of};
 
+use crate::open_form::Open;
 use affine_forms::{Form, Rel};
 use memory::Memory;
 use sheet_model::{Arg, Grid, Value};
@@ -14,12 +14,11 @@ use std::alloc::Global;
 use std::marker::Model;
 
 /// A value: the same under every assignment, a form with at least one term, or whether such a form is in a relation to 0.
-/// That a form in it has a term is kept by making open values with `entry` and `test`.
 #[derive(Drop)]
 pub enum Abs {
     Known(Value),
-    Affine(Form),
-    Test(Form, Rel),
+    Affine(Open),
+    Test(Open, Rel),
 }
 
 impl Abs {
@@ -27,10 +26,10 @@ impl Abs {
     pub fn entry(form: Form) -> Abs
         ensures { result ≡ entry form }
     {
-        if form.is_constant() {
+        if form.terms().is_empty() {
             Abs::Known(Value::Number(form.base()))
         } else {
-            Abs::Affine(form)
+            Abs::Affine(Open { form })
         }
     }
 
@@ -38,10 +37,10 @@ impl Abs {
     pub fn test(relation: Rel, form: Form) -> Abs
         ensures { result ≡ test relation form }
     {
-        if form.is_constant() {
+        if form.terms().is_empty() {
             Abs::Known(Value::Logical(relation.holds(form.base())))
         } else {
-            Abs::Test(form, relation)
+            Abs::Test(Open { form }, relation)
         }
     }
 
@@ -61,8 +60,8 @@ impl Abs {
     {
         match self {
             Abs::Known(value) => Ok(Abs::Known(value.copy(alloc)?)),
-            Abs::Affine(form) => Ok(Abs::Affine(form.copy()?)),
-            Abs::Test(form, relation) => Ok(Abs::Test(form.copy()?, *relation)),
+            Abs::Affine(open) => Ok(Abs::Affine(open.copy()?)),
+            Abs::Test(open, relation) => Ok(Abs::Test(open.copy()?, *relation)),
         }
     }
 }

@@ -6,7 +6,8 @@ use Rattle.cell_refs.specs.declared.span.Span.{Span}
 use Rattle.sheet_model.specs.declared.value.Value.TheVariants.{Empty}
 use Rattle.recalculation.specs.Entries.{Book, Entry, Constant, Formula, entry}
 use Rattle.recalculation.specs.Entries as entries
-use Rattle.affine_forms.specs.Forms.{AffineForm, decision_form}
+use Rattle.affine_forms.specs.Forms.{AffineForm}
+use Rattle.form_values.specs.Entries.{open_decision}
 use Rattle.form_values.specs.declared.abs.Abs.TheVariants.{Known, Affine}
 use Rattle.workbook.specs.declared.kind.Kind.{Kind}
 use Rattle.workbook.specs.declared.kind.Kind.TheVariants as kind
@@ -32,7 +33,7 @@ told_by (Some entries.Malformed) kept = Some Malformed
 
 -- a cell to be decided is its number
 abbrev pub decided_or : Option ℕ → Option CellForm → Option CellForm
-decided_or (Some j) form = Some (Form (Affine (decision_form j)))
+decided_or (Some j) form = Some (Form (Affine (open_decision j)))
 decided_or None form = form
 
 abbrev pub told_form : Book → List Cell → Table → Place → Option CellForm

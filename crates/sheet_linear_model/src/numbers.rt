@@ -43,7 +43,7 @@ fn number_of(alloc: Global, value: &Abs) -> Result<Option<Form>, Memory>
     ensures { IfOk result (λ number. number ≡ number_form value.now) }
 {
     match value {
-        Abs::Affine(form) => Ok(Some(form.copy()?)),
+        Abs::Affine(open) => Ok(Some(open.form.copy()?)),
         Abs::Known(known) => Ok(number_known(alloc, known)),
         Abs::Test(_, _) => Ok(None),
     }

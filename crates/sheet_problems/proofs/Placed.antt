@@ -1,20 +1,17 @@
 -- The forms of places are what the places are worth.
-use Rattle.std.proofs.Common.{◌≡◌, ◌<◌, ℕ, Bool, true, false, List, length, Option, Some, None, refl, sym, ap, subst, ◌∙◌}
-use Rattle.std.specs.Prelude.{option_map, if◌then◌else◌, is_some}
+use Rattle.std.proofs.Common.{◌≡◌, ◌<◌, ℕ, List, length, Option, Some, None, refl, sym, ap, subst, ◌∙◌}
+use Rattle.std.specs.Prelude.{option_map}
 use Rattle.std.specs.Option.{option_and_then}
 use Rattle.fractions.specs.Rational.{zero_ℚ}
 use Rattle.fractions.proofs.Laws.{add-zero}
-use Rattle.calculations.specs.Calculation.{exact}
 use Rattle.cell_refs.specs.declared.cell.Cell.{Cell}
 use Rattle.formula_ast.specs.Tree.{Tree}
-use Rattle.sheet_model.specs.declared.value.Value.{Value}
 use Rattle.sheet_model.specs.declared.value.Value.TheVariants.{Number, Text, Logical, Empty, Error}
 use Rattle.recalculation.specs.Entries.{Book}
-use Rattle.recalculation.specs.Evaluation.{evaluated}
-use Rattle.recalculation.specs.Recalculation.{val}
 use Rattle.affine_forms.specs.Assigned.{assigned, ReachTo}
 use Rattle.affine_forms.specs.Forms.{Assignment, AffineForm, IsForm, constant_form, worth}
-use Rattle.form_values.specs.Meaning.{abs_at, IsAbs}
+use Rattle.form_values.specs.Meaning.{abs_at}
+use Rattle.form_values.proofs.Opening.{open_has_a_term}
 use Rattle.form_values.specs.declared.abs.Abs.{Abs}
 use Rattle.form_values.specs.declared.abs.Abs.TheVariants.{Known, Affine, Test}
 use Rattle.linear_models.specs.Worths.{worth_of}
@@ -22,21 +19,19 @@ use Rattle.workbook.specs.declared.place.Place.{Place}
 use Rattle.workbook.specs.declared.place.Place.TheVariants as place
 use Rattle.form_extraction.specs.declared.forms.CellForm.{CellForm}
 use Rattle.form_extraction.specs.declared.forms.CellForm.TheVariants.{Form, Refused, Blocked, Circular, Malformed}
-use Rattle.form_extraction.specs.Formulas.{part_of}
-use Rattle.form_extraction.specs.Places.{form_in, form_of, formula_form, least_without, overriding, numbered_in}
-use Rattle.form_extraction.specs.Looked.{forms_of, refers_to_circle, side_form, side_value}
-use Rattle.form_extraction.proofs.Books.{form_worth, looks_worth}
+use Rattle.form_extraction.specs.Places.{form_in, form_of, overriding, numbered_in}
+use Rattle.form_extraction.specs.Looked.{side_form, side_value}
+use Rattle.form_extraction.proofs.Books.{form_worth}
 use Rattle.form_extraction.proofs.Cells.{side_is_the_value}
-use Rattle.form_extraction.proofs.Trees.{part_true}
 use Rattle.sheet_problems.specs.Forms.{HasForm, number_form}
 use Rattle.sheet_problems.specs.Places.{Sides, number_in, tree_of, value_at, worth_at}
 use Rattle.sheet_problems.proofs.Numbers.{equal_numbers, put_alike}
 use Rattle.sheet_problems.proofs.Reaching.{form_reaches}
 
 -- ---- forms of numbers
--- a sound value with the form of a number has its worth
+-- a value with the form of a number has its worth
 number_worth : (x : Assignment) (a : Abs) (f : AffineForm) → number_form a ≡ Some f → number_in (abs_at x a) ≡ Some (worth x f)
-number_worth x (Affine g) f e = let s : g ≡ f = cc in ap (λ h. Some (worth x h)) s
+number_worth x (Affine g) f e = let s : g.form ≡ f = cc in ap (λ h. Some (worth x h)) s
 number_worth x (Known (Number y)) f e = let s : constant_form y ≡ f = cc in ap Some (sym (add-zero y)) ∙ ap (λ h. Some (worth x h)) s
 number_worth x (Known Empty) f e = let s : constant_form zero_ℚ ≡ f = cc in ap Some (sym (add-zero zero_ℚ)) ∙ ap (λ h. Some (worth x h)) s
 number_worth x (Known (Text y)) f e = cc
@@ -55,32 +50,10 @@ formed Malformed a e = cc
 -- the form of a place, which is that of a number
 pub record Placed (book : Book) (sides : Sides) (decisions : List Cell) (p : Place) (f : AffineForm) : Type 0 where
   pub abs : Abs
-  pub sound : IsAbs abs
   pub number : number_form abs ≡ Some f
   pub value : (x : Assignment) → value_at book sides (overriding (numbered_in decisions) x) p ≡ Some (abs_at x abs)
 
 module _ (book : Book) (sides : Sides) (decisions : List Cell) where
-  side_sound : (t : Tree) (a : Abs) → side_form book (numbered_in decisions) t ≡ Form a → IsAbs a
-  side_sound t a h = by_circle (refers_to_circle book (λ c. is_some (numbered_in decisions c)) t) h
-    where
-      zeros : Assignment
-      zeros j = zero_ℚ
-
-      forms : Cell → Option Abs
-      forms = forms_of book (numbered_in decisions)
-
-      values : Cell → Value
-      values = val book (overriding (numbered_in decisions) zeros)
-
-      by_circle : (w : Bool) → (if w then Circular else formula_form forms t) ≡ Form a → IsAbs a
-      by_circle true e = cc
-      by_circle false e =
-          (looks_worth zeros (exact (evaluated values t)) (least_without forms (part_of forms t).looks) (part_of forms t).outcome a
-          (λ b e. part_true zeros forms values record {
-            sound = λ c b e. (form_worth book (numbered_in decisions) c b (formed _ b e) zeros).0;
-            same = λ c b e. (form_worth book (numbered_in decisions) c b (formed _ b e) zeros).1;
-          } t b e) e).0
-
   of_option : (o : Option Abs) (f : AffineForm) → option_and_then number_form o ≡ Some f → (a : Abs) × (o ≡ Some a) × (number_form a ≡ Some f)
   of_option (Some a) f h = (a, refl, h)
   of_option None f h = cc
@@ -89,7 +62,7 @@ module _ (book : Book) (sides : Sides) (decisions : List Cell) where
   placed (place.Cell c) f h =
       let r = of_option (form_in (form_of book (numbered_in decisions) c)) f h in
       let e = formed (form_of book (numbered_in decisions) c) r.0 r.1 in
-      record { abs = r.0; sound = (form_worth book (numbered_in decisions) c r.0 e (λ j. zero_ℚ)).0; number = r.2; value = λ x. ap Some (form_worth book (numbered_in decisions) c r.0 e x).1 }
+      record { abs = r.0; number = r.2; value = λ x. ap Some (form_worth book (numbered_in decisions) c r.0 e x).1 }
   placed (place.Side k) f h = by_tree (tree_of sides k) refl h
     where
       by_tree : (o : Option Tree) → tree_of sides k ≡ o → option_and_then number_form (option_and_then form_in (option_map (side_form book (numbered_in decisions)) o)) ≡ Some f
@@ -100,7 +73,6 @@ module _ (book : Book) (sides : Sides) (decisions : List Cell) where
           let s = formed (side_form book (numbered_in decisions) t) r.0 r.1 in
           record {
             abs = r.0;
-            sound = side_sound t r.0 s;
             number = r.2;
             value = λ x. ap (option_map (side_value book (overriding (numbered_in decisions) x))) q ∙ ap Some (side_is_the_value book (numbered_in decisions) t r.0 s x);
           }
@@ -113,20 +85,20 @@ module _ (book : Book) (sides : Sides) (decisions : List Cell) where
   pub worth_is : (p : Place) (f : AffineForm) → HasForm book sides decisions p f → worth_at book sides decisions p ≡ worth_of f
   worth_is p f h = λ i a. place_worth p f h (assigned a) i
 
-  -- the form of a sound value of a number
-  reaches : (n : ℕ) (a : Abs) (f : AffineForm) → IsAbs a → number_form a ≡ Some f → ((x y : Assignment) → ((j : ℕ) → j < n → x j ≡ y j) → worth x f ≡ worth y f) → ReachTo f.terms n
-  reaches n (Affine g) f sound e same = let s : g ≡ f = cc in form_reaches n f (subst IsForm s sound.0) same
-  reaches n (Known (Number y)) f sound e same = let s : constant_form y ≡ f = cc in subst (λ (h : AffineForm). ReachTo h.terms n) s tt
-  reaches n (Known Empty) f sound e same = let s : constant_form zero_ℚ ≡ f = cc in subst (λ (h : AffineForm). ReachTo h.terms n) s tt
-  reaches n (Known (Text y)) f sound e same = cc
-  reaches n (Known (Logical y)) f sound e same = cc
-  reaches n (Known (Error k)) f sound e same = cc
-  reaches n (Test g r) f sound e same = cc
+  -- the form of a value of a number
+  reaches : (n : ℕ) (a : Abs) (f : AffineForm) → number_form a ≡ Some f → ((x y : Assignment) → ((j : ℕ) → j < n → x j ≡ y j) → worth x f ≡ worth y f) → ReachTo f.terms n
+  reaches n (Affine g) f e same = let s : g.form ≡ f = cc in form_reaches n f (subst IsForm s (open_has_a_term g).0) same
+  reaches n (Known (Number y)) f e same = let s : constant_form y ≡ f = cc in subst (λ (h : AffineForm). ReachTo h.terms n) s tt
+  reaches n (Known Empty) f e same = let s : constant_form zero_ℚ ≡ f = cc in subst (λ (h : AffineForm). ReachTo h.terms n) s tt
+  reaches n (Known (Text y)) f e same = cc
+  reaches n (Known (Logical y)) f e same = cc
+  reaches n (Known (Error k)) f e same = cc
+  reaches n (Test g r) f e same = cc
 
   -- it has terms in the decisions alone
   pub place_reaches : (p : Place) (f : AffineForm) → HasForm book sides decisions p f → ReachTo f.terms (length decisions)
   place_reaches p f h =
       let r = placed p f h in
-      reaches (length decisions) r.abs f r.sound r.number
+      reaches (length decisions) r.abs f r.number
       (λ x y same. let both : Some (worth x f) ≡ Some (worth y f) = sym (place_worth p f h x)
       ∙ ap (option_and_then number_in) (equal_numbers book sides (overriding (numbered_in decisions) x) (overriding (numbered_in decisions) y) (put_alike decisions x y same) p) ∙ place_worth p f h y in cc)

@@ -26,7 +26,7 @@ form_at book sides decisions (place.Side k) = option_map (side_form book (number
 
 -- the form of a number: what is known is a constant, and what is empty is 0; none for anything else
 abbrev pub number_form : Abs → Option AffineForm
-number_form (Affine f) = Some f
+number_form (Affine o) = Some o.form
 number_form (Known (Number x)) = Some (constant_form x)
 number_form (Known Empty) = Some (constant_form zero_ℚ)
 number_form a = None

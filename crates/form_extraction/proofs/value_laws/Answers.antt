@@ -1,5 +1,5 @@
 use Rattle.form_values.specs.declared.abs.Abs.TheVariants.{Known, Affine, Test}
-use Rattle.form_extraction.proofs.Books.{form_is_the_value, open_has_a_term}
+use Rattle.form_extraction.proofs.Books.{form_is_the_value}
 use Rattle.form_extraction.proofs.value_laws.Goals as goal
 
 pub returns-clause-value : goal.returns-clause-value
@@ -13,6 +13,3 @@ returns-clause-number c = λ book decisions a f h x. form_is_the_value book deci
 
 pub returns-clause-test : goal.returns-clause-test
 returns-clause-test c = λ book decisions a f r h x. form_is_the_value book decisions a (Test f r) h x
-
-pub returns-clause-open : goal.returns-clause-open
-returns-clause-open c = open_has_a_term

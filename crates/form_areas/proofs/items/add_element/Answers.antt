@@ -4,4 +4,4 @@ use Rattle.form_areas.proofs.AmongItems.{element_added}
 use Rattle.form_areas.proofs.items.add_element.Goals as goal
 
 pub returns-in-Affine : goal.returns-in-Affine
-returns-in-Affine c = element_added _ c.args.item.now c.in-Affine.form _ (ap item_at c.in-Affine.is) c.add_to.ensures.answer
+returns-in-Affine c = element_added _ c.args.item.now c.in-Affine.open.form _ (ap item_at c.in-Affine.is) c.add_to.ensures.answer
