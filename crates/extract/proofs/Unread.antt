@@ -17,6 +17,7 @@ use Rattle.form_values.specs.declared.abs.AbsArg.TheVariants.{One}
 use Rattle.fractions.specs.Whole.{whole_ℚ}
 use Rattle.sheet_model.specs.declared.value.Value.TheVariants.{Number}
 use Rattle.form_table.specs.Certain.{index_error}
+use Rattle.form_table.specs.CertainRecords.{record_error}
 use Rattle.form_table.specs.Picks.{pick_form}
 use Rattle.form_table.specs.Wanted.{value_of, number_of}
 use Rattle.form_table.specs.Lookups.{record_form, kinds_in}
@@ -25,7 +26,7 @@ use Rattle.form_extraction.specs.declared.forms.Outcome.{Outcome}
 use Rattle.form_extraction.specs.declared.forms.Outcome.TheVariants.{Gives, Refused, Without}
 use Rattle.form_extraction.specs.Parts.{Part, argument, tried, on_part, on_parts}
 use Rattle.form_extraction.specs.declared.forms.Why.TheVariants as why
-use Rattle.form_extraction.specs.Sources.{Source, in_source, in_turned, taken, key_places, exchanged}
+use Rattle.form_extraction.specs.Sources.{Source, items_seen, in_source, in_turned, taken, key_places, exchanged}
 use Rattle.form_extraction.specs.Calls.{unless_error, seen_before, picked_from, record_from, lookup_by, size_of, call_outcome}
 use Rattle.form_extraction.specs.Formulas.{call_part}
 use Rattle.form_parts.specs.Steps.{unread}
@@ -56,7 +57,8 @@ lookup_alike : (whole : Span) (ps qs : List Part) (s : Source) (keys : List Abs)
 lookup_alike whole ps qs s keys [] e = refl
 lookup_alike whole ps qs s keys (key ∷ []) e = refl
 lookup_alike whole ps qs s keys (key ∷ field ∷ rest) e =
-    tried_alike whole ps qs (record_from s) (narrow (record_form s.columns keys (value_of key) (number_of field) (kinds_in rest))) e
+    ap (unless_error (record_error s.columns (items_seen s) keys (value_of key) (number_of field) (kinds_in rest)))
+    (tried_alike whole ps qs (record_from s) (narrow (record_form s.columns keys (value_of key) (number_of field) (kinds_in rest))) e)
 
 module _ (forms : Cell → Option Abs) (at : Span) where
   -- a call, by what it looks at and what it comes to

@@ -11,3 +11,4 @@ pub mod KnownKeys
 pub mod Meeting
 pub mod NeverFound
 pub mod Certain
+pub mod AgreedErrors

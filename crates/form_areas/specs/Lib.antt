@@ -4,3 +4,4 @@ pub mod Matrices
 pub mod Places
 pub mod Truths
 pub mod Undecided
+pub mod Agreed

@@ -76,8 +76,8 @@ pub(crate) fn has_key(items: &[Abs]) -> bool
     items.iter().any(may_be_key)
 }
 
-// Whether an element may be a key: an open one may, and of the known ones what is empty and what is an error isn't.
-fn may_be_key(item: &Abs) -> bool
+/// Whether an element may be a key: an open one may, and of the known ones what is empty and what is an error isn't.
+pub(crate) fn may_be_key(item: &Abs) -> bool
     ensures { result ≡ may_be_key item.now }
 {
     !matches!(item, Abs::Known(Value::Empty | Value::Error(_)))

@@ -127,8 +127,8 @@ fn certain_beside(
     later
 }
 
-// The error that follows, if it is this one.
-fn if_same(kind: ErrorKind, later: Option<ErrorKind>) -> Option<ErrorKind>
+/// The error that follows, if it is this one.
+pub(crate) fn if_same(kind: ErrorKind, later: Option<ErrorKind>) -> Option<ErrorKind>
     ensures { result ≡ if_same kind later }
 {
     match later {

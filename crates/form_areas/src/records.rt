@@ -94,8 +94,8 @@ fn record_by(
     }
 }
 
-// The kind of search that an argument asks for which says whether the keys are sorted; none where it is open.
-fn kind_in(sorted: &[AbsArg]) -> Result<Option<MatchKind>, ErrorKind>
+/// The kind of search that an argument asks for which says whether the keys are sorted; none where it is open.
+pub(crate) fn kind_in(sorted: &[AbsArg]) -> Result<Option<MatchKind>, ErrorKind>
     ensures { result_map_both kinds_asked (λ k. k) result ≡ kinds_in sorted.now }
 {
     match sorted {
@@ -180,8 +180,8 @@ fn in_field(
     by_kind(alloc, field, key, keys, kind)
 }
 
-// The field, from 0, at a place that is counted from 1.
-fn field_at(fields: u32, place: i128) -> Result<u32, ErrorKind>
+/// The field, from 0, at a place that is counted from 1.
+pub(crate) fn field_at(fields: u32, place: i128) -> Result<u32, ErrorKind>
     ensures value { result ≡ field_at fields place }
     ensures within { IfOk result (λ field. field < fields) }
 {

@@ -1,10 +1,11 @@
 -- Lookups and INDEX by the table: a reference, or another argument.
 use Rattle.std.specs.Prelude.{◌&&◌, ◌==◌}
-use Rattle.std.proofs.Common.{◌≡◌, refl, sym, ap, ◌∙◌, append-nil, Bool, true, false, if◌then◌else◌, ℕ, List, [], ◌∷◌, ◌++◌, map, Option, Some, None}
+use Rattle.std.proofs.Common.{◌≡◌, refl, sym, ap, ◌∙◌, append-nil, Bool, true, false, if◌then◌else◌, ℕ, List, [], ◌∷◌, ◌++◌, map, Option, Some, None, Result}
 use Rattle.cell_refs.specs.declared.error_kind.ErrorKind.{ErrorKind}
 use Rattle.cell_refs.specs.declared.error_kind.ErrorKind.TheVariants as kind
 use Rattle.cell_refs.specs.declared.cell.Cell.{Cell}
 use Rattle.cell_refs.specs.declared.span.Span.{Span}
+use Rattle.sheet_funcs.specs.declared.lookups.MatchKind.{MatchKind}
 use Rattle.sheet_funcs.specs.declared.pick.Pick.{Pick}
 use Rattle.sheet_funcs.specs.declared.pick.Pick.TheVariants.{Part as Picked, Fault}
 use Rattle.recalculation.specs.Evaluation.{CellGrid}
@@ -12,13 +13,14 @@ use Rattle.recalculation.specs.Looks.{all_looks, index_looks, index_of_looks, lo
 use Rattle.form_values.specs.declared.abs.Abs.{Abs}
 use Rattle.form_values.specs.declared.abs.AbsArg.{AbsArg}
 use Rattle.form_table.specs.Certain.{pick_in_range, picks_ref_error, index_error}
+use Rattle.form_table.specs.CertainRecords.{record_error}
 use Rattle.form_table.specs.Picks.{pick_form}
-use Rattle.form_table.specs.Wanted.{grid_of}
+use Rattle.form_table.specs.Wanted.{Wanted, grid_of}
 use Rattle.form_extraction.specs.Calls.{seen_before, picked_at, index_outcome, lookup_by, lookup_outcome}
 use Rattle.form_extraction.specs.Deciding.{by_form, given_by, record_by}
 use Rattle.form_extraction.specs.Parts.{Part, argument, on_outcome, on_part, on_parts, tried_on, value_in}
 use Rattle.form_extraction.specs.Sources as grids
-use Rattle.form_extraction.specs.Sources.{elements_at, in_source, in_turned, key_places, of_cells, of_raster, taken}
+use Rattle.form_extraction.specs.Sources.{elements_at, items_seen, in_source, in_turned, key_places, of_cells, of_raster, taken}
 use Rattle.form_extraction.specs.declared.forms.Outcome.{Outcome}
 use Rattle.form_extraction.specs.declared.forms.Outcome.TheVariants.{Gives, Refused, Without}
 use Rattle.form_calls.specs.Lookups.{found_cells, found_outcome}
@@ -111,6 +113,15 @@ nothing_picked columns (Some (Fault k)) = refl
 nothing_picked columns None = refl
 
 -- of a reference there is none, and of another argument there are no cells
+pub record_error_cells : (s : Source) (keys : List Abs) (key : Abs) (w : Wanted) (kinds : Result (List MatchKind) ErrorKind) (k : ErrorKind) → record_error (columns_of s) (map Some (read_before s)) keys key w kinds ≡ Some k
+    → (o : Option Pick) → then_cells o (cells_picked s) ≡ []
+record_error_cells (Values a) keys key w kinds k e o = none_picked o (Values a) (λ p. refl)
+record_error_cells (Cells g) keys key w kinds k e o = cc
+
+pub seen_is : (forms : Cell → Option Abs) (s : Source) → map Some (read_before s) ≡ items_seen (source_of forms s)
+seen_is forms (Cells g) = refl
+seen_is forms (Values a) = refl
+
 pub error_cells : (s : Source) (at : List AbsArg) (k : ErrorKind) → index_error (rows_of s) (columns_of s) (read_before s) at ≡ Some k → (o : Option Pick) → then_cells o (cells_picked s) ≡ []
 error_cells (Values a) at k e o = none_picked o (Values a) (λ p. refl)
 error_cells (Cells g) at k e o =

@@ -1,5 +1,5 @@
 -- Elements of grids from which functions pick.
-use Rattle.std.proofs.Common.{◌≡◌, ◌<◌, ◌+◌, ◌*◌, ◌++◌, refl, sym, ap, ap₂, ◌∙◌, arith, ℕ, zero, suc, List, [], ◌∷◌, length, get_or, map, Option, Some, None}
+use Rattle.std.proofs.Common.{◌≡◌, ◌<◌, ◌+◌, ◌*◌, ◌++◌, refl, sym, ap, ap₂, ◌∙◌, arith, ℕ, zero, suc, List, [], ◌∷◌, length, get_or, map, Option, Some, None, true}
 use Rattle.std.specs.Prelude.{flat_map, option_to_list, slice_get, slice_index_or}
 use Rattle.std.specs.List.{AllByRecursion}
 use Rattle.std.proofs.lemmas.List.Concat.{flat_map-append}
@@ -92,7 +92,7 @@ given (a ∷ items) zero = refl
 given (a ∷ items) (suc i) = given items i
 
 pub exchanged_values : (g : Raster) → exchanged (of_raster g) ≡ of_raster (transposed g)
-exchanged_values g = ap (λ items. record { rows = g.columns; columns = g.rows; items = items }) (by (places_of g.columns g.rows))
+exchanged_values g = ap (λ items. record { rows = g.columns; columns = g.rows; items = items; is_seen = true }) (by (places_of g.columns g.rows))
   where
     by : (ps : List (ℕ × ℕ)) → map (λ (p : ℕ × ℕ). element (slice_get (map Some g.items) (p.1 * g.columns + p.0))) ps ≡ map Some (map (λ (p : ℕ × ℕ). at g p.1 p.0) ps)
     by [] = refl

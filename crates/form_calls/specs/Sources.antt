@@ -1,5 +1,5 @@
 -- Grids from which functions pick.
-use Rattle.std.specs.Prelude.{ℕ, List, [], map, Option, Some}
+use Rattle.std.specs.Prelude.{ℕ, Bool, true, false, List, [], map, Option, Some}
 use Rattle.cell_refs.specs.declared.cell.Cell.{Cell}
 use Rattle.sheet_funcs.specs.declared.pick.Pick.{Pick}
 use Rattle.recalculation.specs.Looks.{picked_cells}
@@ -28,8 +28,13 @@ abbrev pub read_before : Source → List Abs
 read_before (Cells g) = []
 read_before (Values a) = (grid_of a.now).items
 
+-- of a reference no element is seen before
+abbrev pub is_seen : Source → Bool
+is_seen (Cells g) = false
+is_seen (Values a) = true
+
 abbrev pub source_of : (Cell → Option Abs) → Source → grids.Source
-source_of forms s = record { rows = rows_of s; columns = columns_of s; items = items_of forms s }
+source_of forms s = record { rows = rows_of s; columns = columns_of s; items = items_of forms s; is_seen = is_seen s }
 
 -- the cells in some places, and those that are picked; of another argument there are none
 abbrev pub cells_in : Source → List ℕ → List Cell

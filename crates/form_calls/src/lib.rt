@@ -10,6 +10,7 @@ mod ends;
 mod lookups;
 mod picks;
 mod places;
+mod records;
 mod sizes;
 mod source;
 

@@ -1,24 +1,24 @@
 // VLOOKUP and HLOOKUP.
-ghost use Rattle.std.specs.Prelude.{◌≡◌, ◌<◌, ◌++◌, ◌∷◌, IfOk, length, map};
+ghost use Rattle.std.specs.Prelude.{◌≡◌, ◌++◌, ◌∷◌, IfOk, length, map};
 ghost use Rattle.form_calls.specs.Lookups.{found_cells, found_outcome};
-ghost use Rattle.form_calls.specs.Sources.{cells_picked, columns_of, rows_of, source_of};
-ghost use Rattle.form_extraction.specs.Calls.{lookup_by, lookup_outcome, record_from};
-ghost use Rattle.form_extraction.specs.Deciding.{by_form, record_by, record_picked};
+ghost use Rattle.form_calls.specs.Sources.{rows_of, source_of};
+ghost use Rattle.form_extraction.specs.Calls.{lookup_outcome};
+ghost use Rattle.form_extraction.specs.Deciding.{by_form};
 ghost use Rattle.form_extraction.specs.Parts.{argument};
 ghost use Rattle.form_extraction.specs.Sources.{exchanged, key_places, of_cells, of_raster};
 ghost use Rattle.form_table.specs.Wanted.{grid_of};
-ghost use Rattle.recalculation.specs.Looks.{all_looks, exchanged as exchanged_cells, lookup_looks, record_looks, then_cells};
+ghost use Rattle.recalculation.specs.Looks.{all_looks, exchanged as exchanged_cells, lookup_looks, record_looks};
 
-use crate::ends::{error_part, miscounted_part, refused_part, valueless_part};
-use crate::picks::taken_part;
+use crate::ends::{miscounted_part, valueless_part};
 use crate::places::{key_places, push_cells_at};
+use crate::records::looked_up;
 use crate::source::{Source, elements_at};
 use cell_grids::Reference;
-use cell_refs::{Cell, ErrorKind, Span};
-use form_areas::{record_at, transpose_elements};
+use cell_refs::{Cell, Span};
+use form_areas::transpose_elements;
 use form_extraction::Outcome;
 use form_parts::{FormsOfCells, Part, Values, push_cells, push_looks, values_of};
-use form_values::{Abs, AbsArg};
+use form_values::AbsArg;
 use memory::Memory;
 use std::alloc::Global;
 
@@ -238,64 +238,4 @@ fn found_part<C: FormsOfCells>(
     looked_up(
         alloc, forms, whole, args, looks, source, &keys, key_value, &others,
     )
-}
-
-// A lookup of the value of a key among those of keys, by the values of the further arguments.
-fn looked_up<C: FormsOfCells>(
-    alloc: Global,
-    forms: &C,
-    whole: Span,
-    args: &[Part],
-    looks: Vec<Cell>,
-    source: &Source,
-    keys: &[Abs],
-    key: &AbsArg,
-    others: &[AbsArg],
-) -> Result<Part, Memory>
-    requires { length keys.now ≡ rows_of source.now }
-    ensures { IfOk result (λ part. part ≡ record {
-      span = whole;
-      looks = looks.items ++ then_cells (record_by (columns_of source.now) keys.now
-          (key.now ∷ others.now)) (cells_picked source.now);
-      outcome = lookup_by whole args.now
-          (source_of (C.forms forms.now) source.now) keys.now (key.now ∷ others.now);
-      reference = None;
-    }) }
-{
-    let [field, sorted @ ..] = others else {
-        return Ok(error_part(whole, looks, ErrorKind::Value));
-    };
-    let rows = source.rows();
-    prove!(keys.len() == rows as usize);
-    match record_at(alloc, source.cols(), keys, key, field, sorted) {
-        Ok(found) => record_part(alloc, forms, whole, looks, source, found),
-        Err(refusal) => refused_part(whole, looks, args, refusal),
-    }
-}
-
-// A call with what is found of a record.
-fn record_part<C: FormsOfCells>(
-    alloc: Global,
-    forms: &C,
-    whole: Span,
-    looks: Vec<Cell>,
-    source: &Source,
-    found: Result<(u32, u32), ErrorKind>,
-) -> Result<Part, Memory>
-    requires { IfOk found (λ place. (place.0 < rows_of source.now)
-        × (place.1 < columns_of source.now)) }
-    ensures { IfOk result (λ part. part ≡ record {
-      span = whole;
-      looks = looks.items ++ cells_picked source.now (record_picked found);
-      outcome = record_from (source_of (C.forms forms.now) source.now) found;
-      reference = None;
-    }) }
-{
-    match found {
-        Ok((row, column)) => {
-            let place = row as usize * source.cols() as usize + column as usize;
-            taken_part(alloc, forms, whole, looks, source, &[place], (1, 1))
-        }
-        Err(kind) => Ok(error_part(whole, looks, kind)),
-    }
 }

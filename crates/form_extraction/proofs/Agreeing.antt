@@ -1,6 +1,6 @@
 -- A formula's form depends on the forms of the cells alone to which it refers, and so the form of a cell is its layer's.
 use Rattle.std.specs.Prelude.{◌≡◌, ◌++◌, is_some, not, ◌&&◌, length, ⊤}
-use Rattle.std.proofs.Common.{refl, sym, ap, ap₂, ◌∙◌, Bool, true, if◌then◌else◌, List, [], ◌∷◌, map, Option, Some, None, ℕ}
+use Rattle.std.proofs.Common.{refl, sym, ap, ap₂, ◌∙◌, Bool, true, if◌then◌else◌, List, [], ◌∷◌, map, Option, Some, None, ℕ, false}
 use Rattle.std.specs.List.{AllByRecursion}
 use Rattle.std.specs.FinMap.{keys, contains_key}
 use Rattle.cell_refs.specs.declared.cell.Cell.{Cell}
@@ -44,7 +44,7 @@ module _ (f g : Cell → Option Abs) where
   forms_alike (c ∷ cells) h = ap₂ both h.0 (forms_alike cells h.1)
 
   pub source_alike : (grid : CellGrid) → AllByRecursion Same grid.cells → of_cells f grid ≡ of_cells g grid
-  source_alike grid h = ap (λ items. record { rows = grid.rows; columns = grid.columns; items = items }) (each_alike f g grid.cells h)
+  source_alike grid h = ap (λ items. record { rows = grid.rows; columns = grid.columns; items = items; is_seen = false }) (each_alike f g grid.cells h)
 
   pub in_alike : (p : Part) (r : Option CellGrid) → OfReference Same r → in_source r f p ≡ in_source r g p
   in_alike p (Some grid) h = λ i k. k (source_alike grid h i)

@@ -1,5 +1,5 @@
 -- VLOOKUP and HLOOKUP over parts of formulas.
-use Rattle.std.specs.Prelude.{◌≡◌, ◌+◌, ◌*◌, slice_get, slice_index_or}
+use Rattle.std.specs.Prelude.{◌≡◌, ◌+◌, ◌*◌, Bool, true, false, if◌then◌else◌, slice_get, slice_index_or}
 use Rattle.std.proofs.Common.{refl, sym, ap, ap₂, ◌∙◌, subst, List, [], ◌∷◌, map, Option, Some, None, Result, Ok, Err, ℕ, zero, suc, arith}
 use Rattle.std.specs.List.{AllByRecursion}
 use Rattle.calculations.specs.Calculation.{Calculation, exact}
@@ -31,13 +31,14 @@ use Rattle.form_values.specs.declared.abs.Abs.TheVariants.{Known}
 use Rattle.form_values.specs.declared.abs.AbsArg.{AbsArg}
 use Rattle.form_table.specs.Wanted.{number_of}
 use Rattle.form_table.specs.Wanted as wanted
+use Rattle.form_table.specs.CertainRecords.{record_error}
 use Rattle.form_table.specs.Lookups.{kinds_in, record_form}
 use Rattle.form_truth.proofs.Fitting.{fits}
-use Rattle.form_extraction.specs.Parts.{Part, on_parts}
+use Rattle.form_extraction.specs.Parts.{Part, on_parts, tried_on}
 use Rattle.form_extraction.specs.declared.forms.Outcome.{Outcome}
 use Rattle.form_extraction.specs.declared.forms.Outcome.TheVariants.{Gives}
-use Rattle.form_extraction.specs.Sources.{Source, of_cells, of_raster, in_turned, on_turned, element, elements_at, taken, key_places, exchanged}
-use Rattle.form_extraction.specs.Calls.{raster, record_from, lookup_by, lookup_outcome}
+use Rattle.form_extraction.specs.Sources.{Source, items_seen, of_cells, of_raster, in_turned, on_turned, element, elements_at, taken, key_places, exchanged}
+use Rattle.form_extraction.specs.Calls.{raster, record_from, unless_error, lookup_by, lookup_outcome}
 use Rattle.form_extraction.specs.Formulas.{part_of, parts_of}
 use Rattle.form_extraction.proofs.Worth.{IsWorth, Agree, PartIsTrue, ArePartsTrue}
 use Rattle.form_extraction.proofs.Parts.{given_first, reference_whole, tried_first}
@@ -46,6 +47,7 @@ use Rattle.form_extraction.proofs.Choices.{error_worth}
 use Rattle.form_extraction.proofs.Picking.{Matches, grid_match, grid_matches, reference_grid, taken_match, raster_worth, on_some, map_map}
 use Rattle.form_extraction.proofs.Indexing.{all_given}
 use Rattle.form_truth.specs.Picks.{read}
+use Rattle.form_truth.proofs.CertainLookups.{AreSeen, certain_record}
 use Rattle.form_truth.proofs.LookupSteps.{looked_up, lookup_steps}
 use Rattle.form_truth.proofs.Records.{record_right}
 
@@ -76,6 +78,14 @@ module _ (x : Assignment) (s : Source) (r : Rectangle) (m : Matches x s r) where
             let q = places_right (places_of s.columns s.rows) i b e in
             (q.0, ap (λ ps. slice_index_or (map value_there ps) i Empty) (ap₂ places_of (sym m.columns) (sym m.rows)) ∙ q.1);
       }
+
+-- the elements that are seen have the values there
+seen_are : (x : Assignment) (s : Source) (r : Rectangle) → Matches x s r → AreSeen x (items_seen s) r.items
+seen_are x s r m = by s.is_seen
+  where
+    by : (b : Bool) → AreSeen x (if b then s.items else []) r.items
+    by true i a e = (m.items i a (ap element e)).1
+    by false i a e = cc
 
 -- ---- lookups in a grid that may be turned
 module _ (turn : Rectangle → Rectangle) where
@@ -138,12 +148,29 @@ module _ (x : Assignment) (forms : Cell → Option Abs) (values : Cell → Value
         → IsWorth x (exact (lookup_value turn (arg_at x key ∷ table ∷ map (arg_at x) args))) a
     by_args whole parts s table m keys column key k [] h a e = error_worth x kind.Value a e
     by_args whole parts s table m keys column key k (c ∷ rest) h a e =
-        let q = tried_first whole parts (record_form s.columns keys (wanted.value_of key) (number_of c) (kinds_in rest)) (record_from s) a e in
-        subst (λ v. IsWorth x v a)
-        (sym (lookup_steps (turn (grid_of table)) (no_error (value_of (arg_at x key))) (place_of (arg_at x c)) (is_sorted (map (arg_at x) rest))
-        ∙ ap₂ (λ v w. exact (on_ok (no_error v) (λ k. on_ok (result_map_both floor_ℚ (λ k. k) (number_in w)) (λ n. on_ok (is_sorted (map (arg_at x) rest)) (λ s. answered (looked_up (turn (grid_of table)) k n s)))))) (value_at x key) (value_at x c)
-        ∙ record_right x (turn (grid_of table)) s.columns m.columns keys column (wanted.value_of key) (wanted.value_of c) rest (number_of c) (fits (wanted.value_of c) (value_sound c h.0)) (kinds_in rest) refl q.value q.is))
-        (from_true s (turn (grid_of table)) m q.value a q.goes)
+        by_certain (record_error s.columns (items_seen s) keys (wanted.value_of key) (number_of c) (kinds_in rest)) refl e
+      where
+        steps : exact (lookup_value turn (arg_at x key ∷ table ∷ map (arg_at x) (c ∷ rest)))
+            ≡ exact (on_ok (no_error (abs_at x (wanted.value_of key))) (λ k. on_ok (result_map_both floor_ℚ (λ k. k) (number_in (abs_at x (wanted.value_of c)))) (λ n. on_ok (is_sorted (map (arg_at x) rest)) (λ s. answered (looked_up (turn (grid_of table)) k n s)))))
+        steps =
+            lookup_steps (turn (grid_of table)) (no_error (value_of (arg_at x key))) (place_of (arg_at x c)) (is_sorted (map (arg_at x) rest))
+            ∙ ap₂ (λ v w. exact (on_ok (no_error v) (λ k. on_ok (result_map_both floor_ℚ (λ k. k) (number_in w)) (λ n. on_ok (is_sorted (map (arg_at x) rest)) (λ s. answered (looked_up (turn (grid_of table)) k n s)))))) (value_at x key) (value_at x c)
+
+        by_certain : (o : Option ErrorKind) → record_error s.columns (items_seen s) keys (wanted.value_of key) (number_of c) (kinds_in rest) ≡ o
+            → unless_error o (tried_on whole parts (record_form s.columns keys (wanted.value_of key) (number_of c) (kinds_in rest)) (record_from s)) ≡ Gives a
+            → IsWorth x (exact (lookup_value turn (arg_at x key ∷ table ∷ map (arg_at x) (c ∷ rest)))) a
+        by_certain (Some k) d e =
+            subst (λ v. IsWorth x v a)
+            (sym (steps
+            ∙ certain_record x (turn (grid_of table)) s.columns m.columns keys column (items_seen s) (seen_are x s (turn (grid_of table)) m) (wanted.value_of key) (wanted.value_of c) rest (number_of c)
+            (fits (wanted.value_of c) (value_sound c h.0)) k d))
+            (error_worth x k a e)
+        by_certain None d e =
+            let q = tried_first whole parts (record_form s.columns keys (wanted.value_of key) (number_of c) (kinds_in rest)) (record_from s) a e in
+            subst (λ v. IsWorth x v a)
+            (sym (steps
+            ∙ record_right x (turn (grid_of table)) s.columns m.columns keys column (wanted.value_of key) (wanted.value_of c) rest (number_of c) (fits (wanted.value_of c) (value_sound c h.0)) (kinds_in rest) refl q.value q.is))
+            (from_true s (turn (grid_of table)) m q.value a q.goes)
 
     pub lookup_true : (whole : Span) (ts : Trees) → ArePartsTrue x forms values ts → (a : AbsArg) → lookup_outcome forms cells turned whole (parts_of forms ts) ≡ Gives a
         → IsWorth x (exact (lookup_value turn (map exact (all_evaluated values ts)))) a

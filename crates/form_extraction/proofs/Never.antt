@@ -32,6 +32,7 @@ use Rattle.affine_forms.specs.declared.rel.Rel.TheVariants as rel
 use Rattle.form_table.specs.Wanted.{value_of, number_of, known_number, single, grid_of}
 use Rattle.form_table.specs.Picks.{pick_form}
 use Rattle.form_table.specs.Certain.{index_error}
+use Rattle.form_table.specs.CertainRecords.{record_error}
 use Rattle.form_table.specs.Lookups.{record_form, kinds_in, known_value, error_of}
 use Rattle.form_table.specs.Criteria.{met_places, sum_of_elements, summed_error_by}
 use Rattle.form_table.specs.Operators.{infix_form, minus_form, percent_form}
@@ -44,7 +45,7 @@ use Rattle.form_extraction.specs.Parts.{Part, tried, tried_on, outcome_by, on_ou
 use Rattle.form_extraction.specs.declared.forms.Outcome.{Outcome}
 use Rattle.form_extraction.specs.declared.forms.Outcome.TheVariants.{Gives, Refused, Without}
 use Rattle.form_extraction.specs.Deciding.{is_known_error, place_in}
-use Rattle.form_extraction.specs.Sources.{Source, of_cells, of_raster, in_source, on_source, in_turned, on_turned, element, elements_at, on_elements, taken, part_places, exchanged}
+use Rattle.form_extraction.specs.Sources.{Source, items_seen, of_cells, of_raster, in_source, on_source, in_turned, on_turned, element, elements_at, on_elements, taken, part_places, exchanged}
 use Rattle.form_extraction.specs.Calls.{chosen_or, on_branch, both_branches, by_test, by_error, is_no_argument, by_place, fails, raster, picked_from, picked_at, record_from, lookup_by, lookup_outcome, unless_error, seen_before, sum_at, sum_over, sumif_outcome, size_of, call_outcome}
 use Rattle.form_extraction.specs.Formulas.{part_of, parts_of, of_forms}
 use Rattle.form_extraction.specs.Laws.{CircularWhereCircle}
@@ -186,7 +187,9 @@ module _ (forms : Cell → Option Abs) (total : (c : Cell) → (b : Abs) × (for
   lookup_never s ps src h keys [] e = gives_never _ e
   lookup_never s ps src h keys (k ∷ []) e = gives_never _ e
   lookup_never s ps src h keys (k ∷ c ∷ rest) e =
-      trial_never s ps (record_form src.columns keys (value_of k) (number_of c) (kinds_in rest)) (record_from src) (λ r. record_never src h r) e
+      unless_never (record_error src.columns (items_seen src) keys (value_of k) (number_of c) (kinds_in rest))
+      (tried_on s ps (record_form src.columns keys (value_of k) (number_of c) (kinds_in rest)) (record_from src))
+      (trial_never s ps (record_form src.columns keys (value_of k) (number_of c) (kinds_in rest)) (record_from src) (λ r. record_never src h r)) e
 
   lookups_never : (s : Span) (cells : CellGrid → CellGrid) (turned : Source → Source) → ((s : Source) → IsTotal s → IsTotal (turned s)) → (ps : List Part) → HaveForms ps
       → Never (lookup_outcome forms cells turned s ps)

@@ -40,6 +40,7 @@ use Rattle.form_table.specs.Wanted.{value_of, number_of, grid_of}
 use Rattle.form_table.specs.Items.{item_at, form_in, first_error}
 use Rattle.form_table.specs.Picks.{pick_form}
 use Rattle.form_table.specs.Certain.{index_error}
+use Rattle.form_table.specs.CertainRecords.{record_error}
 use Rattle.form_table.specs.Lookups.{record_form, kinds_in, known_value, error_of}
 use Rattle.form_table.specs.Criteria.{met_places, sum_of_elements, summed_error_by}
 use Rattle.form_table.specs.Products.{or_fault}
@@ -54,7 +55,7 @@ use Rattle.form_extraction.specs.declared.forms.Why.TheVariants as why
 use Rattle.form_extraction.specs.Parts.{Part, span_at, outcome_by, on_part, on_parts, tried_on}
 use Rattle.form_extraction.specs.declared.forms.Outcome.{Outcome}
 use Rattle.form_extraction.specs.declared.forms.Outcome.TheVariants.{Gives, Refused}
-use Rattle.form_extraction.specs.Sources.{Source, of_cells, of_raster, element, elements_at, on_source, in_turned, on_turned, taken, part_places, key_places}
+use Rattle.form_extraction.specs.Sources.{Source, items_seen, of_cells, of_raster, element, elements_at, on_source, in_turned, on_turned, taken, part_places, key_places}
 use Rattle.form_extraction.specs.Calls.{fails, raster, picked_from, picked_at, index_outcome, record_from, lookup_by, lookup_outcome, unless_error, seen_before, sum_at, sum_over, sumif_outcome, size_of}
 use Rattle.form_extraction.specs.Formulas.{part_of, parts_of}
 use Rattle.form_extraction.specs.Refuted.{IsPart, in_call, IsAmong, first, later, IsRefuted}
@@ -308,7 +309,12 @@ module _ (forms : Cell → Option Abs) (values : Assignment → Cell → Value) 
           → IsRefuted values (tree.Call s name all) at cause
       lookup_own [] p q at cause e = absurd (gives_never _ at cause e)
       lookup_own (c ∷ rest) p q at cause e =
-          record_own c rest p q.0 q.1 at cause (tried_own s parts (record_form g.columns keys (value_of a) (number_of c) (kinds_in rest)) (record_from g) at cause e)
+          by_certain (record_error g.columns (items_seen g) keys (value_of a) (number_of c) (kinds_in rest)) e
+        where
+          by_certain : (o : Option ErrorKind) → unless_error o (tried_on s parts (record_form g.columns keys (value_of a) (number_of c) (kinds_in rest)) (record_from g)) ≡ Refused at cause
+              → IsRefuted values (tree.Call s name all) at cause
+          by_certain (Some n) e = absurd (gives_never _ at cause e)
+          by_certain None e = record_own c rest p q.0 q.1 at cause (tried_own s parts (record_form g.columns keys (value_of a) (number_of c) (kinds_in rest)) (record_from g) at cause e)
 
     abbrev by_keys : AbsArg → Source → List Abs → Outcome
     by_keys a g keys = on_parts (parts_of forms ts) (λ args. lookup_by s parts g keys (a ∷ args))

@@ -24,6 +24,7 @@ use Rattle.form_values.specs.declared.abs.AbsArg.TheVariants.{One, Area}
 use Rattle.form_table.specs.Wanted.{value_of, number_of, known_number, single, grid_of}
 use Rattle.form_table.specs.Choosing.{if_test}
 use Rattle.form_table.specs.Certain.{is_no_choice, index_error}
+use Rattle.form_table.specs.CertainRecords.{record_error}
 use Rattle.form_table.specs.Picks.{pick_form}
 use Rattle.form_table.specs.Lookups.{record_form, kinds_in, known_value, error_of}
 use Rattle.form_table.specs.Criteria.{met_places, sum_of_elements, summed_error_by}
@@ -33,7 +34,7 @@ use Rattle.form_extraction.specs.declared.forms.Outcome.{Outcome}
 use Rattle.form_extraction.specs.declared.forms.Outcome.TheVariants.{Gives, Refused}
 use Rattle.form_extraction.specs.declared.forms.Why.TheVariants as why
 use Rattle.form_extraction.specs.Deciding.{is_known_error, place_in}
-use Rattle.form_extraction.specs.Sources.{Source, on_source, on_turned, taken, part_places, key_places, exchanged}
+use Rattle.form_extraction.specs.Sources.{Source, items_seen, on_source, on_turned, taken, part_places, key_places, exchanged}
 
 -- an error as the value
 abbrev pub fails : ErrorKind → Outcome
@@ -124,10 +125,11 @@ abbrev pub record_from : Source → Result (ℕ × ℕ) ErrorKind → Outcome
 record_from s (Ok place) = taken s ((place.0 * s.columns + place.1) ∷ []) (λ items. Gives (raster 1 1 items))
 record_from s (Err k) = fails k
 
--- the key, the keys, the field, and whether the keys are sorted
+-- the key, the keys, the field, and whether the keys are sorted; among the elements that are seen an error may be certain
 abbrev pub lookup_by : Span → List Part → Source → List Abs → List AbsArg → Outcome
 lookup_by whole parts s keys (key ∷ field ∷ rest) =
-    tried_on whole parts (record_form s.columns keys (value_of key) (number_of field) (kinds_in rest)) (record_from s)
+    unless_error (record_error s.columns (items_seen s) keys (value_of key) (number_of field) (kinds_in rest))
+    (tried_on whole parts (record_form s.columns keys (value_of key) (number_of field) (kinds_in rest)) (record_from s))
 lookup_by whole parts s keys _ = fails kind.Value
 
 abbrev pub lookup_outcome : (Cell → Option Abs) → (CellGrid → CellGrid) → (Source → Source) → Span → List Part → Outcome

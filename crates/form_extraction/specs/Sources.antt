@@ -1,6 +1,6 @@
 -- The grids from which a function picks: the cells of a reference, at which it looks where they are picked, or the elements of
 -- another argument.
-use Rattle.std.specs.Prelude.{ℕ, ◌+◌, ◌*◌, List, [], ◌∷◌, map, flat_map, slice_get, Option, Some, None}
+use Rattle.std.specs.Prelude.{ℕ, ◌+◌, ◌*◌, Bool, true, false, if◌then◌else◌, List, [], ◌∷◌, map, flat_map, slice_get, Option, Some, None}
 use Rattle.cell_refs.specs.declared.cell.Cell.{Cell}
 use Rattle.sheet_funcs.specs.Arguments.{below}
 use Rattle.sheet_funcs.specs.Picks.{from_to}
@@ -16,17 +16,22 @@ use Rattle.form_extraction.specs.Parts.{Part, on_part}
 use Rattle.form_extraction.specs.declared.forms.Outcome.{Outcome}
 use Rattle.form_extraction.specs.declared.forms.Outcome.TheVariants.{Without}
 
--- rows and columns of elements, none where a cell has no form
+-- rows and columns of elements, none where a cell has no form; and whether they are looked at before it is known which are picked
 pub record Source : Type 0 where
   pub rows : ℕ
   pub columns : ℕ
   pub items : List (Option Abs)
+  pub is_seen : Bool
 
 abbrev pub of_cells : (Cell → Option Abs) → CellGrid → Source
-of_cells forms g = record { rows = g.rows; columns = g.columns; items = map forms g.cells }
+of_cells forms g = record { rows = g.rows; columns = g.columns; items = map forms g.cells; is_seen = false }
 
 abbrev pub of_raster : Raster → Source
-of_raster g = record { rows = g.rows; columns = g.columns; items = map Some g.items }
+of_raster g = record { rows = g.rows; columns = g.columns; items = map Some g.items; is_seen = true }
+
+-- the elements that are seen then
+abbrev pub items_seen : Source → List (Option Abs)
+items_seen s = if s.is_seen then s.items else []
 
 abbrev pub in_source : Option CellGrid → (Cell → Option Abs) → Part → (Source → Outcome) → Outcome
 in_source (Some g) forms p f = f (of_cells forms g)
@@ -70,4 +75,4 @@ key_places s = map (λ row. row * s.columns) (below s.rows)
 -- rows and columns exchanged
 abbrev pub exchanged : Source → Source
 exchanged s =
-    record { rows = s.columns; columns = s.rows; items = map (λ (p : ℕ × ℕ). element (slice_get s.items (p.1 * s.columns + p.0))) (places_of s.columns s.rows) }
+    record { rows = s.columns; columns = s.rows; items = map (λ (p : ℕ × ℕ). element (slice_get s.items (p.1 * s.columns + p.0))) (places_of s.columns s.rows); is_seen = s.is_seen }

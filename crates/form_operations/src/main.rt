@@ -17,7 +17,7 @@ mod summed;
 use crate::called::{answer_to_call, answer_to_copy};
 use crate::forms::form_made;
 use crate::given::arguments;
-use crate::picked::{column_found, error_picked, index_picked, match_picked};
+use crate::picked::{column_found, error_found, error_picked, index_picked, match_picked};
 use crate::shown::{refusal_text, show_argument};
 use crate::stop::Stop;
 use std::alloc::{AllocError, Global};
@@ -55,6 +55,7 @@ fn answer(alloc: Global, line: &str) -> Result<String, Stop> {
         "error" => error_picked(alloc, rest),
         "match" => match_picked(alloc, rest),
         "vlookup" => column_found(alloc, rest),
+        "found-error" => error_found(alloc, rest),
         "copy" | "values" | "known" => answer_to_copy(alloc, name, rest),
         _ => answer_of_call(alloc, name, rest),
     }

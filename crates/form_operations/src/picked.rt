@@ -2,7 +2,8 @@
 
 use crate::given::{arguments, size_in, whole};
 use crate::stop::Stop;
-use form_areas::{index_at, index_error, lookup_at, record_at, size_of};
+use form_areas::{index_at, index_error, lookup_at, record_at, record_error, size_of};
+use form_values::{Abs, AbsArg};
 use sheet_funcs::Pick;
 use std::alloc::Global;
 
@@ -69,4 +70,34 @@ pub(crate) fn column_found(alloc: Global, rest: &str) -> Result<String, Stop> {
         Ok((record, field)) => Ok(format!(in alloc; "{record},{field}")?),
         Err(kind) => Ok(String::from_str(alloc, kind.text())?),
     }
+}
+
+/// The error that VLOOKUP certainly finds in a table whose elements are seen, if there is such a one: behind the key stand the table, the
+/// field and, where it is said, whether the keys are sorted.
+pub(crate) fn error_found(alloc: Global, rest: &str) -> Result<String, Stop> {
+    let args = arguments(alloc, rest)?;
+    let [key, table, field, sorted @ ..] = args.as_slice() else {
+        return Err(Stop::Unread);
+    };
+    let fields = size_of(table).1;
+    let keys = first_column(alloc, table)?;
+    if keys.len() > 9 {
+        return Err(Stop::Unread);
+    }
+    match record_error(fields, table.elements(), &keys, key, field, sorted) {
+        Some(kind) => Ok(String::from_str(alloc, kind.text())?),
+        None => Ok(String::from_str(alloc, "none")?),
+    }
+}
+
+// The first element of each row.
+fn first_column(alloc: Global, table: &AbsArg) -> Result<Vec<Abs>, Stop> {
+    let (rows, columns) = size_of(table);
+    let mut keys = Vec::new(alloc);
+    for row in 0..rows {
+        if let Some(item) = table.elements().get(row as usize * columns as usize) {
+            keys.push(item.copy(alloc)?)?;
+        }
+    }
+    Ok(keys)
 }

@@ -5,6 +5,7 @@ use Rattle.fractions.specs.Floor.{floor_ℚ}
 use Rattle.fractions.specs.Power.{power_ℚ}
 use Rattle.frac128.specs.Narrow.{is_narrow, is_narrow_sum}
 use Rattle.form_table.specs.CertainExamples.{index_errors, no_choices}
+use Rattle.form_table.specs.CertainRecordExamples.{record_errors}
 use Rattle.form_table.specs.Examples.{Hold, operators, choices, functions, picks, records, choose, certain}
 
 pub operators_hold : Hold operators
@@ -42,3 +43,7 @@ no_choices_hold = (refl, (refl, (refl, (refl, (refl, (refl, tt))))))
 pub index_errors_hold : Hold index_errors
 unfolding computed eq_ℚ is_narrow is_narrow_sum floor_ℚ power_ℚ
 index_errors_hold = (refl, (refl, (refl, (refl, (refl, (refl, (refl, (refl, (refl, (refl, (refl, (refl, (refl, tt)))))))))))))
+
+pub record_errors_hold : Hold record_errors
+unfolding computed eq_ℚ is_narrow is_narrow_sum floor_ℚ power_ℚ
+record_errors_hold = (refl, (refl, (refl, (refl, (refl, (refl, (refl, (refl, (refl, (refl, (refl, (refl, (refl, (refl, (refl, (refl, (refl, (refl, (refl, (refl, (refl, (refl, (refl, tt)))))))))))))))))))))))

@@ -9,6 +9,8 @@ pub mod Picks
 pub mod Lookups
 pub mod Criteria
 pub mod Certain
+pub mod CertainRecords
 pub mod Table
 pub mod Examples
 pub mod CertainExamples
+pub mod CertainRecordExamples

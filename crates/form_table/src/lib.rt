@@ -3,6 +3,7 @@
 #![tactic(auto)]
 
 ghost use Rattle.form_table.specs.CertainExamples.{index_errors, no_choices};
+ghost use Rattle.form_table.specs.CertainRecordExamples.{record_errors};
 ghost use Rattle.form_table.specs.Examples.{Hold, certain, choices, choose, functions, operators, picks, records};
 
 /// What the rows make of some values.
@@ -16,4 +17,5 @@ pub fn examples_hold()
     ensures certain { Hold certain }
     ensures no_choices { Hold no_choices }
     ensures index_errors { Hold index_errors }
+    ensures record_errors { Hold record_errors }
 {}

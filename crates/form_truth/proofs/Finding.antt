@@ -50,10 +50,10 @@ first_at : (x : Assignment) (g : Raster) (ns : List ℕ) → map (λ row. functi
 first_at x g [] = refl
 first_at x g (n ∷ ns) = ap₂ (λ v vs. v ∷ vs) (element_is x g n 0) (first_at x g ns)
 
-column_is : (x : Assignment) (table : AbsArg) → column_of (functions.grid_of (arg_at x table)) 0 ≡ map (abs_at x) (first_column (grid_of table))
+pub column_is : (x : Assignment) (table : AbsArg) → column_of (functions.grid_of (arg_at x table)) 0 ≡ map (abs_at x) (first_column (grid_of table))
 column_is x table = ap (λ g. column_of g 0) (grid_is x table) ∙ first_at x (grid_of table) (below (grid_of table).rows)
 
-columns_are : (x : Assignment) (table : AbsArg) → (grid_of table).columns ≡ (functions.grid_of (arg_at x table)).columns
+pub columns_are : (x : Assignment) (table : AbsArg) → (grid_of table).columns ≡ (functions.grid_of (arg_at x table)).columns
 columns_are x (One a) = refl
 columns_are x (Area g) = refl
 
@@ -226,7 +226,7 @@ lookup_is_right key table column rest = right key table column rest (arg_sound k
 same_area : (g h : Rectangle) → arg.Area g ≡ arg.Area h → g ≡ h
 same_area g h e = cc
 
-exchanged_is : (x : Assignment) (table : AbsArg) → IsSound table → products.transposed (functions.grid_of (arg_at x table)) ≡ grid_at x (transposed (grid_of table))
+pub exchanged_is : (x : Assignment) (table : AbsArg) → IsSound table → products.transposed (functions.grid_of (arg_at x table)) ≡ grid_at x (transposed (grid_of table))
 exchanged_is x table i = same_area _ _ (transpose_right table i x)
 
 module _ (key table row : AbsArg) (rest : List AbsArg) (i : IsSound table) where

@@ -46,3 +46,5 @@ pub mod Chosen
 pub mod LookupSteps
 pub mod CertainSums
 pub mod CertainPicks
+pub mod CertainRecords
+pub mod CertainLookups

@@ -48,7 +48,7 @@ module _ (x : Assignment) where
   some_place b (form f) (is_form g i u d) n = (floor_ℚ (worth x g), ap (result_map_both floor_ℚ (λ k. k)) (d x))
   some_place b open_test (is_open d v) n = (floor_ℚ (d x).0, ap (result_map_both floor_ℚ (λ k. k)) (d x).1)
 
-  place_known : (b : Abs) (w : Wanted) → Fits b w → (y : ℚ) → known_number w ≡ Some y → place b ≡ Ok (floor_ℚ y)
+  pub place_known : (b : Abs) (w : Wanted) → Fits b w → (y : ℚ) → known_number w ≡ Some y → place b ≡ Ok (floor_ℚ y)
   place_known b (no_number k) (is_error l d) y e = cc
   place_known b (form f) (is_form g i u d) y e = ap (result_map_both floor_ℚ (λ k. k)) (d x) ∙ ap (λ w. Ok (floor_ℚ w)) (constant_is g y e x)
   place_known b open_test (is_open d v) y e = cc
@@ -87,7 +87,7 @@ module _ (x : Assignment) where
   kinds_fail (Affine f) k e = cc
   kinds_fail (Test f r) k e = cc
 
-  sorted_right : (rest : List AbsArg) (kinds : List MatchKind) → kinds_in rest ≡ Ok kinds → Sorted rest kinds
+  pub sorted_right : (rest : List AbsArg) (kinds : List MatchKind) → kinds_in rest ≡ Ok kinds → Sorted rest kinds
   sorted_right [] kinds e = let q : Rising ∷ [] ≡ kinds = cc in record { answer = true; is = refl; among = subst (Among true) q alone }
   sorted_right (a ∷ rest) kinds e =
       let r = kinds_right (wanted.value_of a) kinds e in

@@ -34,6 +34,7 @@ use Rattle.form_table.specs.Wanted as open_values
 use Rattle.form_table.specs.Wanted.{value_of, grid_of}
 use Rattle.form_table.specs.Choosing.{choice_at, choose_form}
 use Rattle.form_table.specs.Certain.{is_no_choice, index_error}
+use Rattle.form_table.specs.CertainRecords.{record_error}
 use Rattle.form_table.specs.Criteria.{places_from, met_places, summed_error}
 use Rattle.form_table.specs.Lookups.{lookup_pick_form, record_form, kinds_in}
 use Rattle.form_table.specs.Products.{at, transposed}
@@ -90,6 +91,19 @@ abbrev pub AcrossIsRight : Type 0
 AcrossIsRight =
     (key table row : AbsArg) (rest : List AbsArg) → IsRecord (λ x. exact (hlookup_of (map (arg_at x) (key ∷ table ∷ row ∷ rest)))) (λ x. products.transposed (functions.grid_of (arg_at x table))) (key ∷ table ∷ row ∷ rest)
     (exact (record_form (transposed (grid_of table)).columns (first_column (transposed (grid_of table))) (value_of key) (open_values.number_of row) (kinds_in rest)))
+
+-- the error that they certainly find in a table with these elements is their value
+abbrev pub CertainIsFound : Type 0
+CertainIsFound =
+    (x : Assignment) (key table column : AbsArg) (rest : List AbsArg) (k : ErrorKind)
+    → record_error (grid_of table).columns (map Some (grid_of table).items) (first_column (grid_of table)) (value_of key) (open_values.number_of column) (kinds_in rest) ≡ Some k
+    → exact (vlookup_of (map (arg_at x) (key ∷ table ∷ column ∷ rest))) ≡ One (Error k)
+
+abbrev pub CertainIsFoundAcross : Type 0
+CertainIsFoundAcross =
+    (x : Assignment) (key table row : AbsArg) (rest : List AbsArg) (k : ErrorKind)
+    → record_error (transposed (grid_of table)).columns (map Some (transposed (grid_of table)).items) (first_column (transposed (grid_of table))) (value_of key) (open_values.number_of row) (kinds_in rest) ≡ Some k
+    → exact (hlookup_of (map (arg_at x) (key ∷ table ∷ row ∷ rest))) ≡ One (Error k)
 
 -- ---- SUMIF: the places of the elements that meet the criterion; the tested grid is its first argument
 abbrev pub PlacesAreRight : Type 0

@@ -2,7 +2,7 @@
 ghost use Rattle.formula_ast.specs.declared.func.Func.TheVariants as func;
 ghost use Rattle.form_truth.specs.Laws.{CallIsRight, SummedIsRight};
 ghost use Rattle.form_truth.specs.Table.{TableIsRight};
-ghost use Rattle.form_truth.specs.Picks.{AcrossIsRight, CertainIsPicked, CertainIsSummed, FoundIsRight, IndexIsRight, LookupIsRight, PlacesAreRight};
+ghost use Rattle.form_truth.specs.Picks.{AcrossIsRight, CertainIsFound, CertainIsFoundAcross, CertainIsPicked, CertainIsSummed, FoundIsRight, IndexIsRight, LookupIsRight, PlacesAreRight};
 ghost use Rattle.form_truth.specs.Products.{MatrixProductIsRight, SumProductIsRight};
 
 /// All operators, and all functions but the seven that look at one argument after the other or pick from a reference: what is given is
@@ -62,7 +62,7 @@ pub fn products_are_right()
 {}
 
 /// MATCH and COUNTIF; what MATCH finds of a key, keys and a kind; which part of a grid INDEX picks, and the error that it certainly
-/// picks; and which record and field VLOOKUP and HLOOKUP find.
+/// picks; and which record and field VLOOKUP and HLOOKUP find, and the error that they certainly find.
 pub fn searches_are_right()
     ensures place { CallIsRight func.Match }
     ensures how_many { CallIsRight func.CountIf }
@@ -71,4 +71,6 @@ pub fn searches_are_right()
     ensures certain { CertainIsPicked }
     ensures down { LookupIsRight }
     ensures across { AcrossIsRight }
+    ensures certain_down { CertainIsFound }
+    ensures certain_across { CertainIsFoundAcross }
 {}
