@@ -11,7 +11,7 @@ use Rattle.form_needs.specs.declared.refusal.FormRefusal.TheVariants as form
 use Rattle.commands.specs.declared.answer.Answer.TheVariants as answer
 use Rattle.commands.specs.declared.answer.Answer.{Answer}
 use Rattle.commands.specs.Addresses.{Address, marked_address}
-use Rattle.commands.specs.Commands.{Budget, Model, Name, Save, Set, Show, Unknown, Unname, command_of}
+use Rattle.commands.specs.Commands.{Begin, Budget, Model, Name, Save, Set, Show, Slice, Stop, Unknown, Unname, command_of}
 use Rattle.commands.specs.Lines.{answer_text}
 use Rattle.commands.specs.Refusals.{pivot_text}
 use Rattle.commands.specs.Locating.{cell_named, sheet_or_book, units_named}
@@ -38,6 +38,18 @@ a_name = refl
 
 a_removed_name : command_of (codes "unname" ∷ [] ∷ codes "rate" ∷ []) ≡ Unname [] (codes "rate")
 a_removed_name = refl
+
+a_begin : command_of (codes "begin" ∷ codes "plan" ∷ []) ≡ Begin (codes "plan")
+a_begin = refl
+
+a_slice : command_of (codes "slice" ∷ codes "plan" ∷ codes "20" ∷ []) ≡ Slice (codes "plan") (codes "20")
+a_slice = refl
+
+a_slice_of_no_number : command_of (codes "slice" ∷ codes "plan" ∷ []) ≡ Unknown
+a_slice_of_no_number = refl
+
+a_stop : command_of (codes "stop" ∷ codes "plan" ∷ []) ≡ Stop (codes "plan")
+a_stop = refl
 
 a_budget : command_of (codes "budget" ∷ codes "1000" ∷ []) ≡ Budget (codes "1000")
 a_budget = refl
@@ -129,6 +141,22 @@ no_digits = refl
 -- ---- lines
 no_objective : answer_text [] (answer.Optimal None) ≡ codes "optimal\n"
 no_objective = refl
+
+a_search : answer_text [] answer.Begun ≡ codes "begun\n"
+a_search = refl
+
+units_so_far : answer_text [] (answer.More 12) ≡ codes "more 12\n"
+unfolding digits
+units_so_far = refl
+
+a_closed_search : answer_text [] answer.Stopped ≡ codes "stopped\n"
+a_closed_search = refl
+
+no_search : answer_text [] answer.NoSearch ≡ codes "refused no-search\n"
+no_search = refl
+
+a_ninth_search : answer_text [] answer.TooManySearches ≡ codes "refused too-many-searches\n"
+a_ninth_search = refl
 
 a_text : answer_text [] (answer.Shown (value.Text (codes "a\"b"))) ≡ codes "text \"a\"\"b\"\n"
 a_text = refl

@@ -12,6 +12,9 @@ pub data Spoken : Type 0 where
   Show : (address : List ℕ) → Spoken
   Model : (sheet : List ℕ) → Spoken
   Solve : (sheet : List ℕ) → Spoken
+  Begin : (sheet : List ℕ) → Spoken
+  Slice : (sheet units : List ℕ) → Spoken
+  Stop : (sheet : List ℕ) → Spoken
   Budget : (units : List ℕ) → Spoken
   Save : Spoken
   Unknown : Spoken
@@ -24,10 +27,10 @@ abbrev pub with_none : List (Text × Spoken)
 with_none = (codes "save", Save) ∷ []
 
 abbrev pub with_one : List (Text × (Text → Spoken))
-with_one = (codes "clear", Clear) ∷ (codes "show", Show) ∷ (codes "model", Model) ∷ (codes "solve", Solve) ∷ (codes "budget", Budget) ∷ []
+with_one = (codes "clear", Clear) ∷ (codes "show", Show) ∷ (codes "model", Model) ∷ (codes "solve", Solve) ∷ (codes "begin", Begin) ∷ (codes "stop", Stop) ∷ (codes "budget", Budget) ∷ []
 
 abbrev pub with_two : List (Text × (Text → Text → Spoken))
-with_two = (codes "set", Set) ∷ (codes "unname", Unname) ∷ []
+with_two = (codes "set", Set) ∷ (codes "unname", Unname) ∷ (codes "slice", Slice) ∷ []
 
 abbrev pub with_three : List (Text × (Text → Text → Text → Spoken))
 with_three = (codes "name", Name) ∷ []
@@ -60,6 +63,9 @@ spoken (command.Unname sheet name) = Unname (string_bytes sheet) (string_bytes n
 spoken (command.Show address) = Show (string_bytes address)
 spoken (command.Model sheet) = Model (string_bytes sheet)
 spoken (command.Solve sheet) = Solve (string_bytes sheet)
+spoken (command.Begin sheet) = Begin (string_bytes sheet)
+spoken (command.Slice sheet units) = Slice (string_bytes sheet) (string_bytes units)
+spoken (command.Stop sheet) = Stop (string_bytes sheet)
 spoken (command.Budget units) = Budget (string_bytes units)
 spoken command.Save = Save
 spoken command.Unknown = Unknown

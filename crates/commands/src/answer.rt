@@ -30,6 +30,12 @@ pub enum Answer {
     Infeasible,
     /// There is no best value.
     Unbounded,
+    /// A search is opened.
+    Begun,
+    /// A search goes further, and has spent so many units in all.
+    More(u64),
+    /// A search is closed.
+    Stopped,
     /// The files that have changed, in the order in which they are written.
     ToSave(Vec<SaveFile>),
     UnknownCommand,
@@ -44,6 +50,10 @@ pub enum Answer {
     TooManyNames,
     /// A number in the calculation of this cell does not fit 128 bits.
     WideCell(Cell),
+    /// The sheet has no open search.
+    NoSearch,
+    /// As many other sheets as may have an open search.
+    TooManySearches,
     /// The first fault in the names of the sheet.
     Names(NamesFault),
     /// The first reason, after its names, why the sheet has no linear model.
@@ -68,6 +78,7 @@ impl Answer {
         match self {
             Answer::Done | Answer::Shown(_) | Answer::Model(_) => false,
             Answer::Optimal(_) | Answer::Infeasible | Answer::Unbounded => false,
+            Answer::Begun | Answer::More(_) | Answer::Stopped => false,
             Answer::ToSave(_) => false,
             _ => true,
         }

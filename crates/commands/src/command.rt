@@ -21,7 +21,13 @@ pub enum Command {
     Model(String),
     /// The name of the sheet that is solved.
     Solve(String),
-    /// How many units a later search may spend.
+    /// The name of the sheet of which a search is opened.
+    Begin(String),
+    /// The name of a sheet with an open search, and how many units of it are asked for.
+    Slice(String, String),
+    /// The name of the sheet whose search is closed.
+    Stop(String),
+    /// How many units a search may spend from now on.
     Budget(String),
     Save,
     Unknown,
@@ -78,6 +84,12 @@ impl Command {
         if word == "solve" {
             return Ok(Command::Solve(String::from_str(alloc, text)?));
         }
+        if word == "begin" {
+            return Ok(Command::Begin(String::from_str(alloc, text)?));
+        }
+        if word == "stop" {
+            return Ok(Command::Stop(String::from_str(alloc, text)?));
+        }
         if word == "budget" {
             return Ok(Command::Budget(String::from_str(alloc, text)?));
         }
@@ -100,6 +112,11 @@ impl Command {
             let first = String::from_str(alloc, first)?;
             let second = String::from_str(alloc, second)?;
             return Ok(Command::Unname(first, second));
+        }
+        if word == "slice" {
+            let first = String::from_str(alloc, first)?;
+            let second = String::from_str(alloc, second)?;
+            return Ok(Command::Slice(first, second));
         }
         Ok(Command::Unknown)
     }

@@ -1,5 +1,9 @@
 pub mod Wide
 pub mod Said
 pub mod Ends
+pub mod Cuts
 pub mod Naming
 pub mod Changed
+pub mod Apart
+pub mod Counting
+mod Examples

@@ -1,8 +1,10 @@
 -- What stands after want of memory, which comes only where memory was taken.
-use Rattle.std.specs.Prelude.{◌≡◌, ◌≢◌, [], IsSome, Result, Ok, Err}
+use Rattle.std.specs.Prelude.{◌≡◌, ◌≢◌, ◌⊎◌, [], IsSome, Result, Ok, Err}
 use Rattle.cell_refs.specs.Names.{place_in}
-use Rattle.commands.specs.Commands.{Spoken, Set, Clear, Name, Unname, Show, Model, Solve, Budget, Save, Unknown}
+use Rattle.commands.specs.Commands.{Spoken, Set, Clear, Name, Unname, Show, Model, Solve, Begin, Slice, Stop, Budget, Save, Unknown}
 use Rattle.commands.specs.Locating.{cell_named}
+use Rattle.node_pick.specs.Rules.{Rule}
+use Rattle.session.specs.Cuts.{Cut, IsUnderWay, cut_of, sheet_to_begin}
 use Rattle.session.specs.Edits.{cell_to_set, home_to_name, home_to_unname}
 use Rattle.session.specs.Saves.{files_to_save}
 use Rattle.session.specs.States.{SessionState}
@@ -13,8 +15,8 @@ IsAllowed (Ok x) = Unit {0}
 IsAllowed (Err e) = ⊥
 
 -- the command is none that is refused before any memory is taken, and none that takes no memory: a text is put where it may be and isn't
--- empty, a name is given or removed where it may be, the cell to be shown or the sheet to be modelled is there, or there is a file to be
--- saved
+-- empty, a name is given or removed where it may be, the cell to be shown or the sheet to be modelled is there, a search may be opened, one
+-- is open that is to go on, or there is a file to be saved
 abbrev pub TakesMemory : SessionState → Spoken → Type 0
 TakesMemory s (Set address text) = IsAllowed (cell_to_set s.book address text) × (text ≢ [])
 TakesMemory s (Clear address) = ⊥
@@ -23,10 +25,19 @@ TakesMemory s (Unname sheet name) = IsAllowed (home_to_unname s.book sheet name)
 TakesMemory s (Show address) = IsAllowed (cell_named s.book.sheets address)
 TakesMemory s (Model sheet) = IsSome (place_in s.book.sheets sheet)
 TakesMemory s (Solve sheet) = IsSome (place_in s.book.sheets sheet)
+TakesMemory s (Begin sheet) = IsAllowed (sheet_to_begin s sheet)
+TakesMemory s (Slice sheet units) = IsAllowed (cut_of s sheet units)
+TakesMemory s (Stop sheet) = ⊥
 TakesMemory s (Budget units) = ⊥
 TakesMemory s Save = files_to_save s ≢ []
 TakesMemory s Unknown = ⊥
 
 -- the session is as it was before the command
-abbrev pub IsInterrupted : SessionState → Spoken → SessionState → Type 0
-IsInterrupted before command after = TakesMemory before command × (after ≡ before)
+abbrev pub IsUntouched : SessionState → Spoken → SessionState → Type 0
+IsUntouched before command after = TakesMemory before command × (after ≡ before)
+
+-- the same, but that a slice may have spent units of its search
+abbrev pub IsInterrupted : Rule → SessionState → Spoken → SessionState → Type 0
+IsInterrupted rule before (Slice sheet units) after =
+    IsUntouched before (Slice sheet units) after ⊎ ((c : Cut) × (cut_of before sheet units ≡ Ok c) × IsUnderWay rule before c after)
+IsInterrupted rule before command after = IsUntouched before command after

@@ -2,6 +2,9 @@ pub mod States
 pub mod Edits
 pub mod Models
 pub mod Solves
+pub mod Cuts
 pub mod Saves
 pub mod Steps
 pub mod Interrupted
+pub mod Inner
+pub mod Laws

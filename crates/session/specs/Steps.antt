@@ -9,12 +9,13 @@ use Rattle.workbook.specs.Kinds.{book_of}
 use Rattle.workbook.specs.Naming.{after_name, after_unname}
 use Rattle.commands.specs.declared.answer.Answer.{Answer}
 use Rattle.commands.specs.declared.answer.Answer.TheVariants as answer
-use Rattle.commands.specs.Commands.{Spoken, Set, Clear, Name, Unname, Show, Model, Solve, Budget, Save, Unknown}
+use Rattle.commands.specs.Commands.{Spoken, Set, Clear, Name, Unname, Show, Model, Solve, Begin, Slice, Stop, Budget, Save, Unknown}
 use Rattle.commands.specs.Locating.{cell_named, sheet_named, units_named}
 use Rattle.session.specs.Edits.{cell_to_set, home_to_name, home_to_unname}
 use Rattle.session.specs.Models.{Models}
 use Rattle.session.specs.Saves.{Saves}
-use Rattle.session.specs.Solves.{SolvesSheet}
+use Rattle.session.specs.Cuts.{Begins, Cut, Slices, Stops, cut_of, sheet_to_begin, sheet_to_stop}
+use Rattle.session.specs.Solves.{SolvesSheet, WithModel}
 use Rattle.session.specs.States.{SessionState, with_book, with_budget, with_changed, with_names_changed, with_none_changed}
 
 -- what is done with what a record names; where it is refused, that is answered and nothing has changed
@@ -50,7 +51,7 @@ abbrev pub ModelsSheet : SessionState → ℕ → Answer → SessionState → Ty
 ModelsSheet before sheet a after = Models before.book sheet a × (after ≡ before)
 
 -- ---- all commands
--- a solve opens the nodes of its search by the rule of the picker that it is lent
+-- a solve and a slice open the nodes of their searches by the rule of the picker that they are lent
 abbrev pub Applies : Rule → SessionState → Spoken → Answer → SessionState → Type 0
 Applies rule before (Set address text) a after = Does (λ cell. IsDone (with_text before cell text)) before (cell_to_set before.book address text) a after
 Applies rule before (Clear address) a after = Does (λ cell. IsDone (with_text before cell [])) before (cell_named before.book.sheets address) a after
@@ -59,6 +60,9 @@ Applies rule before (Unname sheet name) a after = Does (λ home. IsDone (without
 Applies rule before (Show address) a after = Does (Shows before) before (cell_named before.book.sheets address) a after
 Applies rule before (Model sheet) a after = Does (ModelsSheet before) before (sheet_named before.book.sheets sheet) a after
 Applies rule before (Solve sheet) a after = Does (SolvesSheet rule before) before (sheet_named before.book.sheets sheet) a after
+Applies rule before (Begin sheet) a after = Does (λ i. WithModel (Begins before i) before i) before (sheet_to_begin before sheet) a after
+Applies rule before (Slice sheet units) a after = Does (λ (c : Cut). WithModel (Slices rule before c) before c.sheet) before (cut_of before sheet units) a after
+Applies rule before (Stop sheet) a after = Does (Stops before) before (sheet_to_stop before sheet) a after
 Applies rule before (Budget units) a after = Does (λ n. IsDone (with_budget before n)) before (units_named units) a after
 Applies rule before Save a after = Saves before a after
 Applies rule before Unknown a after = (a ≡ answer.UnknownCommand) × (after ≡ before)

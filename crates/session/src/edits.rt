@@ -4,7 +4,7 @@ ghost use Rattle.commands.specs.Commands.{Name, Unname};
 ghost use Rattle.commands.specs.Lines.{CanBeSaid};
 ghost use Rattle.commands.specs.Locating.{units_named};
 ghost use Rattle.session.specs.Edits.{home_to_name, home_to_unname, refused};
-ghost use Rattle.session.specs.Interrupted.{IsInterrupted};
+ghost use Rattle.session.specs.Interrupted.{IsUntouched};
 ghost use Rattle.session.specs.States.{with_budget};
 ghost use Rattle.session.specs.Steps.{Does, IsDone, with_name, without_name};
 
@@ -21,7 +21,7 @@ impl Session {
         ensures said { IfOk result (CanBeSaid self.old.state.book.sheets) }
         ensures sheets { self.new.state.book.sheets ≡ self.old.state.book.sheets }
         ensures memory { OnErr result
-            (IsInterrupted self.old.state (Name sheet.now name.now text.now) self.new.state) }
+            (IsUntouched self.old.state (Name sheet.now name.now text.now) self.new.state) }
     {
         let Some(home) = sheet_in(self.book.sheets(), sheet) else {
             return Ok(Answer::UnknownSheet);
@@ -43,7 +43,7 @@ impl Session {
         ensures said { IfOk result (CanBeSaid self.old.state.book.sheets) }
         ensures sheets { self.new.state.book.sheets ≡ self.old.state.book.sheets }
         ensures memory { OnErr result
-            (IsInterrupted self.old.state (Unname sheet.now name.now) self.new.state) }
+            (IsUntouched self.old.state (Unname sheet.now name.now) self.new.state) }
     {
         let Some(home) = sheet_in(self.book.sheets(), sheet) else {
             return Ok(Answer::UnknownSheet);

@@ -2,11 +2,16 @@
 #![tactic(auto)]
 
 mod edits;
+mod laws;
 mod models;
+mod open_searches;
 mod paths;
 mod saving;
 mod session;
+mod slicing;
 
 pub use commands::{Answer, Command, MOST_UNITS, Memory, SaveFile, line, units_in};
+pub use laws::{other_searches_stay, searches_are_apart, sheets_stay, slices_count_on};
 pub use model_lines::ModelLines;
+pub use open_searches::MOST_SEARCHES;
 pub use session::Session;

@@ -1,10 +1,7 @@
 // The models of sheets.
 ghost use Rattle.std.specs.Prelude.{◌≡◌, ◌<◌, ℕ, Err, IfErr, IfOk, length};
 ghost use Rattle.commands.specs.Lines.{CanBeSaid};
-ghost use Rattle.node_pick.specs.Rules.{Rule};
-ghost use Rattle.session.specs.Models.{Models};
-ghost use Rattle.session.specs.Solves.{SolvesSheet};
-ghost use Rattle.session.specs.States.{SessionState};
+ghost use Rattle.session.specs.Models.{HasNoModel, Models};
 ghost use Rattle.sheet_problems.specs.Laws.{ModelIsTheSheet};
 ghost use Rattle.workbook.specs.State.{State};
 ghost use Rattle.sheet_linear_model.specs.Answers.{Prepares, StopIsListed, prepared_of};
@@ -35,10 +32,8 @@ pub(crate) fn model_of(alloc: Global, book: &Workbook, sheet: SheetId) -> Result
 
 /// The answer for a sheet without a model.
 pub(crate) fn answer_without_model(stop: NoModel) -> Result<Answer, Memory>
-    ensures models { IfOk result (λ answer. (book : State) (sheet : ℕ)
-        → Prepares book sheet (Err stop) → Models book sheet answer) }
-    ensures solves { IfOk result (λ answer. (rule : Rule) (before : SessionState) (sheet : ℕ)
-        → Prepares before.book sheet (Err stop) → SolvesSheet rule before sheet answer before) }
+    ensures none { IfOk result (λ answer. (book : State) (sheet : ℕ)
+        → Prepares book sheet (Err stop) → HasNoModel book sheet answer) }
     ensures said { IfOk result (λ answer. (book : State) (sheet : ℕ)
         → Prepares book sheet (Err stop) → StopIsListed book stop → CanBeSaid book.sheets answer) }
 {

@@ -2,7 +2,7 @@
 ghost use Rattle.std.specs.Prelude.{◌≡◌, ◌≢◌, [], IfOk, OnErr};
 ghost use Rattle.commands.specs.Commands.{Save};
 ghost use Rattle.commands.specs.Lines.{CanBeSaid};
-ghost use Rattle.session.specs.Interrupted.{IsInterrupted};
+ghost use Rattle.session.specs.Interrupted.{IsUntouched};
 ghost use Rattle.session.specs.Saves.{Saves, changed_from};
 ghost use Rattle.session.specs.States.{with_none_changed};
 
@@ -24,7 +24,7 @@ impl Session {
     pub(crate) fn save(&self) -> Result<Answer, Memory>
         ensures step { IfOk result (λ answer. Saves self.now.state answer self.now.state) }
         ensures said { IfOk result (CanBeSaid self.now.state.book.sheets) }
-        ensures memory { OnErr result (IsInterrupted self.now.state Save self.now.state) }
+        ensures memory { OnErr result (IsUntouched self.now.state Save self.now.state) }
     {
         let mut files = self.changed_files()?;
         if self.changed_names {

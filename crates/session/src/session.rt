@@ -3,6 +3,8 @@ ghost use Rattle.std.specs.Prelude.{◌≡◌, ◌≢◌, ◌≤◌, ◌<◌, Al
 ghost use Rattle.sheet_linear_model.specs.Answers.{prepared_of};
 ghost use Rattle.sheet_linear_model.specs.Prepared.{IsPrepared};
 ghost use Rattle.sheet_problems.specs.Laws.{ModelIsTheSheet};
+ghost use Rattle.sheet_solving.specs.Searches.{whole_task};
+ghost use Rattle.sheet_solving.specs.Solving.{CellsAreListed};
 ghost use Rattle.solver_names.specs.Answers.{statement_of};
 ghost use Rattle.statement_laws.specs.Laws.{IsWhole};
 ghost use Rattle.workbook.specs.Edits.{is_outside, set_fault};
@@ -11,13 +13,16 @@ ghost use Rattle.commands.specs.Commands.{Model as ToModel, Set, Show, Solve, sp
 ghost use Rattle.commands.specs.Lines.{CanBeSaid};
 ghost use Rattle.commands.specs.Locating.{cell_named, sheet_named};
 ghost use Rattle.session.specs.Edits.{cell_to_set, unless};
-ghost use Rattle.session.specs.Interrupted.{IsInterrupted, TakesMemory};
+ghost use Rattle.session.specs.Inner.{IsWidePivot, TellsEnd};
+ghost use Rattle.session.specs.Interrupted.{IsInterrupted, IsUntouched};
+ghost use Rattle.session.specs.Laws.{Counts, OthersStay};
 ghost use Rattle.session.specs.Solves.{SearchEnds, SolvesSheet};
 ghost use Rattle.session.specs.States.{IsSession, opened, with_changed};
 ghost use Rattle.session.specs.Steps.{Applies, Does, IsDone, ModelsSheet, Shows, with_text};
 
 use crate::edits::told_fault;
 use crate::models::{answer_without_model, model_of, prepare_sheet};
+use crate::open_searches::no_searches;
 use crate::paths::steps_of;
 use cell_refs::{Cell, SheetId, SheetNames};
 use commands::{Answer, Command, MOST_UNITS, Memory, locate};
@@ -25,13 +30,13 @@ use dep_table::Deps;
 use node_pick::Picker;
 use recalc::{Shown, value};
 use sheet_linear_model::Prepared;
-use sheet_solving::{Solved, solve};
+use sheet_solving::{OpenSearch, Solved, solve};
 use std::alloc::Global;
 use std::marker::Model;
-use workbook::Workbook;
+use workbook::{Adj, Workbook};
 
-/// A workbook to which commands are applied, the files that have changed since they were read, and the budget of a solve in
-/// units.
+/// A workbook to which commands are applied, the files that have changed since they were read, the budget of a search in units, and
+/// the open searches, one for a sheet. A slice goes by the budget as it is then, so that a new budget reaches every open search.
 #[derive(Drop)]
 pub struct Session {
     pub(crate) alloc: Global,
@@ -39,20 +44,23 @@ pub struct Session {
     pub(crate) changed_sheets: Vec<bool>,
     pub(crate) changed_names: bool,
     pub(crate) budget: u64,
+    pub(crate) searches: Vec<Option<OpenSearch>>,
 }
 
 impl Model for Session {
+    ghost use Rattle.std.specs.Coded.{codes};
     ghost use Rattle.session.specs.States.{IsSession, Session, session_code};
 
     ghost Value = { Session };
 
-    ghost coded = { session_code };
+    ghost coded = { session_code (Prim.hlevel codes) };
 
     ghost view = { λ s. record {
       state = record {
         book = s.book;
         changed = record { sheets = s.changed_sheets.items; names = s.changed_names };
         budget = s.budget;
+        searches = s.searches.items;
       };
     } };
 
@@ -60,6 +68,7 @@ impl Model for Session {
       book = s.book;
       changed = record { sheets = s.changed_sheets.items; names = s.changed_names };
       budget = s.budget;
+      searches = s.searches.items;
     }) };
 }
 
@@ -71,12 +80,14 @@ impl Session {
     {
         let mut changed_sheets = Vec::new(alloc);
         changed_sheets.resize(book.sheets().len(), false)?;
+        let searches = no_searches(alloc, book.sheets().len())?;
         Ok(Session {
             alloc,
             book,
             changed_sheets,
             changed_names: false,
             budget,
+            searches,
         })
     }
 
@@ -94,8 +105,25 @@ impl Session {
             Applies (rule pick.old) self.old.state (spoken command.now) answer self.new.state) }
         ensures said { IfOk result (CanBeSaid self.old.state.book.sheets) }
         ensures sheets { self.new.state.book.sheets ≡ self.old.state.book.sheets }
-        ensures memory { OnErr result
-            (IsInterrupted self.old.state (spoken command.now) self.new.state) }
+        ensures memory { OnErr result (IsInterrupted (rule pick.old) self.old.state
+            (spoken command.now) self.new.state) }
+        ensures others { IfOk result (λ _.
+            OthersStay self.old.state (spoken command.now) self.new.state) }
+        ensures counts { IfOk result (λ answer.
+            Counts self.old.state (spoken command.now) answer self.new.state) }
+    {
+        self.follow(command, pick)
+    }
+
+    // Does what the command says.
+    fn follow(&mut self, command: &Command, pick: &mut Box<dyn Picker>) -> Result<Answer, Memory>
+        ensures rule { rule pick.new ≡ rule pick.old }
+        ensures step { IfOk result (λ answer.
+            Applies (rule pick.old) self.old.state (spoken command.now) answer self.new.state) }
+        ensures said { IfOk result (CanBeSaid self.old.state.book.sheets) }
+        ensures sheets { self.new.state.book.sheets ≡ self.old.state.book.sheets }
+        ensures memory { OnErr result (IsInterrupted (rule pick.old) self.old.state
+            (spoken command.now) self.new.state) }
     {
         match command {
             Command::Set(address, text) => self.set(address.as_str(), text.as_str()),
@@ -107,6 +135,9 @@ impl Session {
             Command::Show(address) => self.show(address.as_str()),
             Command::Model(sheet) => self.model(sheet.as_str()),
             Command::Solve(sheet) => self.solve(sheet.as_str(), pick),
+            Command::Begin(sheet) => self.begin(sheet.as_str()),
+            Command::Slice(sheet, units) => self.slice(sheet.as_str(), units.as_str(), pick),
+            Command::Stop(sheet) => Ok(self.stop(sheet.as_str())),
             Command::Budget(units) => Ok(self.set_budget(units.as_str())),
             Command::Save => self.save(),
             Command::Unknown => Ok(Answer::UnknownCommand),
@@ -121,7 +152,7 @@ impl Session {
         ensures said { IfOk result (CanBeSaid self.old.state.book.sheets) }
         ensures sheets { self.new.state.book.sheets ≡ self.old.state.book.sheets }
         ensures memory { OnErr result
-            (IsInterrupted self.old.state (Set address.now text.now) self.new.state) }
+            (IsUntouched self.old.state (Set address.now text.now) self.new.state) }
     {
         match locate(self.book.sheets(), address) {
             Ok(cell) => self.put(cell, text),
@@ -173,7 +204,7 @@ impl Session {
             (cell_named self.now.state.book.sheets address.now) answer self.now.state) }
         ensures said { IfOk result (CanBeSaid self.now.state.book.sheets) }
         ensures memory { OnErr result
-            (IsInterrupted self.now.state (Show address.now) self.now.state) }
+            (IsUntouched self.now.state (Show address.now) self.now.state) }
     {
         match locate(self.book.sheets(), address) {
             Ok(cell) => self.show_cell(cell),
@@ -200,7 +231,7 @@ impl Session {
             (sheet_named self.now.state.book.sheets name.now) answer self.now.state) }
         ensures said { IfOk result (CanBeSaid self.now.state.book.sheets) }
         ensures memory { OnErr result
-            (IsInterrupted self.now.state (ToModel name.now) self.now.state) }
+            (IsUntouched self.now.state (ToModel name.now) self.now.state) }
     {
         match self.book.sheets().find(name) {
             Some(sheet) => model_of(self.alloc, &self.book, sheet),
@@ -215,7 +246,7 @@ impl Session {
         ensures said { IfOk result (CanBeSaid self.old.state.book.sheets) }
         ensures sheets { self.new.state.book.sheets ≡ self.old.state.book.sheets }
         ensures memory { OnErr result
-            (IsInterrupted self.old.state (Solve name.now) self.new.state) }
+            (IsUntouched self.old.state (Solve name.now) self.new.state) }
         ensures rule { rule pick.new ≡ rule pick.old }
     {
         match self.book.sheets().find(name) {
@@ -251,21 +282,38 @@ impl Session {
         requires model { ModelIsTheSheet self.old.state.book
             (statement_of prepared.statement) prepared.model }
         requires whole { IsWhole self.old.state.book (statement_of prepared.statement) }
-        ensures step { IfOk result (λ answer. SearchEnds (rule pick.old) self.old.state
-            (prepared_of prepared) answer self.new.state) }
+        ensures step { IfOk result (λ answer.
+            SearchEnds (whole_task (rule pick.old) self.old.state.budget) self.old.state
+            (statement_of prepared.statement) prepared.model answer self.new.state) }
         ensures said { IfOk result (CanBeSaid self.old.state.book.sheets) }
         ensures sheets { self.new.state.book.sheets ≡ self.old.state.book.sheets }
         ensures memory { OnErr result (self.new.state ≡ self.old.state) }
         ensures rule { rule pick.new ≡ rule pick.old }
     {
         let adj = prepared.statement.adj.copy()?;
-        match solve(self.alloc, &mut self.book, prepared, self.budget, pick)? {
+        let end = solve(self.alloc, &mut self.book, prepared, self.budget, pick)?;
+        self.tell(&adj, end)
+    }
+
+    // Tells how a search of the model with these cells to be decided ended, once an optimum is written.
+    pub(crate) fn tell(&mut self, adj: &Adj, end: Solved) -> Result<Answer, Memory>
+        requires listed { All (IsListed self.old.state.book.sheets) adj.now }
+        requires said { CellsAreListed self.old.state.book end }
+        ensures tells { IfOk result (λ answer.
+            TellsEnd end adj.now self.old.state answer self.new.state) }
+        ensures said { IfOk result (CanBeSaid self.old.state.book.sheets) }
+        ensures sheets { self.new.state.book.sheets ≡ self.old.state.book.sheets }
+        ensures memory { OnErr result (self.new.state ≡ self.old.state) }
+        ensures wide { OnErr result (IsWidePivot end) }
+    {
+        match end {
             Solved::Optimal(value) => {
                 self.mark(adj.cells());
                 Ok(Answer::Optimal(value))
             }
             Solved::Infeasible => Ok(Answer::Infeasible),
             Solved::Unbounded => Ok(Answer::Unbounded),
+            Solved::More(units) => Ok(Answer::More(units)),
             Solved::WidePivot(path, basis, leaves, enters) => {
                 let path = steps_of(self.alloc, &path)?;
                 Ok(Answer::WidePivot(path, basis, leaves, enters))

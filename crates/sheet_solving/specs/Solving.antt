@@ -6,7 +6,6 @@ use Rattle.optimality.specs.Problem.{Assignment, Goal, greatest, least, reach}
 use Rattle.optimality.specs.Optimal.{IsNotNegative, IsWhole, IsZeroOrOne, Optimal, Infeasible, Stand, Unbounded, objective_at}
 use Rattle.cell_refs.specs.declared.cell.Cell.{Cell}
 use Rattle.linear_models.specs.Model.{Model}
-use Rattle.node_pick.specs.Rules.{Rule}
 use Rattle.searches.specs.Answers as answers
 use Rattle.searches.specs.Trails as trails
 use Rattle.branch_bound.specs.Ends.{IsWideAt}
@@ -21,27 +20,9 @@ use Rattle.solver_names.specs.Statement.{RowOf, Statement}
 use Rattle.sheet_problems.specs.Places.{number_in, put_over, value_at}
 use Rattle.sheet_problems.specs.SheetProblem.{not_negative_in, problem_in}
 use Rattle.write_back.specs.Writing.{with_numbers, without_room}
-use Rattle.sheet_linear_model.specs.Prepared.{Prepared}
+use Rattle.sheet_solving.specs.Searches.{EndsWith, HasOpenLeaf, HasUnits, Opened, Searched, Task, led_to, total}
 use Rattle.sheet_solving.specs.declared.solved.Solved.{Solved}
 use Rattle.sheet_solving.specs.declared.solved.Solved.TheVariants as solved
-
--- ---- searches
--- a search of a model from its first unit on, by the picker's rule and within the budget
-pub record Searched (rule : Rule) (budget : ℕ) (m : Model) : Type 0 where
-  pub units : List trails.SearchUnit
-  pub state : trails.State
-  pub trail : trails.Trail m rule units state
-  pub within : length units ≤ budget
-
--- it is over and answers this
-pub record EndsWith (m : Model) (s : trails.State) (a : answers.Answer) : Type 0 where
-  pub at_rest : s.work ≡ None
-  pub over : trails.IsOver m s
-  pub says : answers.Says m s a
-
--- a node is worked on, or one waits to be opened and the search isn't over
-abbrev pub HasOpenLeaf : Model → trails.State → Type 0
-HasOpenLeaf m s = ¬ ((s.work ≡ None) × trails.IsOver m s)
 
 -- ---- what an answer means
 -- the number of a place of the workbook as it is, with no cell overridden
@@ -97,29 +78,38 @@ no_cell = record { sheet = record { 0 = 0 }; row = 0; col = 0 }
 abbrev pub by_cells : List Cell → List (ℕ × Bool × ℤ) → List (Cell × Bool × ℤ)
 by_cells decisions path = map (λ (step : ℕ × Bool × ℤ). (slice_index_or decisions step.0 no_cell, step.1, step.2)) path
 
--- the search stands at a pivot that isn't narrow, and more units may be spent
-pub record StandsAt (budget : ℕ) (decisions : List Cell) (units : ℕ) (s : trails.State) (path : List (Cell × Bool × ℤ)) (basis : List ℕ) (leaves enters : ℕ) : Type 0 where
+-- the search stands at a pivot that isn't narrow, and after these units another one may be spent
+pub record StandsAt (task : Task) (decisions : List Cell) (units : ℕ) (s : trails.State) (path : List (Cell × Bool × ℤ)) (basis : List ℕ) (leaves enters : ℕ) : Type 0 where
   pub steps : List (ℕ × Bool × ℤ)
   pub wide : IsWideAt s steps basis leaves enters
   pub cells : path ≡ by_cells decisions steps
-  pub left : units < budget
+  pub left : HasUnits task units
 
--- ---- all ends: the workbook is as before but for what an optimum writes
-abbrev pub Solves : Rule → ℕ → State → Prepared → Solved → State → Type 0
-Solves rule budget before p (solved.Optimal value) after =
-    (t : Searched rule budget p.model) × (x : Assignment) × (v : ℚ) × EndsWith p.model t.state (answers.optimal x v) × IsSolved before after p.statement x value
-Solves rule budget before p solved.Infeasible after =
-    (t : Searched rule budget p.model) × EndsWith p.model t.state answers.infeasible × Infeasible (problem_in before p.statement) × (after ≡ before)
-Solves rule budget before p solved.Unbounded after =
-    (t : Searched rule budget p.model) × (x : Assignment) × (d : List ℚ) × EndsWith p.model t.state (answers.unbounded x d)
-    × Unbounded (problem_in before p.statement) × (after ≡ before)
-Solves rule budget before p (solved.WidePivot path basis leaves enters) after =
-    (t : Searched rule budget p.model) × StandsAt budget p.statement.decisions (length t.units) t.state path.items basis.items leaves enters × (after ≡ before)
-Solves rule budget before p (solved.Budget n) after =
-    (t : Searched rule budget p.model) × (n ≡ length t.units) × (budget ≤ n) × HasOpenLeaf p.model t.state × (after ≡ before)
-Solves rule budget before p (solved.NoRoom cell) after =
-    (t : Searched rule budget p.model) × (x : Assignment) × (v : ℚ) × EndsWith p.model t.state (answers.optimal x v) × HasNoRoom before p.statement x cell
+-- ---- all ends of a search of the model, for what the sheet's names state: the workbook is as before but for what an optimum writes
+abbrev pub Solves : Task → State → Statement → Model → Solved → State → Type 0
+Solves task before s m (solved.Optimal value) after =
+    (t : Searched task m) × (x : Assignment) × (v : ℚ) × EndsWith m t.state (answers.optimal x v) × IsSolved before after s x value
+Solves task before s m solved.Infeasible after =
+    (t : Searched task m) × EndsWith m t.state answers.infeasible × Infeasible (problem_in before s) × (after ≡ before)
+Solves task before s m solved.Unbounded after =
+    (t : Searched task m) × (x : Assignment) × (d : List ℚ) × EndsWith m t.state (answers.unbounded x d)
+    × Unbounded (problem_in before s) × (after ≡ before)
+Solves task before s m (solved.More n) after = ⊥
+Solves task before s m (solved.WidePivot path basis leaves enters) after =
+    (t : Searched task m) × StandsAt task s.decisions (length t.units) t.state path.items basis.items leaves enters × (after ≡ before)
+Solves task before s m (solved.Budget n) after =
+    (t : Searched task m) × (n ≡ total t) × (task.budget ≤ n) × HasOpenLeaf m t.state × (after ≡ before)
+Solves task before s m (solved.NoRoom cell) after =
+    (t : Searched task m) × (x : Assignment) × (v : ℚ) × EndsWith m t.state (answers.optimal x v) × HasNoRoom before s x cell
     × (after ≡ before)
+
+-- the same of a slice, after which more may be to be done: all units that are asked for are spent, the budget isn't, a leaf is open, and
+-- the search stands where its units have led
+abbrev pub Slices : Task → State → Statement → Model → Solved → Opened → State → Type 0
+Slices task before s m (solved.More n) search after =
+    (t : Searched task m) × (n ≡ total t) × (length t.units ≡ task.units) × (total t < task.budget) × HasOpenLeaf m t.state
+    × (search ≡ led_to t) × (after ≡ before)
+Slices task before s m end search after = Solves task before s m end after
 
 -- ---- cells in them lie on the sheets
 abbrev pub CellsAreListed : State → Solved → Type 0

@@ -1,29 +1,71 @@
-// A search of a model from its beginning to its end, or as far as its budget goes.
-ghost use Rattle.std.specs.Prelude.{◌≡◌, ◌≤◌};
-ghost use Rattle.sheet_solving.specs.Inner.{Runs};
+// Units of a search.
+ghost use Rattle.std.specs.Prelude.{◌≡◌, ◌≤◌, IfOk, OnErr, None, false};
+ghost use Rattle.sheet_solving.specs.Inner.{IsKept, Runs, answer_in, opened_of};
+ghost use Rattle.sheet_solving.specs.Searches.{task_from};
 
 use branch_bound::{Progress, Search, SearchStop};
-use lin_model::LinModel;
 use node_pick::Picker;
-use std::alloc::Global;
 
-// What a search of the model comes to, which may spend so many units.
-pub(crate) fn search(
-    alloc: Global,
-    model: LinModel,
-    budget: u64,
+/// How many units are asked for, and how many a search may spend in all.
+#[derive(Clone, Copy, Debug, PartialEq, Eq)]
+pub struct Allowed {
+    pub units: u64,
+    pub budget: u64,
+}
+
+// The answer, where there is one.
+fn answer_in(progress: Progress) -> Option<Progress>
+    ensures { result ≡ answer_in progress }
+{
+    match progress {
+        Progress::More => None,
+        Progress::Optimal(point, value) => Some(Progress::Optimal(point, value)),
+        Progress::Infeasible => Some(Progress::Infeasible),
+        Progress::Unbounded(point, direction) => Some(Progress::Unbounded(point, direction)),
+    }
+}
+
+// Spends units of a search that hasn't ended, and gives its answer where it ends.
+fn go_on(
+    search: &mut Search,
+    allowed: Allowed,
     pick: &mut Box<dyn Picker>,
-) -> Result<Progress, SearchStop>
-    requires budget { budget ≤ 1000000 }
-    ensures runs { Runs (rule pick.old) budget model result }
+) -> Result<Option<Progress>, SearchStop>
+    requires budget { allowed.budget ≤ 1000000 }
+    requires unanswered { search.old.answered ≡ false }
+    ensures kept { IfOk result (IsKept search.new) }
+    ensures unanswered { OnErr result (search.new.answered ≡ false) }
+    ensures runs { Runs (task_from (rule pick.old) (opened_of search.old)
+        allowed.units allowed.budget) search.old.model (opened_of search.new) result }
     ensures rule { rule pick.new ≡ rule pick.old }
 {
-    let _valid = model.whole();
-    match Search::begin(alloc, model, budget) {
-        Ok(search) => {
-            let mut search = search;
-            search.run(budget, pick)
-        }
-        Err(_) => Err(SearchStop::Memory),
+    search.set_budget(allowed.budget);
+    let _valid = search.model().whole();
+    let run = search.run(allowed.units, pick);
+    let _trail = search.units();
+    match run {
+        Ok(progress) => Ok(answer_in(progress)),
+        Err(stop) => Err(stop),
+    }
+}
+
+/// Spends units of a search, unless it has ended, and gives the answer that is kept of it then.
+pub(crate) fn spend(
+    search: &mut Search,
+    end: Option<Progress>,
+    allowed: Allowed,
+    pick: &mut Box<dyn Picker>,
+) -> Result<Option<Progress>, SearchStop>
+    requires budget { allowed.budget ≤ 1000000 }
+    requires kept { IsKept search.old end }
+    ensures kept { IfOk result (IsKept search.new) }
+    ensures unanswered { OnErr result (search.new.answered ≡ false) }
+    ensures runs { Runs (task_from (rule pick.old) (opened_of search.old)
+        allowed.units allowed.budget) search.old.model (opened_of search.new) result }
+    ensures rule { rule pick.new ≡ rule pick.old }
+{
+    match end {
+        Some(answer) => Ok(Some(answer)),
+        None => go_on(search, allowed, pick),
     }
 }

@@ -3,15 +3,15 @@ ghost use Rattle.std.specs.Prelude.{◌≡◌, ◌≤◌, ℕ, IfOk, OnErr};
 ghost use Rattle.sheet_linear_model.specs.Answers.{prepared_of};
 ghost use Rattle.sheet_linear_model.specs.Prepared.{IsPrepared};
 ghost use Rattle.sheet_problems.specs.Laws.{ModelIsTheSheet};
+ghost use Rattle.sheet_solving.specs.Searches.{whole_task};
 ghost use Rattle.sheet_solving.specs.Solving.{CellsAreListed, Solves};
 ghost use Rattle.solver_names.specs.Answers.{statement_of};
 ghost use Rattle.statement_laws.specs.Laws.{IsWhole};
 
-use crate::path::by_cells;
-use crate::searched::search;
+use crate::open_search::OpenSearch;
+use crate::searched::Allowed;
+use crate::slicing::slice;
 use crate::solved::Solved;
-use crate::told::write;
-use branch_bound::{Progress, SearchStop};
 use memory::Memory;
 use node_pick::Picker;
 use sheet_linear_model::Prepared;
@@ -32,7 +32,8 @@ pub fn solve(
     requires model { ModelIsTheSheet book.old (statement_of of.statement) of.model }
     requires whole { IsWhole book.old (statement_of of.statement) }
     ensures solves { IfOk result
-        (λ s. Solves (rule pick.old) budget book.old (prepared_of of) s book.new) }
+        (λ s. Solves (whole_task (rule pick.old) budget) book.old
+        (statement_of of.statement) of.model s book.new) }
     ensures said { IfOk result (CellsAreListed book.old) }
     ensures sheets { book.new.sheets ≡ book.old.sheets }
     ensures memory { OnErr result (book.new ≡ book.old) }
@@ -43,16 +44,10 @@ pub fn solve(
         model,
         ..
     } = of;
-    match search(alloc, model, budget, pick) {
-        Ok(Progress::Optimal(point, value)) => write(alloc, book, &statement, &point, value),
-        Ok(Progress::Infeasible) => Ok(Solved::Infeasible),
-        Ok(Progress::Unbounded(_, _)) => Ok(Solved::Unbounded),
-        Ok(Progress::More) => unreachable!(),
-        Err(SearchStop::WidePivot(path, basis, leaves, enters)) => {
-            let steps = by_cells(alloc, statement.adj.cells(), &path)?;
-            Ok(Solved::WidePivot(steps, basis, leaves, enters))
-        }
-        Err(SearchStop::Budget(units)) => Ok(Solved::Budget(units)),
-        Err(SearchStop::Memory) => Err(Memory),
-    }
+    let mut search = OpenSearch::begin(alloc, model)?;
+    let allowed = Allowed {
+        units: budget,
+        budget,
+    };
+    slice(alloc, book, &statement, &mut search, allowed, pick)
 }

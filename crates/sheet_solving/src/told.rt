@@ -2,13 +2,14 @@
 ghost use Rattle.std.specs.Prelude.{◌≡◌, All, IfOk, OnErr, length};
 ghost use Rattle.std.specs.Option.{option_map};
 ghost use Rattle.lin_model.specs.Kinds.{goal_of};
-ghost use Rattle.sheet_solving.specs.Inner.{Writes, value_told};
+ghost use Rattle.sheet_solving.specs.Inner.{CanBeTold, Tells, Writes, value_told};
 ghost use Rattle.sheet_solving.specs.Solving.{CellsAreListed};
 ghost use Rattle.solver_names.specs.Answers.{statement_of};
 ghost use Rattle.workbook.specs.Listed.{IsListed};
 ghost use Rattle.write_back.specs.Writing.{AreDistinct};
 
 use crate::solved::Solved;
+use branch_bound::Progress;
 use cell_refs::Cell;
 use frac128::Frac;
 use lin_model::Goal;
@@ -33,7 +34,7 @@ fn objective_value(objective: Option<Cell>, goal: Goal, value: Frac) -> Option<F
 }
 
 // Writes the numbers of an optimum into the cells to be decided, and tells the objective's.
-pub(crate) fn write(
+fn write(
     alloc: Global,
     book: &mut Workbook,
     statement: &Statement,
@@ -53,5 +54,31 @@ pub(crate) fn write(
         Ok(()) => Ok(Solved::Optimal(objective_value(statement.objective, statement.goal, value))),
         Err(PutFault::NoRoom(cell)) => Ok(Solved::NoRoom(cell)),
         Err(PutFault::Memory) => Err(Memory),
+    }
+}
+
+/// Tells the answer of a search, an optimum once it is written, or the units that were spent where it has none.
+pub(crate) fn tell(
+    alloc: Global,
+    book: &mut Workbook,
+    statement: &Statement,
+    end: &Option<Progress>,
+    units: u64,
+) -> Result<Solved, Memory>
+    requires can { CanBeTold (length statement.now.adj) end.now }
+    requires listed { All (IsListed book.old.sheets) statement.now.adj }
+    requires distinct { AreDistinct statement.now.adj }
+    ensures tells { IfOk result
+        (λ s. Tells book.old (statement_of statement.now) end.now units s book.new) }
+    ensures said { IfOk result (CellsAreListed book.old) }
+    ensures sheets { book.new.sheets ≡ book.old.sheets }
+    ensures memory { OnErr result (book.new ≡ book.old) }
+{
+    match end {
+        Some(Progress::Optimal(point, value)) => write(alloc, book, statement, point, *value),
+        Some(Progress::Infeasible) => Ok(Solved::Infeasible),
+        Some(Progress::Unbounded(_, _)) => Ok(Solved::Unbounded),
+        Some(Progress::More) => unreachable!(),
+        None => Ok(Solved::More(units)),
     }
 }

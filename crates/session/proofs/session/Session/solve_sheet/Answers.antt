@@ -1,8 +1,8 @@
-use Rattle.std.proofs.Common.{subst}
-use Rattle.sheet_linear_model.specs.Answers.{prepared_of}
+use Rattle.std.proofs.Common.{Err, subst}
+use Rattle.sheet_linear_model.specs.Answers.{Prepares, prepared_of}
 use Rattle.sheet_linear_model.specs.Prepared.{IsPrepared}
 use Rattle.session.specs.States.{Session}
-use Rattle.session.proofs.Ends.{ends_solve}
+use Rattle.session.proofs.Ends.{ends_solve, none_solved}
 use Rattle.session.proofs.Said.{if_ok_map}
 use Rattle.session.proofs.session.Session.solve_sheet.Goals as goal
 
@@ -10,6 +10,11 @@ pub returns-in-Ok-clause-step : goal.returns-in-Ok-clause-step
 returns-in-Ok-clause-step g c =
     let prepares = subst (λ (session : Session). IsPrepared session.state.book c.args.sheet.0 (prepared_of c.in-Ok.prepared)) c.self.view_is c.in-Ok.ensures.prepares in
     if_ok_map c.search.result _ _ (λ a h. ends_solve _ _ c.args.sheet.0 (prepared_of c.in-Ok.prepared) a _ prepares h) c.search.ensures.step
+
+pub returns-in-Err-clause-step : goal.returns-in-Err-clause-step
+returns-in-Err-clause-step g c =
+    let prepares = subst (λ (session : Session). Prepares session.state.book c.args.sheet.0 (Err c.in-Err.stop)) c.self.view_is c.in-Err.ensures.prepares in
+    none_solved c.args.self.now.state c.args.sheet.0 c.in-Err.stop c.answer_without_model.result prepares c.answer_without_model.ensures.none _
 
 pub returns-in-Err-clause-said : goal.returns-in-Err-clause-said
 returns-in-Err-clause-said g c =

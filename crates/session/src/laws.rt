@@ -1,0 +1,22 @@
+// What is true of every step of a session, and of every list of commands.
+ghost use Rattle.session.specs.Laws.{OtherSearchesStay, SearchesAreApart, SheetsStay, SlicesCountOn};
+
+/// A command leaves the open searches of all sheets but its own as they were.
+pub fn other_searches_stay()
+    ensures { OtherSearchesStay }
+{}
+
+/// No command changes which sheets there are.
+pub fn sheets_stay()
+    ensures { SheetsStay }
+{}
+
+/// A slice that goes further counts the units on where the model is still that of its search, and from 0 where it isn't.
+pub fn slices_count_on()
+    ensures { SlicesCountOn }
+{}
+
+/// Whatever other commands stand between, the search of a sheet is as its own commands left it.
+pub fn searches_are_apart()
+    ensures { SearchesAreApart }
+{}
