@@ -5,7 +5,6 @@ use Rattle.std.specs.Global.{Global}
 use Rattle.std.specs.List.{list_all, slice_split}
 use Rattle.clap.specs.Words.{Row, all_of, fault_of, first_of, matches_of}
 use Rattle.commands.specs.Locating.{number_up_to, units_in}
-use Rattle.node_pick.specs.Rules.{Rule, best_first, depth_first, oldest_first}
 use Rattle.command_line.specs.Line.{the_app}
 
 -- the file of the names and those of the sheets
@@ -75,12 +74,6 @@ pick_of (Some text) =
     else if bytes_eq text (codes "best") then Some best
     else if bytes_eq text (codes "oldest") then Some oldest
     else None
-
--- the rule of a picker
-abbrev pub rule_of : Pick → Rule
-rule_of depth = depth_first
-rule_of best = best_first
-rule_of oldest = oldest_first
 
 -- a file of names and at least one sheet
 abbrev pub named_by : Option (List ℕ) → List (List ℕ) → Option Named

@@ -1,6 +1,6 @@
 -- Answering one record.
 use Rattle.std.proofs.Common.{◌≡◌, ℕ, ◌∷◌, [], List, Option, inl, inr, refl, subst, sym}
-use Rattle.std.specs.Prelude.{Bool, Err, Ok, Vec}
+use Rattle.std.specs.Prelude.{Bool, Err, Ok, Result, Vec}
 use Rattle.std.specs.Global.{Global}
 use Rattle.solver_io.specs.Bytes.{PutCause, PutWant, SinkTakes, Takes, TakesSome}
 use Rattle.solver_io.specs.Files.{Files}
@@ -22,10 +22,6 @@ use Rattle.command_line.specs.Words.{Named}
 -- what a command did is the step of its record, once the files are written
 stepped : (rule : Rule) (old applied new : SessionState) (fields : Record) (s : Spoken) (a : Answer) → s ≡ command_of fields → Applies rule old s a applied → new ≡ once_written a applied → Step rule old (command_of fields) a new
 stepped rule old applied new fields s a is does written = (applied, subst (λ (z : Spoken). Applies rule old z a applied) is does, written)
-
--- by a picker of this rule
-pub by_rule : (here rule : Rule) (old applied : SessionState) (s : Spoken) (a : Answer) → here ≡ rule → Applies here old s a applied → Applies rule old s a applied
-by_rule here rule old applied s a same does = subst (λ (z : Rule). Applies z old s a applied) same does
 
 -- ---- the folder refused a file
 -- then the answer names files
@@ -100,3 +96,10 @@ said_whole rule named old applied new fields s a text v w refused is does writte
       refusal = sym refusal;
     } in
     (answered, record { folder = folder; wants = wants; sink = sink })
+
+-- ---- the answer was told
+-- whatever record it is that spells the command
+pub told_by : (rule : Rule) (named : Named) (old applied new : SessionState) (s : Spoken) (a : Answer) (v w : Written) (r : Result Bool PutEnd) → Applies rule old s a applied → applied.book.sheets ≡ old.book.sheets
+    → ((by : Rule) (before : SessionState) (fields : Record) → Applies by before (command_of fields) a applied → applied.book.sheets ≡ before.book.sheets → AnswersRecord by named before fields v w new r) → (fields : Record) → s ≡ command_of fields
+    → AnswersRecord rule named old fields v w new r
+told_by rule named old applied new s a v w r does same told fields is = told rule old fields (subst (λ (z : Spoken). Applies rule old z a applied) is does) same

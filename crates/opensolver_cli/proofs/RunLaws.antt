@@ -1,23 +1,24 @@
 -- How a run ends over the files that the words name.
 use Rattle.std.proofs.Common.{◌≡◌, ◌≢◌, ◌<◌, [], ℕ, List, Option, Some, None, IfSome, length, refl, sym, subst, inl, inr}
-use Rattle.std.specs.Prelude.{Result, Ok, Err, ◌⊎◌}
+use Rattle.std.specs.Prelude.{Result, Ok, Err, ◌⊎◌, map}
 use Rattle.cell_refs.specs.declared.limits.TheConstants.{SHEETS}
 use Rattle.solver_io.specs.Files.{Files}
 use Rattle.sheet_csv.specs.Sheet.{Record}
 use Rattle.workbook.specs.State.{State}
 use Rattle.opensolver_cli.specs.Answering.{AnswersRecords, EndsAnswering, IsPutFault, IsSinkFault, Says}
 use Rattle.opensolver_cli.specs.Completeness.{EndsExactly, EndsFor, EndsForTold, IsEarly, IsWhole}
-use Rattle.opensolver_cli.specs.Findings.{book_in, found}
-use Rattle.opensolver_cli.specs.Headline.{EndsAs, EndsOver, IsCounted, IsReadFault, LeavesTooMany, RunsAs, SavesNothing, setting_of}
-use Rattle.opensolver_cli.specs.Inputs.{FindsAll, IsFaultOf, IsSourceLeft}
+use Rattle.run_inputs.specs.Findings.{book_in, found}
+use Rattle.opensolver_cli.specs.Headline.{EndsAs, EndsOver, IsCounted, IsReadFault, LeavesTooMany, RunsAs, RunsScript, SavesNothing, rule_of, setting_of}
+use Rattle.run_inputs.specs.Inputs.{FindsAll, IsFaultOf, IsSourceLeft}
 use Rattle.opensolver_cli.specs.Outside.{FolderFailed, FolderWantsMemory, IsFolderLeft, IsScriptLeft, NoneFailed, Outside, SinkFailed, Written, put_in, written}
-use Rattle.opensolver_cli.specs.Stops.{status_of, stop_line}
+use Rattle.run_inputs.specs.Stops.{status_of, stop_line}
+use Rattle.node_pick.specs.Rules.{Rule}
 use Rattle.command_line.specs.Words.{Asked, Job, Named, Script}
-use Rattle.opensolver_cli.specs.declared.status.Status.{Status}
-use Rattle.opensolver_cli.specs.declared.status.Status.TheVariants as status
-use Rattle.opensolver_cli.specs.declared.stop.End.TheVariants as end
-use Rattle.opensolver_cli.specs.declared.stop.Stop.{Stop}
-use Rattle.opensolver_cli.specs.declared.stop.Stop.TheVariants.{TooMuch, BadInput}
+use Rattle.run_inputs.specs.declared.status.Status.{Status}
+use Rattle.run_inputs.specs.declared.status.Status.TheVariants as status
+use Rattle.run_inputs.specs.declared.stop.End.TheVariants as end
+use Rattle.run_inputs.specs.declared.stop.Stop.{Stop}
+use Rattle.run_inputs.specs.declared.stop.Stop.TheVariants.{TooMuch, BadInput}
 
 -- where the files end the run, the script isn't touched
 abbrev Order : Named → Outside → Outside → Option Files → Type 0
@@ -35,48 +36,48 @@ leaves : (named : Named) (before after : Outside) → IsFound named before after
 leaves named before after f big = let m = f.many big in (m.0, script_left before after m.1)
 
 -- the bytes are told, or they aren't
-over : (job : Job) (content : Option Files) (left : Option (List ℕ)) (before after : Outside) (r : Status) → content ≡ before.files → left ≡ before.left → IsFound job.named before after
-    → IfSome content (λ files. IfSome left (λ script. EndsAs job files script before after r)) → RunsAs (Some (Script job)) before after r
-over job None left before after r f l is h = (subst (λ (z : Option Files). EndsOver job z before.left before after r) f tt, leaves job.named before after is)
-over job (Some files) None before after r f l is h =
-    let told : EndsOver job (Some files) before.left before after r = subst (λ (z : Option (List ℕ)). EndsOver job (Some files) z before after r) l tt in
-    (subst (λ (z : Option Files). EndsOver job z before.left before after r) f told, leaves job.named before after is)
-over job (Some files) (Some script) before after r f l is h =
+over : (rule : Rule) (job : Job) (content : Option Files) (left : Option (List ℕ)) (before after : Outside) (r : Status) → content ≡ before.files → left ≡ before.left → IsFound job.named before after
+    → IfSome content (λ files. IfSome left (λ script. EndsAs rule job files script before after r)) → RunsScript rule job before after r
+over rule job None left before after r f l is h = (subst (λ (z : Option Files). EndsOver rule job z before.left before after r) f tt, leaves job.named before after is)
+over rule job (Some files) None before after r f l is h =
+    let told : EndsOver rule job (Some files) before.left before after r = subst (λ (z : Option (List ℕ)). EndsOver rule job (Some files) z before after r) l tt in
+    (subst (λ (z : Option Files). EndsOver rule job z before.left before after r) f told, leaves job.named before after is)
+over rule job (Some files) (Some script) before after r f l is h =
     let order : Order job.named before after (Some files) = subst (Order job.named before after) (sym f) is.order in
-    let told : EndsOver job (Some files) before.left before after r =
-    subst (λ (z : Option (List ℕ)). EndsOver job (Some files) z before after r) l (h, λ stop no. script_left before after (order stop no)) in
-    (subst (λ (z : Option Files). EndsOver job z before.left before after r) f told, leaves job.named before after is)
+    let told : EndsOver rule job (Some files) before.left before after r =
+    subst (λ (z : Option (List ℕ)). EndsOver rule job (Some files) z before after r) l (h, λ stop no. script_left before after (order stop no)) in
+    (subst (λ (z : Option Files). EndsOver rule job z before.left before after r) f told, leaves job.named before after is)
 
 -- ---- all was found
-answered : (job : Job) (files : Files) (script : List ℕ) (before after : Outside) (book : State) (records : List Record) (r : Status) → (found job.named files script ≡ Ok (book, records)) × (after.left ≡ Some [])
-    → AnswersRecords (setting_of job book files) records (written before) (written after) r → EndsAs job files script before after r
-answered job files script before after book records status.Done is h = (book, records, record { finds = is.0; to_its_end = is.1 }, h)
-answered job files script before after book records status.Refused is h = (book, records, record { finds = is.0; to_its_end = is.1 }, h)
-answered job files script before after book records status.Usage is h = absurd h
-answered job files script before after book records status.ReadFault is h = absurd h
-answered job files script before after book records status.WriteFault is h = inr (book, records, record { finds = is.0; to_its_end = is.1 }, h)
-answered job files script before after book records status.Memory is (inl nothing) = inl (record { printed = nothing.0.pieces; files = nothing.0.files })
-answered job files script before after book records status.Memory is (inr cut) = inr (book, records, record { finds = is.0; to_its_end = is.1 }, cut)
-answered job files script before after book records status.Limit is h = absurd h
-answered job files script before after book records status.BadInput is h = absurd h
+answered : (rule : Rule) (job : Job) (files : Files) (script : List ℕ) (before after : Outside) (book : State) (records : List Record) (r : Status) → (found job.named files script ≡ Ok (book, records)) × (after.left ≡ Some [])
+    → AnswersRecords (setting_of rule job book files) records (written before) (written after) r → EndsAs rule job files script before after r
+answered rule job files script before after book records status.Done is h = (book, records, record { finds = is.0; to_its_end = is.1 }, h)
+answered rule job files script before after book records status.Refused is h = (book, records, record { finds = is.0; to_its_end = is.1 }, h)
+answered rule job files script before after book records status.Usage is h = absurd h
+answered rule job files script before after book records status.ReadFault is h = absurd h
+answered rule job files script before after book records status.WriteFault is h = inr (book, records, record { finds = is.0; to_its_end = is.1 }, h)
+answered rule job files script before after book records status.Memory is (inl nothing) = inl (record { printed = nothing.0.pieces; files = nothing.0.files })
+answered rule job files script before after book records status.Memory is (inr cut) = inr (book, records, record { finds = is.0; to_its_end = is.1 }, cut)
+answered rule job files script before after book records status.Limit is h = absurd h
+answered rule job files script before after book records status.BadInput is h = absurd h
 
-all_answered : (job : Job) (content : Option Files) (left : Option (List ℕ)) (before after : Outside) (book : State) (records : List Record) (r : Status)
+all_answered : (rule : Rule) (job : Job) (content : Option Files) (left : Option (List ℕ)) (before after : Outside) (book : State) (records : List Record) (r : Status)
     → IfSome content (λ files. IfSome left (λ script. FindsAll job.named files script after.left (Ok (book, records))))
-    → IfSome content (λ files. AnswersRecords (setting_of job book files) records (written before) (written after) r)
-    → IfSome content (λ files. IfSome left (λ script. EndsAs job files script before after r))
-all_answered job None left before after book records r is h = tt
-all_answered job (Some files) None before after book records r is h = tt
-all_answered job (Some files) (Some script) before after book records r is h = answered job files script before after book records r is h
+    → IfSome content (λ files. AnswersRecords (setting_of rule job book files) records (written before) (written after) r)
+    → IfSome content (λ files. IfSome left (λ script. EndsAs rule job files script before after r))
+all_answered rule job None left before after book records r is h = tt
+all_answered rule job (Some files) None before after book records r is h = tt
+all_answered rule job (Some files) (Some script) before after book records r is h = answered rule job files script before after book records r is h
 
 -- the records are answered over the folder as finding has left it, which is as it was
-pub answered_over : (job : Job) (book : State) (records : List Record) (found_files files_before : Option Files) (found_writes found_wants writes wants : ℕ) (pieces : Option (List (List ℕ))) (faults : ℕ) (after : Written) (r : Status)
+pub answered_over : (rule : Rule) (job : Job) (book : State) (records : List Record) (found_files files_before : Option Files) (found_writes found_wants writes wants : ℕ) (pieces : Option (List (List ℕ))) (faults : ℕ) (after : Written) (r : Status)
     → found_files ≡ files_before → found_writes ≡ writes → found_wants ≡ wants
-    → IfSome found_files (λ files. AnswersRecords (setting_of job book files) records (put_in found_files found_writes found_wants pieces faults) after r)
-    → IfSome files_before (λ files. AnswersRecords (setting_of job book files) records (put_in files_before writes wants pieces faults) after r)
-answered_over job book records found_files files_before found_writes found_wants writes wants pieces faults after r same same_writes same_wants h =
-    subst (λ (k : ℕ). IfSome files_before (λ files. AnswersRecords (setting_of job book files) records (put_in files_before writes k pieces faults) after r)) same_wants
-    (subst (λ (n : ℕ). IfSome files_before (λ files. AnswersRecords (setting_of job book files) records (put_in files_before n found_wants pieces faults) after r)) same_writes
-    (subst (λ (z : Option Files). IfSome z (λ files. AnswersRecords (setting_of job book files) records (put_in z found_writes found_wants pieces faults) after r)) same h))
+    → IfSome found_files (λ files. AnswersRecords (setting_of rule job book files) records (put_in found_files found_writes found_wants pieces faults) after r)
+    → IfSome files_before (λ files. AnswersRecords (setting_of rule job book files) records (put_in files_before writes wants pieces faults) after r)
+answered_over rule job book records found_files files_before found_writes found_wants writes wants pieces faults after r same same_writes same_wants h =
+    subst (λ (k : ℕ). IfSome files_before (λ files. AnswersRecords (setting_of rule job book files) records (put_in files_before writes k pieces faults) after r)) same_wants
+    (subst (λ (n : ℕ). IfSome files_before (λ files. AnswersRecords (setting_of rule job book files) records (put_in files_before n found_wants pieces faults) after r)) same_writes
+    (subst (λ (z : Option Files). IfSome z (λ files. AnswersRecords (setting_of rule job book files) records (put_in z found_writes found_wants pieces faults) after r)) same h))
 
 pub fault_over : (found_files files_before : Option Files) (found_writes found_wants writes wants : ℕ) (pieces : Option (List (List ℕ))) (faults : ℕ) (after : Written) (r : Status) → found_files ≡ files_before → found_writes ≡ writes
     → found_wants ≡ wants → IsPutFault (put_in found_files found_writes found_wants pieces faults) after r → IsPutFault (put_in files_before writes wants pieces faults) after r
@@ -85,51 +86,51 @@ fault_over found_files files_before found_writes found_wants writes wants pieces
     (subst (λ (n : ℕ). IsPutFault (put_in files_before n found_wants pieces faults) after r) same_writes
     (subst (λ (z : Option Files). IsPutFault (put_in z found_writes found_wants pieces faults) after r) same h))
 
-pub run_answered : (job : Job) (before after : Outside) (book : State) (records : List Record) (r : Status) → IsFound job.named before after
+pub run_answered : (rule : Rule) (job : Job) (before after : Outside) (book : State) (records : List Record) (r : Status) → IsFound job.named before after
     → IfSome before.files (λ files. IfSome before.left (λ script. FindsAll job.named files script after.left (Ok (book, records))))
-    → IfSome before.files (λ files. AnswersRecords (setting_of job book files) records (written before) (written after) r) → RunsAs (Some (Script job)) before after r
-run_answered job before after book records r f is h =
-    over job before.files before.left before after r refl refl f (all_answered job before.files before.left before after book records r is h)
+    → IfSome before.files (λ files. AnswersRecords (setting_of rule job book files) records (written before) (written after) r) → RunsScript rule job before after r
+run_answered rule job before after book records r f is h =
+    over rule job before.files before.left before after r refl refl f (all_answered rule job before.files before.left before after book records r is h)
 
 -- ---- the run stops before the first record
-stopped : (job : Job) (files : Files) (script : List ℕ) (before after : Outside) (stop : Stop) (r : Status) → found job.named files script ≡ Err stop
-    → Says (stop_line job.named stop) (status_of stop) before.pieces after.pieces r → after.files ≡ before.files → EndsAs job files script before after r
-stopped job files script before after (TooMuch kind) status.Usage is h same = absurd (cc h.0)
-stopped job files script before after (BadInput of why) status.Usage is h same = absurd (cc h.0)
-stopped job files script before after stop status.Limit is h same = (stop, is, (h.0, record { printed = h.1; files = same }))
-stopped job files script before after stop status.BadInput is h same = (stop, is, (h.0, record { printed = h.1; files = same }))
-stopped job files script before after stop status.WriteFault is h same = inl (stop, is, record { printed = h; files = same })
-stopped job files script before after stop status.Memory is h same = inl (record { printed = h; files = same })
-stopped job files script before after (TooMuch kind) status.Done is h same = absurd (cc h.0)
-stopped job files script before after (BadInput of why) status.Done is h same = absurd (cc h.0)
-stopped job files script before after (TooMuch kind) status.Refused is h same = absurd (cc h.0)
-stopped job files script before after (BadInput of why) status.Refused is h same = absurd (cc h.0)
-stopped job files script before after stop status.ReadFault is h same = absurd h
+stopped : (rule : Rule) (job : Job) (files : Files) (script : List ℕ) (before after : Outside) (stop : Stop) (r : Status) → found job.named files script ≡ Err stop
+    → Says (stop_line job.named stop) (status_of stop) before.pieces after.pieces r → after.files ≡ before.files → EndsAs rule job files script before after r
+stopped rule job files script before after (TooMuch kind) status.Usage is h same = absurd (cc h.0)
+stopped rule job files script before after (BadInput of why) status.Usage is h same = absurd (cc h.0)
+stopped rule job files script before after stop status.Limit is h same = (stop, is, (h.0, record { printed = h.1; files = same }))
+stopped rule job files script before after stop status.BadInput is h same = (stop, is, (h.0, record { printed = h.1; files = same }))
+stopped rule job files script before after stop status.WriteFault is h same = inl (stop, is, record { printed = h; files = same })
+stopped rule job files script before after stop status.Memory is h same = inl (record { printed = h; files = same })
+stopped rule job files script before after (TooMuch kind) status.Done is h same = absurd (cc h.0)
+stopped rule job files script before after (BadInput of why) status.Done is h same = absurd (cc h.0)
+stopped rule job files script before after (TooMuch kind) status.Refused is h same = absurd (cc h.0)
+stopped rule job files script before after (BadInput of why) status.Refused is h same = absurd (cc h.0)
+stopped rule job files script before after stop status.ReadFault is h same = absurd h
 
-all_stopped : (job : Job) (content : Option Files) (left : Option (List ℕ)) (before after : Outside) (stop : Stop) (r : Status) → after.files ≡ before.files
+all_stopped : (rule : Rule) (job : Job) (content : Option Files) (left : Option (List ℕ)) (before after : Outside) (stop : Stop) (r : Status) → after.files ≡ before.files
     → IfSome content (λ files. IfSome left (λ script. FindsAll job.named files script after.left (Err (end.Stopped stop)))) → Says (stop_line job.named stop) (status_of stop) before.pieces after.pieces r
-    → IfSome content (λ files. IfSome left (λ script. EndsAs job files script before after r))
-all_stopped job None left before after stop r same is h = tt
-all_stopped job (Some files) None before after stop r same is h = tt
-all_stopped job (Some files) (Some script) before after stop r same is h = stopped job files script before after stop r is h same
+    → IfSome content (λ files. IfSome left (λ script. EndsAs rule job files script before after r))
+all_stopped rule job None left before after stop r same is h = tt
+all_stopped rule job (Some files) None before after stop r same is h = tt
+all_stopped rule job (Some files) (Some script) before after stop r same is h = stopped rule job files script before after stop r is h same
 
-pub run_stopped : (job : Job) (before after : Outside) (stop : Stop) (r : Status) → IsFound job.named before after → after.files ≡ before.files
+pub run_stopped : (rule : Rule) (job : Job) (before after : Outside) (stop : Stop) (r : Status) → IsFound job.named before after → after.files ≡ before.files
     → IfSome before.files (λ files. IfSome before.left (λ script. FindsAll job.named files script after.left (Err (end.Stopped stop)))) → Says (stop_line job.named stop) (status_of stop) before.pieces after.pieces r
-    → RunsAs (Some (Script job)) before after r
-run_stopped job before after stop r f same is h =
-    over job before.files before.left before after r refl refl f (all_stopped job before.files before.left before after stop r same is h)
+    → RunsScript rule job before after r
+run_stopped rule job before after stop r f same is h =
+    over rule job before.files before.left before after r refl refl f (all_stopped rule job before.files before.left before after stop r same is h)
 
 -- ---- nothing is seen
-unseen : (job : Job) (content : Option Files) (left : Option (List ℕ)) (before after : Outside) (r : Status) → (r ≡ status.ReadFault) ⊎ (r ≡ status.Memory) → after.pieces ≡ before.pieces → after.files ≡ before.files
-    → IfSome content (λ files. IfSome left (λ script. EndsAs job files script before after r))
-unseen job None left before after r is none same = tt
-unseen job (Some files) None before after r is none same = tt
-unseen job (Some files) (Some script) before after r (inl is) none same = rw is (record { printed = none; files = same })
-unseen job (Some files) (Some script) before after r (inr is) none same = rw is (inl (record { printed = none; files = same }))
+unseen : (rule : Rule) (job : Job) (content : Option Files) (left : Option (List ℕ)) (before after : Outside) (r : Status) → (r ≡ status.ReadFault) ⊎ (r ≡ status.Memory) → after.pieces ≡ before.pieces → after.files ≡ before.files
+    → IfSome content (λ files. IfSome left (λ script. EndsAs rule job files script before after r))
+unseen rule job None left before after r is none same = tt
+unseen rule job (Some files) None before after r is none same = tt
+unseen rule job (Some files) (Some script) before after r (inl is) none same = rw is (record { printed = none; files = same })
+unseen rule job (Some files) (Some script) before after r (inr is) none same = rw is (inl (record { printed = none; files = same }))
 
-pub run_unseen : (job : Job) (before after : Outside) (r : Status) → IsFound job.named before after → after.files ≡ before.files → (r ≡ status.ReadFault) ⊎ (r ≡ status.Memory) → after.pieces ≡ before.pieces
-    → RunsAs (Some (Script job)) before after r
-run_unseen job before after r f same is none = over job before.files before.left before after r refl refl f (unseen job before.files before.left before after r is none same)
+pub run_unseen : (rule : Rule) (job : Job) (before after : Outside) (r : Status) → IsFound job.named before after → after.files ≡ before.files → (r ≡ status.ReadFault) ⊎ (r ≡ status.Memory) → after.pieces ≡ before.pieces
+    → RunsScript rule job before after r
+run_unseen rule job before after r f same is none = over rule job before.files before.left before after r refl refl f (unseen rule job before.files before.left before after r is none same)
 
 -- ---- each status exactly
 early : (x : Result (State × List Record) Stop) (r : Status) → IsEarly r → EndsFor x r
@@ -271,5 +272,9 @@ read_fault_counted before after h writes wants sink pieces files = record {
 }
 
 -- ---- words that ask for a script
-pub job_runs : (job : Job) (asked : Option Asked) (before after : Outside) (r : Status) → Some (Script job) ≡ asked → RunsAs (Some (Script job)) before after r → RunsAs asked before after r
-job_runs job asked before after r is h = subst (λ (z : Option Asked). RunsAs z before after r) is h
+pub job_runs : (rules : List Rule) (job : Job) (asked : Option Asked) (before after : Outside) (r : Status) → Some (Script job) ≡ asked → RunsScript (rule_of rules job.pick) job before after r → RunsAs rules asked before after r
+job_runs rules job asked before after r is h = subst (λ (z : Option Asked). RunsAs rules z before after r) is h
+
+-- the rules of the pickers, in their order
+abbrev pub rules_in : {X : Type 0} → List X → (X → Rule) → List Rule
+rules_in pickers rule = map rule pickers

@@ -20,9 +20,10 @@ use Rattle.opensolver_cli.specs.Answering.{AnswersRecord, AnswersRecords, IsAnsw
 use Rattle.opensolver_cli.specs.Courses.{AllAnswered, CutShort, EndsBefore, EndsInFolder, EndsInSink, EndsUnprinted, Setting, sheets_of}
 use Rattle.opensolver_cli.specs.Headline.{setting_of}
 use Rattle.opensolver_cli.specs.Outside.{FolderFailed, FolderWantsMemory, NoneFailed, SinkFailed, Written}
-use Rattle.command_line.specs.Words.{Job, Named, rule_of}
+use Rattle.command_line.specs.Words.{Job, Named}
 use Rattle.opensolver_cli.specs.Worlds.{Answered, World, files_after, lines_of, none, more, with_saved, word_of}
-use Rattle.opensolver_cli.specs.declared.status.Status.TheVariants as status
+use Rattle.run_inputs.specs.declared.status.Status.{Status}
+use Rattle.run_inputs.specs.declared.status.Status.TheVariants as status
 
 -- a session over these files
 abbrev pub over : Files → SessionState → World
@@ -32,7 +33,7 @@ over files session = record { session = session; files = files }
 pub record AreAnswered (setting : Setting) (records : List Record) (before after : Written) (session : SessionState) (refused : Bool) : Type 0 where
   pub answers : List Answer
   pub reached : Files
-  pub answered : Answered (rule_of setting.pick) setting.named setting.start records answers (over reached session)
+  pub answered : Answered setting.rule setting.named setting.start records answers (over reached session)
   pub files_are : after.files ≡ Some reached
   pub printed : Takes before.pieces after.pieces (lines_of (sheets_of setting) answers)
   pub refusals : list_any (is_refusal (sheets_of setting)) answers ≡ refused
@@ -117,7 +118,7 @@ none_answered setting w told = record {
   sheets = refl;
 }
 
-one_answered_more : (setting : Setting) (m e : SessionState) (rs : List Record) (r : Record) (u v w : Written) (before here : Bool) → AreAnswered setting rs u v m before → IsAnswered (rule_of setting.pick) setting.named m r v w e here
+one_answered_more : (setting : Setting) (m e : SessionState) (rs : List Record) (r : Record) (u v w : Written) (before here : Bool) → AreAnswered setting rs u v m before → IsAnswered setting.rule setting.named m r v w e here
     → e.book.sheets ≡ m.book.sheets → AreAnswered setting (rs ++ r ∷ []) u w e (before || here)
 one_answered_more setting m e rs r u v w before here are is same =
     let printed = subst (λ (z : List (List ℕ)). Takes v.pieces w.pieces (answer_text z is.answer ∷ [])) are.sheets is.printed in
@@ -126,7 +127,7 @@ one_answered_more setting m e rs r u v w before here are is same =
     record {
       answers = are.answers ++ is.answer ∷ [];
       reached = next;
-      answered = one_step_more (rule_of setting.pick) setting.named setting.start (over are.reached m) (over next e) rs r are.answers is.answer are.answered is.step refl;
+      answered = one_step_more setting.rule setting.named setting.start (over are.reached m) (over next e) rs r are.answers is.answer are.answered is.step refl;
       files_are = saved_over setting.named is.answer v w are.reached are.files_are is.saved;
       printed =
           subst (λ (z : List (List ℕ)). Takes u.pieces w.pieces z) (sym (map-append (answer_text (sheets_of setting)) are.answers (is.answer ∷ [])))
@@ -137,7 +138,7 @@ one_answered_more setting m e rs r u v w before here are is same =
 
 -- the same, of the first records of a list
 next_answered : (setting : Setting) (m e : SessionState) (rows : List Record) (i : ℕ) (r : Record) (u v w : Written) (before here : Bool) → i < length rows → slice_get rows i ≡ Some r → AreAnswered setting (take i rows) u v m before
-    → IsAnswered (rule_of setting.pick) setting.named m r v w e here → e.book.sheets ≡ m.book.sheets → AreAnswered setting (take (i + 1) rows) u w e (before || here)
+    → IsAnswered setting.rule setting.named m r v w e here → e.book.sheets ≡ m.book.sheets → AreAnswered setting (take (i + 1) rows) u w e (before || here)
 next_answered setting m e rows i r u v w before here within there are is same =
     let ends : take i rows ++ r ∷ [] ≡ take (i + 1) rows = sym (take_more rows i r within ∙ ap (λ (z : Record). take i rows ++ z ∷ []) (element rows i r there)) in
     subst (λ (z : List Record). AreAnswered setting z u w e (before || here)) ends (one_answered_more setting m e (take i rows) r u v w before here are is same)
@@ -158,7 +159,7 @@ cut Ends setting m rows i r u v w before part there are ends printed = record {
 }
 
 -- its lines were printed in part
-in_sink : (setting : Setting) (m : SessionState) (rs : List Record) (r : Record) (u v w : Written) (before : Bool) (are : AreAnswered setting rs u v m before) (off : IsCutOff (rule_of setting.pick) setting.named m r v w)
+in_sink : (setting : Setting) (m : SessionState) (rs : List Record) (r : Record) (u v w : Written) (before : Bool) (are : AreAnswered setting rs u v m before) (off : IsCutOff setting.rule setting.named m r v w)
     → EndsInSink setting (over are.reached m) r (part_of off.printed.0 (answer_text m.book.sheets off.answer)) w.files
 in_sink setting m rs r u v w before are off = record {
   answer = off.answer;
@@ -170,7 +171,7 @@ in_sink setting m rs r u v w before are off = record {
 }
 
 -- nothing of its lines was printed
-unprinted : (setting : Setting) (m : SessionState) (rs : List Record) (r : Record) (u v w : Written) (before : Bool) (are : AreAnswered setting rs u v m before) (off : IsUnprinted (rule_of setting.pick) setting.named m r v w)
+unprinted : (setting : Setting) (m : SessionState) (rs : List Record) (r : Record) (u v w : Written) (before : Bool) (are : AreAnswered setting rs u v m before) (off : IsUnprinted setting.rule setting.named m r v w)
     → EndsUnprinted setting (over are.reached m) r [] w.files
 unprinted setting m rs r u v w before are off = record {
   answer = off.answer;
@@ -181,7 +182,7 @@ unprinted setting m rs r u v w before are off = record {
 }
 
 -- the folder refused a file of it
-in_folder : (setting : Setting) (m : SessionState) (rs : List Record) (r : Record) (u v w : Written) (before : Bool) (are : AreAnswered setting rs u v m before) (off : IsCutInFolder (rule_of setting.pick) setting.named m r v w)
+in_folder : (setting : Setting) (m : SessionState) (rs : List Record) (r : Record) (u v w : Written) (before : Bool) (are : AreAnswered setting rs u v m before) (off : IsCutInFolder setting.rule setting.named m r v w)
     → EndsInFolder setting (over are.reached m) r [] w.files
 in_folder setting m rs r u v w before are off =
     let at = off.refused in
@@ -218,7 +219,7 @@ same_end rule named old rows i v w new x y is h = subst (λ (z : PutEnd). Answer
 
 -- a write failed
 cut_by_write : (setting : Setting) (m e : SessionState) (rows : List Record) (i : ℕ) (u v w : Written) (before : Bool) → NoneFailed u v → AreAnswered setting (take i rows) u v m before
-    → AnsweredAt (rule_of setting.pick) setting.named m rows i v w e (Err put.Failed) → AnswersRecords setting rows u w status.WriteFault
+    → AnsweredAt setting.rule setting.named m rows i v w e (Err put.Failed) → AnswersRecords setting rows u w status.WriteFault
 cut_by_write setting m e rows i u v w before kept are (r, there, inl sink) =
     inl (
       cut (λ x fields part. EndsInSink setting x fields part w.files) setting m rows i r u v w before (part_of sink.0.printed.0 (answer_text m.book.sheets sink.0.answer)) there are
@@ -234,7 +235,7 @@ cut_by_write setting m e rows i u v w before kept are (r, there, inr folder) =
 
 -- memory ran out
 cut_by_memory : (setting : Setting) (m e : SessionState) (rows : List Record) (i : ℕ) (u v w : Written) (before : Bool) → NoneFailed u v → AreAnswered setting (take i rows) u v m before
-    → AnsweredAt (rule_of setting.pick) setting.named m rows i v w e (Err put.Memory) → AnswersRecords setting rows u w status.Memory
+    → AnsweredAt setting.rule setting.named m rows i v w e (Err put.Memory) → AnswersRecords setting rows u w status.Memory
 cut_by_memory setting m e rows i u v w before kept are (r, there, inl (off, wanted)) =
     let short =
     cut (λ x fields part. EndsInFolder setting x fields part w.files) setting m rows i r u v w before [] there are (in_folder setting m (take i rows) r u v w before are off) (takes_same v.pieces w.pieces off.printed)
@@ -257,48 +258,61 @@ all_answered : (setting : Setting) (m : SessionState) (rows : List Record) (i : 
 all_answered setting m rows i u v refused long are = record {
   answers = are.answers;
   last = over are.reached m;
-  answered = subst (λ (z : List Record). Answered (rule_of setting.pick) setting.named setting.start z are.answers (over are.reached m)) (take_all i rows long) are.answered;
+  answered = subst (λ (z : List Record). Answered setting.rule setting.named setting.start z are.answers (over are.reached m)) (take_all i rows long) are.answered;
   printed = are.printed;
   files_are = are.files_are;
   refusals = are.refusals;
 }
 
--- ---- the same over a workbook that was opened, where the folder tells its files
-abbrev pub AreAnsweredTold : Job → State → Option Files → List Record → Written → Written → SessionState → Bool → Type 0
-AreAnsweredTold job book content records u v m refused = IfSome content (λ files. AreAnswered (setting_of job book files) records u v m refused)
+-- a record is answered by a picker of one rule, which is the other
+answered_by : (here rule : Rule) (named : Named) (old new : SessionState) (rows : List Record) (i : ℕ) (v w : Written) (r : Result Bool PutEnd) → here ≡ rule → AnsweredAt here named old rows i v w new r
+    → AnsweredAt rule named old rows i v w new r
+answered_by here rule named old new rows i v w r same h = subst (λ (z : Rule). AnsweredAt z named old rows i v w new r) same h
+
+-- the first of two rules that are one
+abbrev pub this_rule : {here rule : Rule} → here ≡ rule → Rule
+this_rule {here = here} same = here
+
+-- ---- the same over a session, where the folder tells its files
+-- the records begin in this session, over the files as they are
+abbrev pub begun : Rule → Named → SessionState → Files → Setting
+begun rule named begins files = record { named = named; rule = rule; start = over files begins }
+
+abbrev pub AreAnsweredTold : Rule → Named → SessionState → Option Files → List Record → Written → Written → SessionState → Bool → Type 0
+AreAnsweredTold rule named begins content records u v m refused = IfSome content (λ files. AreAnswered (begun rule named begins files) records u v m refused)
 
 -- no record yet
-pub first_records : (job : Job) (book : State) (content : Option Files) (w : Written) (s : Session) → w.files ≡ content → s ≡ record { state = opened book job.budget } → AreAnsweredTold job book content [] w w s.state false
-first_records job book None w s is opens = tt
-first_records job book (Some files) w s is opens =
-    subst (λ (z : Session). AreAnswered (setting_of job book files) [] w w z.state false) (sym opens) (none_answered (setting_of job book files) w is)
+pub first_records : (rule : Rule) (named : Named) (begins : SessionState) (content : Option Files) (w : Written) → w.files ≡ content → AreAnsweredTold rule named begins content [] w w begins false
+first_records rule named begins None w is = tt
+first_records rule named begins (Some files) w is = none_answered (begun rule named begins files) w is
 
 -- one more record was answered
-pub went_on : (job : Job) (book : State) (content : Option Files) (m e : SessionState) (rows : List Record) (i : ℕ) (u v w : Written) (before refusal : Bool) → i < length rows
-    → AreAnsweredTold job book content (take i rows) u v m before → AnsweredAt (rule_of job.pick) job.named m rows i v w e (Ok refusal) → e.book.sheets ≡ m.book.sheets → AreAnsweredTold job book content (take (i + 1) rows) u w e (before || refusal)
-went_on job book None m e rows i u v w before refusal within are h sheets = tt
-went_on job book (Some files) m e rows i u v w before refusal within are h sheets =
-    next_answered (setting_of job book files) m e rows i h.0 u v w before refusal within h.1 are h.2.0 sheets
+pub went_on : (here rule : Rule) (named : Named) (begins : SessionState) (content : Option Files) (m e : SessionState) (rows : List Record) (i : ℕ) (u v w : Written) (before refusal : Bool) → here ≡ rule → i < length rows
+    → AreAnsweredTold rule named begins content (take i rows) u v m before → AnsweredAt here named m rows i v w e (Ok refusal) → e.book.sheets ≡ m.book.sheets → AreAnsweredTold rule named begins content (take (i + 1) rows) u w e (before || refusal)
+went_on here rule named begins None m e rows i u v w before refusal same within are h sheets = tt
+went_on here rule named begins (Some files) m e rows i u v w before refusal same within are h sheets =
+    let is = answered_by here rule named m e rows i v w (Ok refusal) same h in
+    next_answered (begun rule named begins files) m e rows i is.0 u v w before refusal within is.1 are is.2.0 sheets
 
 -- no write of it failed
 pub none_failed : (here : Rule) (named : Named) (m e : SessionState) (rows : List Record) (i : ℕ) (u v w : Written) (refusal : Bool) → NoneFailed u v → AnsweredAt here named m rows i v w e (Ok refusal) → NoneFailed u w
 none_failed here named m e rows i u v w refusal kept h = none_then_none u v w kept h.2.1
 
 -- a write of it failed
-pub write_failed : (job : Job) (book : State) (content : Option Files) (m e : SessionState) (rows : List Record) (i : ℕ) (u v w : Written) (before : Bool) (x : PutEnd) → x ≡ put.Failed → NoneFailed u v
-    → AreAnsweredTold job book content (take i rows) u v m before → AnsweredAt (rule_of job.pick) job.named m rows i v w e (Err x) → IfSome content (λ files. AnswersRecords (setting_of job book files) rows u w status.WriteFault)
-write_failed job book None m e rows i u v w before x failed kept are h = tt
-write_failed job book (Some files) m e rows i u v w before x failed kept are h =
-    cut_by_write (setting_of job book files) m e rows i u v w before kept are
-    (same_end (rule_of job.pick) job.named m rows i v w e x put.Failed failed h)
+pub write_failed : (here rule : Rule) (named : Named) (begins : SessionState) (content : Option Files) (m e : SessionState) (rows : List Record) (i : ℕ) (u v w : Written) (before : Bool) (x : PutEnd) → here ≡ rule → x ≡ put.Failed → NoneFailed u v
+    → AreAnsweredTold rule named begins content (take i rows) u v m before → AnsweredAt here named m rows i v w e (Err x) → IfSome content (λ files. AnswersRecords (begun rule named begins files) rows u w status.WriteFault)
+write_failed here rule named begins None m e rows i u v w before x same failed kept are h = tt
+write_failed here rule named begins (Some files) m e rows i u v w before x same failed kept are h =
+    cut_by_write (begun rule named begins files) m e rows i u v w before kept are
+    (same_end rule named m rows i v w e x put.Failed failed (answered_by here rule named m e rows i v w (Err x) same h))
 
 -- memory ran out at it
-pub memory_failed : (job : Job) (book : State) (content : Option Files) (m e : SessionState) (rows : List Record) (i : ℕ) (u v w : Written) (before : Bool) (x : PutEnd) → x ≡ put.Memory → NoneFailed u v
-    → AreAnsweredTold job book content (take i rows) u v m before → AnsweredAt (rule_of job.pick) job.named m rows i v w e (Err x) → IfSome content (λ files. AnswersRecords (setting_of job book files) rows u w status.Memory)
-memory_failed job book None m e rows i u v w before x failed kept are h = tt
-memory_failed job book (Some files) m e rows i u v w before x failed kept are h =
-    cut_by_memory (setting_of job book files) m e rows i u v w before kept are
-    (same_end (rule_of job.pick) job.named m rows i v w e x put.Memory failed h)
+pub memory_failed : (here rule : Rule) (named : Named) (begins : SessionState) (content : Option Files) (m e : SessionState) (rows : List Record) (i : ℕ) (u v w : Written) (before : Bool) (x : PutEnd) → here ≡ rule → x ≡ put.Memory → NoneFailed u v
+    → AreAnsweredTold rule named begins content (take i rows) u v m before → AnsweredAt here named m rows i v w e (Err x) → IfSome content (λ files. AnswersRecords (begun rule named begins files) rows u w status.Memory)
+memory_failed here rule named begins None m e rows i u v w before x same failed kept are h = tt
+memory_failed here rule named begins (Some files) m e rows i u v w before x same failed kept are h =
+    cut_by_memory (begun rule named begins files) m e rows i u v w before kept are
+    (same_end rule named m rows i v w e x put.Memory failed (answered_by here rule named m e rows i v w (Err x) same h))
 
 -- what the counts say then
 memory_wanted : (here : Rule) (named : Named) (m e : SessionState) (rows : List Record) (i : ℕ) (u v w : Written) → NoneFailed u v → AnsweredAt here named m rows i v w e (Err put.Memory) → IsPutFault u w status.Memory
@@ -310,8 +324,14 @@ pub memory_counts : (here : Rule) (named : Named) (m e : SessionState) (rows : L
 memory_counts here named m e rows i u v w x failed kept h = memory_wanted here named m e rows i u v w kept (same_end here named m rows i v w e x put.Memory failed h)
 
 -- none is left
-pub all_were_answered : (job : Job) (book : State) (content : Option Files) (m : SessionState) (rows : List Record) (i : ℕ) (u v : Written) (refused all : Bool) → refused ≡ all → length rows ≤ i
-    → AreAnsweredTold job book content (take i rows) u v m refused → IfSome content (λ files. AllAnswered (setting_of job book files) rows u v all)
-all_were_answered job book None m rows i u v refused all is long are = tt
-all_were_answered job book (Some files) m rows i u v refused all is long are =
-    subst (λ (b : Bool). AllAnswered (setting_of job book files) rows u v b) is (all_answered (setting_of job book files) m rows i u v refused long are)
+pub all_were_answered : (rule : Rule) (named : Named) (begins : SessionState) (content : Option Files) (m : SessionState) (rows : List Record) (i : ℕ) (u v : Written) (refused all : Bool) → refused ≡ all → length rows ≤ i
+    → AreAnsweredTold rule named begins content (take i rows) u v m refused → IfSome content (λ files. AllAnswered (begun rule named begins files) rows u v all)
+all_were_answered rule named begins None m rows i u v refused all is long are = tt
+all_were_answered rule named begins (Some files) m rows i u v refused all is long are =
+    subst (λ (b : Bool). AllAnswered (begun rule named begins files) rows u v b) is (all_answered (begun rule named begins files) m rows i u v refused long are)
+
+-- ---- the same over a workbook that was opened
+pub over_opened : (rule : Rule) (job : Job) (book : State) (content : Option Files) (s : Session) (rows : List Record) (u v : Written) (ends : Status) → s ≡ record { state = opened book job.budget }
+    → IfSome content (λ files. AnswersRecords (begun rule job.named s.state files) rows u v ends) → IfSome content (λ files. AnswersRecords (setting_of rule job book files) rows u v ends)
+over_opened rule job book content s rows u v ends opens h =
+    subst (λ (z : Session). IfSome content (λ files. AnswersRecords (begun rule job.named z.state files) rows u v ends)) opens h

@@ -15,7 +15,7 @@ use Rattle.commands.specs.Saved.{SavedFile}
 use Rattle.commands.specs.declared.answer.Answer.{Answer}
 use Rattle.commands.specs.declared.answer.Answer.TheVariants as answer
 use Rattle.node_pick.specs.Rules.{Rule}
-use Rattle.command_line.specs.Words.{default_budget, depth, rule_of}
+use Rattle.command_line.specs.Words.{default_budget}
 use Rattle.made_up_books.specs.MadeUp.{made_up, sheet_name}
 use Rattle.session.specs.States.{SessionState, opened}
 use Rattle.session.specs.Steps.{Step}
@@ -24,8 +24,8 @@ use Rattle.opensolver_cli.specs.MadeUp.{made_up_line, status_by}
 use Rattle.opensolver_cli.specs.Outside.{FolderFailed, FolderWantsMemory, NoneFailed, SinkFailed, Written}
 use Rattle.command_line.specs.Words.{Named}
 use Rattle.opensolver_cli.specs.Worlds.{files_after, with_saved, word_of}
-use Rattle.opensolver_cli.specs.declared.status.Status.{Status}
-use Rattle.opensolver_cli.specs.declared.status.Status.TheVariants as status
+use Rattle.run_inputs.specs.declared.status.Status.{Status}
+use Rattle.run_inputs.specs.declared.status.Status.TheVariants as status
 
 -- ---- files
 -- the files are written, where the folder tells them
@@ -151,16 +151,16 @@ Says line said before after _ = ⊥
 
 -- ---- a workbook that is made up
 -- its sheet was solved, this is the line of the answer, and this says whether that is a refusal
-pub record AnswersSize (size : ℕ) (line : List ℕ) (refused : Bool) : Type 0 where
+pub record AnswersSize (rule : Rule) (size : ℕ) (line : List ℕ) (refused : Bool) : Type 0 where
   pub answer : Answer
   pub next : SessionState
-  pub step : Step (rule_of depth) (opened (made_up size) default_budget) (Solve sheet_name) answer next
+  pub step : Step rule (opened (made_up size) default_budget) (Solve sheet_name) answer next
   pub line_is : line ≡ made_up_line size answer
   pub refusal : refused ≡ is_refusal (sheet_name ∷ []) answer
 
 -- its sheet was solved, and the line of the answer printed, or a part of it or nothing; or memory ran out before
-abbrev pub SolvesSize : ℕ → Option (List (List ℕ)) → Option (List (List ℕ)) → Status → Type 0
-SolvesSize size before after ends =
-    ((answer : Answer) × (next : SessionState) × Step (rule_of depth) (opened (made_up size) default_budget) (Solve sheet_name) answer next
+abbrev pub SolvesSize : Rule → ℕ → Option (List (List ℕ)) → Option (List (List ℕ)) → Status → Type 0
+SolvesSize rule size before after ends =
+    ((answer : Answer) × (next : SessionState) × Step rule (opened (made_up size) default_budget) (Solve sheet_name) answer next
     × Says (made_up_line size answer) (status_by (is_refusal (sheet_name ∷ []) answer)) before after ends)
     ⊎ ((ends ≡ status.Memory) × (after ≡ before))

@@ -3,12 +3,12 @@ use Rattle.std.specs.Prelude.{◌≡◌, ◌≢◌, ◌⊎◌, List, ℕ, Option
 use Rattle.solver_io.specs.Files.{Files}
 use Rattle.sheet_csv.specs.Sheet.{Record}
 use Rattle.workbook.specs.State.{State}
-use Rattle.opensolver_cli.specs.Findings.{found}
-use Rattle.opensolver_cli.specs.Stops.{status_of}
+use Rattle.run_inputs.specs.Findings.{found}
+use Rattle.run_inputs.specs.Stops.{status_of}
 use Rattle.command_line.specs.Words.{Asked, MadeUp, Named, Script}
-use Rattle.opensolver_cli.specs.declared.stop.Stop.{Stop}
-use Rattle.opensolver_cli.specs.declared.status.Status.{Status}
-use Rattle.opensolver_cli.specs.declared.status.Status.TheVariants as status
+use Rattle.run_inputs.specs.declared.stop.Stop.{Stop}
+use Rattle.run_inputs.specs.declared.status.Status.{Status}
+use Rattle.run_inputs.specs.declared.status.Status.TheVariants as status
 
 -- want of memory, or a call of the folder, the script or the sink that failed
 abbrev pub IsEarly : Status → Type 0

@@ -13,13 +13,14 @@ use Rattle.commands.specs.Saved.{SavedFile}
 use Rattle.session.specs.States.{SessionState}
 use Rattle.session.specs.Steps.{Step}
 use Rattle.opensolver_cli.specs.Outside.{FolderFailed, FolderWantsMemory, NoneFailed, SinkFailed, Written}
-use Rattle.command_line.specs.Words.{Named, Pick, rule_of}
+use Rattle.node_pick.specs.Rules.{Rule}
+use Rattle.command_line.specs.Words.{Named}
 use Rattle.opensolver_cli.specs.Worlds.{World, Answers, Answered, lines_of, with_saved, word_of}
 
--- over which files the records are answered, by which picker, and in which world they begin
+-- over which files the records are answered, by a picker of which rule, and in which world they begin
 pub record Setting : Type 0 where
   pub named : Named
-  pub pick : Pick
+  pub rule : Rule
   pub start : World
 
 -- the names of the sheets, which stay as they are
@@ -32,7 +33,7 @@ sheets_of setting = setting.start.session.book.sheets
 pub record AllAnswered (setting : Setting) (records : List Record) (before after : Written) (refused : Bool) : Type 0 where
   pub answers : List Answer
   pub last : World
-  pub answered : Answered (rule_of setting.pick) setting.named setting.start records answers last
+  pub answered : Answered setting.rule setting.named setting.start records answers last
   pub printed : Takes before.pieces after.pieces (lines_of (sheets_of setting) answers)
   pub files_are : after.files ≡ Some last.files
   pub refusals : list_any (is_refusal (sheets_of setting)) answers ≡ refused
@@ -42,7 +43,7 @@ pub record AllAnswered (setting : Setting) (records : List Record) (before after
 pub record EndsInSink (setting : Setting) (w : World) (fields : Record) (part : List (List ℕ)) (files : Option Files) : Type 0 where
   pub answer : Answer
   pub next : World
-  pub answered : Answers (rule_of setting.pick) setting.named w fields answer next
+  pub answered : Answers setting.rule setting.named w fields answer next
   pub count : ℕ
   pub part_is : part ≡ part_of count (answer_text (sheets_of setting) answer)
   pub files_are : files ≡ Some next.files
@@ -51,7 +52,7 @@ pub record EndsInSink (setting : Setting) (w : World) (fields : Record) (part : 
 pub record EndsUnprinted (setting : Setting) (w : World) (fields : Record) (part : List (List ℕ)) (files : Option Files) : Type 0 where
   pub answer : Answer
   pub next : World
-  pub answered : Answers (rule_of setting.pick) setting.named w fields answer next
+  pub answered : Answers setting.rule setting.named w fields answer next
   pub nothing : part ≡ []
   pub files_are : files ≡ Some next.files
 
@@ -60,7 +61,7 @@ pub record EndsUnprinted (setting : Setting) (w : World) (fields : Record) (part
 pub record EndsInFolder (setting : Setting) (w : World) (fields : Record) (part : List (List ℕ)) (files : Option Files) : Type 0 where
   pub saved : Vec SavedFile Global
   pub next : SessionState
-  pub step : Step (rule_of setting.pick) w.session (command_of fields) (answer.ToSave saved) next
+  pub step : Step setting.rule w.session (command_of fields) (answer.ToSave saved) next
   pub done : ℕ
   pub file : SavedFile
   pub there : slice_get saved.items done ≡ Some file
@@ -82,7 +83,7 @@ pub record CutShort (Ends : World → Record → List (List ℕ) → Type 0) (se
   pub there : slice_get records done ≡ Some fields
   pub answers : List Answer
   pub reached : World
-  pub answered : Answered (rule_of setting.pick) setting.named setting.start (take done records) answers reached
+  pub answered : Answered setting.rule setting.named setting.start (take done records) answers reached
   pub part : List (List ℕ)
   pub ends : Ends reached fields part
   pub printed : Takes before after (lines_of (sheets_of setting) answers ++ part)

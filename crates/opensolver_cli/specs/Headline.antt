@@ -1,5 +1,5 @@
 -- What a run prints and saves and how it ends, from the words, the bytes of the files and those of the script.
-use Rattle.std.specs.Prelude.{◌≡◌, ◌≢◌, ◌⊎◌, ◌<◌, ℕ, true, false, List, [], length, Option, Some, None, Ok, Err, codes, ⊤}
+use Rattle.std.specs.Prelude.{◌≡◌, ◌≢◌, ◌⊎◌, ◌<◌, ℕ, true, false, List, [], length, Option, Some, None, Ok, Err, codes, slice_index_or, ⊤}
 use Rattle.solver_io.specs.Causes.{Rose}
 use Rattle.solver_io.specs.Files.{Files}
 use Rattle.cell_refs.specs.declared.limits.TheConstants.{SHEETS}
@@ -7,23 +7,24 @@ use Rattle.sheet_csv.specs.Sheet.{Record}
 use Rattle.workbook.specs.State.{State}
 use Rattle.session.specs.States.{opened}
 use Rattle.opensolver_cli.specs.Courses.{AllAnswered, IsCutByMemory, IsCutByWrite, Setting}
-use Rattle.opensolver_cli.specs.Findings.{book_in, found}
+use Rattle.run_inputs.specs.Findings.{book_in, found}
 use Rattle.opensolver_cli.specs.MadeUp.{MadeUpEnds}
 use Rattle.opensolver_cli.specs.Outside.{FolderFailed, FolderWantsMemory, IsFolderLeft, IsScriptLeft, NoneFailed, NothingIsSeen, Outside, Prints, PrintsSome, SinkFailed, written}
-use Rattle.opensolver_cli.specs.Stops.{status_of, stop_line}
-use Rattle.command_line.specs.Words.{Asked, Job, MadeUp, Named, Script}
-use Rattle.opensolver_cli.specs.declared.stop.Stop.{Stop}
-use Rattle.opensolver_cli.specs.declared.status.Status.{Status}
-use Rattle.opensolver_cli.specs.declared.status.Status.TheVariants as status
+use Rattle.run_inputs.specs.Stops.{status_of, stop_line}
+use Rattle.node_pick.specs.Rules.{Rule, free}
+use Rattle.command_line.specs.Words.{Asked, Job, MadeUp, Named, Pick, Script, best, depth, oldest}
+use Rattle.run_inputs.specs.declared.stop.Stop.{Stop}
+use Rattle.run_inputs.specs.declared.status.Status.{Status}
+use Rattle.run_inputs.specs.declared.status.Status.TheVariants as status
 
 abbrev pub usage_line : List ℕ
 usage_line = codes "usage: opensolver --names FILE [--budget N] [--pick depth|best|oldest] FILE...\n"
 
 -- ---- runs over files
 -- the records begin over the workbook that was opened, and over the files as they are
-abbrev pub setting_of : Job → State → Files → Setting
-setting_of job book files =
-    record { named = job.named; pick = job.pick; start = record { session = opened book job.budget; files = files } }
+abbrev pub setting_of : Rule → Job → State → Files → Setting
+setting_of rule job book files =
+    record { named = job.named; rule = rule; start = record { session = opened book job.budget; files = files } }
 
 -- the workbook and the records are found, and the script was read to its end
 pub record IsReady (job : Job) (files : Files) (script : List ℕ) (after : Outside) (book : State) (records : List Record) : Type 0 where
@@ -31,30 +32,30 @@ pub record IsReady (job : Job) (files : Files) (script : List ℕ) (after : Outs
   pub to_its_end : after.left ≡ Some []
 
 -- all that is needed was found, and this was done with it
-abbrev pub Goes : (Setting → List Record → Type 0) → Job → Files → List ℕ → Outside → Type 0
-Goes Done job files script after =
-    (book : State) × (records : List Record) × IsReady job files script after book records × Done (setting_of job book files) records
+abbrev pub Goes : (Setting → List Record → Type 0) → Rule → Job → Files → List ℕ → Outside → Type 0
+Goes Done rule job files script after =
+    (book : State) × (records : List Record) × IsReady job files script after book records × Done (setting_of rule job book files) records
 
 -- the run ends before the first record for this cause
 abbrev pub Stops : (Stop → Type 0) → Job → Files → List ℕ → Type 0
 Stops Done job files script = (stop : Stop) × (found job.named files script ≡ Err stop) × Done stop
 
 -- how a run over these files and this script ends
-abbrev pub EndsAs : Job → Files → List ℕ → Outside → Outside → Status → Type 0
-EndsAs job files script before after status.Done =
-    Goes (λ setting records. AllAnswered setting records (written before) (written after) false) job files script after
-EndsAs job files script before after status.Refused =
-    Goes (λ setting records. AllAnswered setting records (written before) (written after) true) job files script after
-EndsAs job files script before after status.Usage = ⊥
-EndsAs job files script before after status.ReadFault = NothingIsSeen before after
-EndsAs job files script before after status.WriteFault =
+abbrev pub EndsAs : Rule → Job → Files → List ℕ → Outside → Outside → Status → Type 0
+EndsAs rule job files script before after status.Done =
+    Goes (λ setting records. AllAnswered setting records (written before) (written after) false) rule job files script after
+EndsAs rule job files script before after status.Refused =
+    Goes (λ setting records. AllAnswered setting records (written before) (written after) true) rule job files script after
+EndsAs rule job files script before after status.Usage = ⊥
+EndsAs rule job files script before after status.ReadFault = NothingIsSeen before after
+EndsAs rule job files script before after status.WriteFault =
     Stops (λ stop. PrintsSome (stop_line job.named stop) before after) job files script
-    ⊎ Goes (λ setting records. IsCutByWrite setting records (written before) (written after)) job files script after
-EndsAs job files script before after status.Memory =
-    NothingIsSeen before after ⊎ Goes (λ setting records. IsCutByMemory setting records (written before) (written after)) job files script after
-EndsAs job files script before after status.Limit =
+    ⊎ Goes (λ setting records. IsCutByWrite setting records (written before) (written after)) rule job files script after
+EndsAs rule job files script before after status.Memory =
+    NothingIsSeen before after ⊎ Goes (λ setting records. IsCutByMemory setting records (written before) (written after)) rule job files script after
+EndsAs rule job files script before after status.Limit =
     Stops (λ stop. (status_of stop ≡ status.Limit) × Prints (stop_line job.named stop) before after) job files script
-EndsAs job files script before after status.BadInput =
+EndsAs rule job files script before after status.BadInput =
     Stops (λ stop. (status_of stop ≡ status.BadInput) × Prints (stop_line job.named stop) before after) job files script
 
 -- the script isn't touched where the files end the run
@@ -62,9 +63,9 @@ abbrev pub KeepsOrder : Named → Files → Outside → Outside → Type 0
 KeepsOrder named files before after = (stop : Stop) → book_in named files ≡ Err stop → IsScriptLeft before after
 
 -- where the folder and the script tell their bytes
-abbrev pub EndsOver : Job → Option Files → Option (List ℕ) → Outside → Outside → Status → Type 0
-EndsOver job (Some files) (Some script) before after ends = EndsAs job files script before after ends × KeepsOrder job.named files before after
-EndsOver job _ _ before after ends = ⊤
+abbrev pub EndsOver : Rule → Job → Option Files → Option (List ℕ) → Outside → Outside → Status → Type 0
+EndsOver rule job (Some files) (Some script) before after ends = EndsAs rule job files script before after ends × KeepsOrder job.named files before after
+EndsOver rule job _ _ before after ends = ⊤
 
 -- no file is read where too many sheets are named, nor the script
 abbrev pub LeavesTooMany : Named → Outside → Outside → Type 0
@@ -79,11 +80,23 @@ SaysUsage before after status.Memory = NothingIsSeen before after
 SaysUsage before after _ = ⊥
 
 -- ---- all runs
--- what a run does by what its words ask for; where these ask for a workbook that is made up, neither the folder nor the script is touched
-abbrev pub RunsAs : Option Asked → Outside → Outside → Status → Type 0
-RunsAs None before after ends = SaysUsage before after ends × IsFolderLeft before after × IsScriptLeft before after
-RunsAs (Some (Script job)) before after ends = EndsOver job before.files before.left before after ends × LeavesTooMany job.named before after
-RunsAs (Some (MadeUp size)) before after ends = MadeUpEnds size before after ends × IsFolderLeft before after × IsScriptLeft before after
+-- a run over the files of a job, by a picker of this rule
+abbrev pub RunsScript : Rule → Job → Outside → Outside → Status → Type 0
+RunsScript rule job before after ends = EndsOver rule job before.files before.left before after ends × LeavesTooMany job.named before after
+
+-- the rule of the picker that is asked for, among the rules of those that are handed in: for the deepest node, for the greatest bound
+-- and for the least number, in this order
+abbrev pub rule_of : List Rule → Pick → Rule
+rule_of rules depth = slice_index_or rules 0 free
+rule_of rules best = slice_index_or rules 1 free
+rule_of rules oldest = slice_index_or rules 2 free
+
+-- what a run does by the rules of its pickers and by what its words ask for; where these ask for a workbook that is made up, the first
+-- picker is asked, and neither the folder nor the script is touched
+abbrev pub RunsAs : List Rule → Option Asked → Outside → Outside → Status → Type 0
+RunsAs rules None before after ends = SaysUsage before after ends × IsFolderLeft before after × IsScriptLeft before after
+RunsAs rules (Some (Script job)) before after ends = RunsScript (rule_of rules job.pick) job before after ends
+RunsAs rules (Some (MadeUp size)) before after ends = MadeUpEnds (rule_of rules depth) size before after ends × IsFolderLeft before after × IsScriptLeft before after
 
 -- ---- counts, whatever is told
 -- the folder failed, and the script wasn't touched; or the script did, and the folder didn't

@@ -1,12 +1,7 @@
-pub mod Stops
-pub mod Opening
-pub mod Findings
 pub mod Outside
 pub mod MadeUp
 pub mod Worlds
 pub mod Courses
 pub mod Headline
 pub mod Completeness
-pub mod Inputs
 pub mod Answering
-pub mod Numbers

@@ -1,17 +1,21 @@
 // Answering the records of a script.
-ghost use Rattle.std.specs.Prelude.{◌≡◌, ◌≤◌, IfSome};
+ghost use Rattle.std.specs.Prelude.{◌≡◌, ◌≤◌, IfSome, List, ℕ};
+ghost use Rattle.commands.specs.Commands.{command_of, spoken};
+ghost use Rattle.commands.specs.Lines.{CanBeSaid};
 ghost use Rattle.commands.specs.declared.units.TheConstants.{MOST_UNITS};
 ghost use Rattle.opensolver_cli.specs.Answering.{AnswersRecord, AnswersRecords, EndsAnswering, IsPutFault, IsSaid, IsSinkFault, Says};
 ghost use Rattle.opensolver_cli.specs.Headline.{setting_of};
+ghost use Rattle.node_pick.specs.Rules.{Rule};
 ghost use Rattle.opensolver_cli.specs.Outside.{put_in};
-ghost use Rattle.command_line.specs.Words.{rule_of};
-ghost use Rattle.command_line.specs.Read.{job_read, named_of, pick_read};
+ghost use Rattle.session.specs.States.{SessionState};
+ghost use Rattle.session.specs.Steps.{Applies};
+ghost use Rattle.command_line.specs.Read.{job_read, named_of};
 
 use crate::Status;
 use crate::saving::save;
 use command_line::Job;
 use node_pick::Picker;
-use session::{Command, Session, line};
+use session::{Answer, Command, Session, line};
 use sheet_csv::{Record, Rows};
 use solver_io::{Folder, PutEnd, Sink};
 use std::alloc::Global;
@@ -29,9 +33,9 @@ pub(crate) fn answer_records<F: Folder, K: Sink>(
     pick: &mut Box<dyn Picker>,
 ) -> Status
     requires few { job.now.budget ≤ MOST_UNITS }
-    requires pick { rule pick.old ≡ rule_of (pick_read job.now.pick) }
     ensures answers { IfSome (F.content folder.old)
-        (λ files. AnswersRecords (setting_of (job_read job.now) book files) rows.now
+        (λ files. AnswersRecords (setting_of (rule pick.old) (job_read job.now) book files)
+        rows.now
         (put_in (F.content folder.old) (F.write_faults folder.old)
         (F.write_wants folder.old) (K.pieces out.old) (K.faults out.old))
         (put_in (F.content folder.new) (F.write_faults folder.new)
@@ -49,9 +53,44 @@ pub(crate) fn answer_records<F: Folder, K: Sink>(
     let Ok(mut session) = Session::open(alloc, book, job.budget) else {
         return Status::Memory;
     };
+    answer_each(alloc, &mut session, job, rows, folder, out, pick)
+}
+
+// Answers each of the records over a session.
+fn answer_each<F: Folder, K: Sink>(
+    alloc: Global,
+    session: &mut Session,
+    job: &Job,
+    rows: &Rows,
+    folder: &mut F,
+    out: &mut K,
+    pick: &mut Box<dyn Picker>,
+) -> Status
+    requires few { job.now.budget ≤ MOST_UNITS }
+    ensures answers { IfSome (F.content folder.old)
+        (λ files. AnswersRecords (record {
+          named = named_of job.now.named;
+          rule = rule pick.old;
+          start = record { session = session.old.state; files = files };
+        })
+        rows.now
+        (put_in (F.content folder.old) (F.write_faults folder.old)
+        (F.write_wants folder.old) (K.pieces out.old) (K.faults out.old))
+        (put_in (F.content folder.new) (F.write_faults folder.new)
+        (F.write_wants folder.new) (K.pieces out.new) (K.faults out.new))
+        result) }
+    ensures ends { EndsAnswering result }
+    ensures cause { IsPutFault
+        (put_in (F.content folder.old) (F.write_faults folder.old)
+        (F.write_wants folder.old) (K.pieces out.old) (K.faults out.old))
+        (put_in (F.content folder.new) (F.write_faults folder.new)
+        (F.write_wants folder.new) (K.pieces out.new) (K.faults out.new))
+        result }
+    ensures reads { F.read_faults folder.new ≡ F.read_faults folder.old }
+{
     let mut refused = false;
     for place in 0..rows.len() {
-        match answer_record(alloc, &mut session, job, rows.at(place), folder, out, pick) {
+        match answer_record(alloc, session, job, rows.at(place), folder, out, pick) {
             Ok(is_refusal) => refused = refused || is_refusal,
             Err(PutEnd::Failed) => return Status::WriteFault,
             Err(PutEnd::Memory) => return Status::Memory,
@@ -74,8 +113,8 @@ fn answer_record<F: Folder, K: Sink>(
     out: &mut K,
     pick: &mut Box<dyn Picker>,
 ) -> Result<bool, PutEnd>
-    requires pick { rule pick.old ≡ rule_of (pick_read job.now.pick) }
-    ensures answers { AnswersRecord (rule_of (pick_read job.now.pick))
+    requires few { job.now.budget ≤ MOST_UNITS }
+    ensures answers { AnswersRecord (rule pick.old)
         (named_of job.now.named) session.old.state fields.now
         (put_in (F.content folder.old) (F.write_faults folder.old)
         (F.write_wants folder.old) (K.pieces out.old) (K.faults out.old))
@@ -89,13 +128,63 @@ fn answer_record<F: Folder, K: Sink>(
     let Ok(command) = Command::of(alloc, fields) else {
         return Err(PutEnd::Memory);
     };
-    let Ok(answer) = session.apply(&command, pick) else {
+    answer_command(alloc, session, job, &command, folder, out, pick)
+}
+
+// The same of the command that a record spells.
+fn answer_command<F: Folder, K: Sink>(
+    alloc: Global,
+    session: &mut Session,
+    job: &Job,
+    command: &Command,
+    folder: &mut F,
+    out: &mut K,
+    pick: &mut Box<dyn Picker>,
+) -> Result<bool, PutEnd>
+    requires few { job.now.budget ≤ MOST_UNITS }
+    ensures answers { (fields : List (List ℕ)) → spoken command.now ≡ command_of fields
+        → AnswersRecord (rule pick.old) (named_of job.now.named) session.old.state fields
+        (put_in (F.content folder.old) (F.write_faults folder.old)
+        (F.write_wants folder.old) (K.pieces out.old) (K.faults out.old))
+        (put_in (F.content folder.new) (F.write_faults folder.new)
+        (F.write_wants folder.new) (K.pieces out.new) (K.faults out.new))
+        session.new.state result }
+    ensures sheets { session.new.state.book.sheets ≡ session.old.state.book.sheets }
+    ensures rule { rule pick.new ≡ rule pick.old }
+    ensures reads { F.read_faults folder.new ≡ F.read_faults folder.old }
+{
+    let Ok(answer) = session.apply(command, pick) else {
         return Err(PutEnd::Memory);
     };
-    let Ok(text) = line(alloc, &answer, session.sheets()) else {
+    tell_answer(alloc, session, job, &answer, folder, out)
+}
+
+// Writes what an answer saves and its lines, and says whether it is a refusal. Its command led from some state to that of the session.
+fn tell_answer<F: Folder, K: Sink>(
+    alloc: Global,
+    session: &mut Session,
+    job: &Job,
+    answer: &Answer,
+    folder: &mut F,
+    out: &mut K,
+) -> Result<bool, PutEnd>
+    requires said { CanBeSaid session.now.state.book.sheets answer.now }
+    ensures answers { (rule : Rule) → (before : SessionState) → (fields : List (List ℕ))
+        → Applies rule before (command_of fields) answer.now session.old.state
+        → session.old.state.book.sheets ≡ before.book.sheets
+        → AnswersRecord rule (named_of job.now.named) before fields
+        (put_in (F.content folder.old) (F.write_faults folder.old)
+        (F.write_wants folder.old) (K.pieces out.old) (K.faults out.old))
+        (put_in (F.content folder.new) (F.write_faults folder.new)
+        (F.write_wants folder.new) (K.pieces out.new) (K.faults out.new))
+        session.new.state result }
+    ensures sheets { session.new.state.book.sheets ≡ session.old.state.book.sheets }
+    ensures reads { F.read_faults folder.new ≡ F.read_faults folder.old }
+{
+    let Ok(text) = line(alloc, answer, session.sheets()) else {
         return Err(PutEnd::Memory);
     };
-    save(&job.named, &answer, session, folder)?;
+    save(&job.named, answer, session, folder)?;
     out.write(text.as_bytes())?;
     Ok(answer.is_refusal())
 }

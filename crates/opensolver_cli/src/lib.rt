@@ -2,13 +2,9 @@
 #![tactic(auto)]
 
 mod answer;
-mod files;
 mod made_up;
 mod saving;
-mod script;
-mod status;
-mod stop;
 mod top;
 
-pub use status::Status;
+pub use run_inputs::Status;
 pub use top::run;

@@ -1,10 +1,12 @@
 // The solve of a workbook that is made up.
 ghost use Rattle.std.specs.Prelude.{◌≡◌, ◌≤◌, ◌∷◌, [], IfOk, string_bytes};
-ghost use Rattle.commands.specs.Lines.{CanBeSaid};
-ghost use Rattle.command_line.specs.Words.{depth, most_made_up, rule_of};
-ghost use Rattle.made_up_books.specs.MadeUp.{sheet_name};
+ghost use Rattle.commands.specs.Commands.{Solve, spoken};
+ghost use Rattle.commands.specs.Lines.{CanBeSaid, is_refusal};
+ghost use Rattle.command_line.specs.Words.{default_budget, most_made_up};
+ghost use Rattle.made_up_books.specs.MadeUp.{made_up, sheet_name};
 ghost use Rattle.opensolver_cli.specs.Answering.{AnswersSize, IsSinkFault, SolvesSize};
 ghost use Rattle.opensolver_cli.specs.MadeUp.{made_up_line};
+ghost use Rattle.session.specs.States.{opened};
 
 use crate::Status;
 use crate::answer::say;
@@ -25,8 +27,7 @@ pub(crate) fn solve_made_up<K: Sink>(
 ) -> Status
     requires some { 1 ≤ size }
     requires few { size ≤ most_made_up }
-    requires pick { rule pick.old ≡ rule_of depth }
-    ensures solves { SolvesSize size (K.pieces out.old) (K.pieces out.new) result }
+    ensures solves { SolvesSize (rule pick.old) size (K.pieces out.old) (K.pieces out.new) result }
     ensures cause { IsSinkFault (K.faults out.old) (K.faults out.new) result }
 {
     let Ok((text, refused)) = answer_to(alloc, size, pick) else {
@@ -44,22 +45,54 @@ pub(crate) fn solve_made_up<K: Sink>(
 fn answer_to(alloc: Global, size: u8, pick: &mut Box<dyn Picker>) -> Result<(String, bool), Memory>
     requires some { 1 ≤ size }
     requires few { size ≤ most_made_up }
-    requires pick { rule pick.old ≡ rule_of depth }
-    ensures { IfOk result (λ said. AnswersSize size (string_bytes said.0) said.1) }
+    ensures { IfOk result (λ said. AnswersSize (rule pick.old) size (string_bytes said.0) said.1) }
 {
     let book = made_up(alloc, size)?;
     let mut session = Session::open(alloc, book, DEFAULT_BUDGET)?;
-    let command = Command::Solve(String::from_str(alloc, "gen")?);
-    let answer = session.apply(&command, pick)?;
-    let text = line_of(alloc, size, &answer, &session)?;
-    Ok((text, answer.is_refusal()))
+    answer_over(alloc, size, &mut session, pick)
 }
 
-// The line of an answer: the size comes before it.
-fn line_of(alloc: Global, size: u8, answer: &Answer, session: &Session) -> Result<String, Memory>
+// The same over the session that was opened.
+fn answer_over(
+    alloc: Global,
+    size: u8,
+    session: &mut Session,
+    pick: &mut Box<dyn Picker>,
+) -> Result<(String, bool), Memory>
+    requires opened { session.now.state ≡ opened (made_up size) default_budget }
+    ensures solves { IfOk result (λ said. AnswersSize (rule pick.old) size (string_bytes said.0) said.1) }
+{
+    let command = Command::Solve(String::from_str(alloc, "gen")?);
+    answer_command(alloc, size, &command, session, pick)
+}
+
+// The same of the command to solve the sheet.
+fn answer_command(
+    alloc: Global,
+    size: u8,
+    command: &Command,
+    session: &mut Session,
+    pick: &mut Box<dyn Picker>,
+) -> Result<(String, bool), Memory>
+    requires opened { session.now.state ≡ opened (made_up size) default_budget }
+    requires solve { spoken command.now ≡ Solve sheet_name }
+    ensures solves { IfOk result (λ said. AnswersSize (rule pick.old) size (string_bytes said.0) said.1) }
+{
+    let answer = session.apply(command, pick)?;
+    line_of(alloc, size, &answer, session)
+}
+
+// The line of an answer, before which the size comes, and whether the answer is a refusal.
+fn line_of(
+    alloc: Global,
+    size: u8,
+    answer: &Answer,
+    session: &Session,
+) -> Result<(String, bool), Memory>
     requires sheets { session.now.state.book.sheets ≡ sheet_name ∷ [] }
     requires said { CanBeSaid session.now.state.book.sheets answer.now }
-    ensures { IfOk result (λ text. string_bytes text ≡ made_up_line size answer.now) }
+    ensures line { IfOk result (λ said. string_bytes said.0 ≡ made_up_line size answer.now) }
+    ensures refusal { IfOk result (λ said. said.1 ≡ is_refusal (sheet_name ∷ []) answer.now) }
 {
     let mut text = String::from_str(alloc, "gen ")?;
     let mut digits = Buffer::new();
@@ -67,5 +100,5 @@ fn line_of(alloc: Global, size: u8, answer: &Answer, session: &Session) -> Resul
     text.push_str(" ")?;
     let said = line(alloc, answer, session.sheets())?;
     text.push_str(said.as_str())?;
-    Ok(text)
+    Ok((text, answer.is_refusal()))
 }

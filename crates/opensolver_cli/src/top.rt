@@ -1,38 +1,29 @@
 // The top call.
-ghost use Rattle.std.specs.Prelude.{◌≡◌, ◌≢◌, ◌<◌, ◌≤◌, ◌∷◌, [], All, Err, IfSome, Some, length, map, string_bytes, true};
-ghost use Rattle.cell_refs.specs.declared.limits.TheConstants.{SHEETS};
-ghost use Rattle.node_pick.specs.Rules.{best_first, depth_first, oldest_first};
+ghost use Rattle.std.specs.Prelude.{◌≡◌, ◌<◌, ◌≤◌, All, Some, length, map, string_bytes, true};
 ghost use Rattle.commands.specs.declared.units.TheConstants.{MOST_UNITS};
 ghost use Rattle.opensolver_cli.specs.Answering.{IsSinkFault, Says};
 ghost use Rattle.opensolver_cli.specs.Completeness.{EndsExactly};
-ghost use Rattle.opensolver_cli.specs.Findings.{book_in};
-ghost use Rattle.opensolver_cli.specs.Headline.{IsCounted, RunsAs};
-ghost use Rattle.opensolver_cli.specs.Inputs.{FindsAll, IsFaultOf, IsSourceLeft};
+ghost use Rattle.opensolver_cli.specs.Headline.{IsCounted, RunsAs, RunsScript, rule_of};
 ghost use Rattle.opensolver_cli.specs.Outside.{seen};
-ghost use Rattle.opensolver_cli.specs.Stops.{status_of, stop_line};
-ghost use Rattle.command_line.specs.Words.{Script, asked_of, is_sheet, rule_of, texts_of};
+ghost use Rattle.run_inputs.specs.Stops.{status_of, stop_line};
+ghost use Rattle.command_line.specs.Words.{Script, asked_of, is_sheet, texts_of};
 ghost use Rattle.command_line.specs.Read.{job_read, named_of, pick_read};
-ghost use Rattle.opensolver_cli.specs.declared.stop.Limit.TheVariants as limit;
-ghost use Rattle.opensolver_cli.specs.declared.stop.Stop.{Stop};
 
 use crate::Status;
 use crate::answer::{answer_records, say};
-use crate::files::open_files;
 use crate::made_up::solve_made_up;
-use crate::script::read_commands;
-use crate::stop::{End, Stop};
 use command_line::{Asked, Job, Named, Pick, request};
 use node_pick::Picker;
-use sheet_csv::Rows;
+use run_inputs::{End, Stop, find};
 use solver_io::{Folder, Sink, Source};
 use std::alloc::Global;
-use workbook::Workbook;
 
 const USAGE: &str =
     "usage: opensolver --names FILE [--budget N] [--pick depth|best|oldest] FILE...\n";
 
 /// Reads the files that the words name and the script to its end, answers each record of the script, and writes the files that it
-/// saves.
+/// saves. The three pickers are those for the deepest node, for the greatest bound and for the least number; the words say which of
+/// them a search asks, and the others are let go.
 pub fn run<F: Folder, S: Source, K: Sink>(
     alloc: Global,
     words: &[String],
@@ -41,9 +32,8 @@ pub fn run<F: Folder, S: Source, K: Sink>(
     out: &mut K,
     pickers: Vec<Box<dyn Picker>>,
 ) -> Status
-    requires three { map (λ p. rule p) pickers.items
-        ≡ depth_first ∷ best_first ∷ oldest_first ∷ [] }
-    ensures headline { RunsAs (asked_of (texts_of words.now))
+    requires three { length pickers.items ≡ 3 }
+    ensures headline { RunsAs (map (λ p. rule p) pickers.items) (asked_of (texts_of words.now))
         (seen (F.content folder.old) (F.read_faults folder.old)
         (F.write_faults folder.old) (F.write_wants folder.old) (S.left script.old)
         (S.faults script.old) (K.pieces out.old) (K.faults out.old))
@@ -81,9 +71,8 @@ pub fn run<F: Folder, S: Source, K: Sink>(
 
 // The picker that is asked for; the others are let go.
 fn picker_of(pickers: Vec<Box<dyn Picker>>, pick: Pick) -> Box<dyn Picker>
-    requires three { map (λ p. rule p) pickers.items
-        ≡ depth_first ∷ best_first ∷ oldest_first ∷ [] }
-    ensures { rule result ≡ rule_of (pick_read pick) }
+    requires three { length pickers.items ≡ 3 }
+    ensures { rule result ≡ rule_of (map (λ p. rule p) pickers.items) (pick_read pick) }
 {
     let mut pickers = pickers;
     match pick {
@@ -105,8 +94,7 @@ fn run_job<F: Folder, S: Source, K: Sink>(
     requires some { 0 < length job.now.named.sheets.items }
     requires sheets { All (λ w. is_sheet (string_bytes w) ≡ true) job.now.named.sheets.items }
     requires few { job.now.budget ≤ MOST_UNITS }
-    requires pick { rule pick.old ≡ rule_of (pick_read job.now.pick) }
-    ensures headline { RunsAs (Some (Script (job_read job.now)))
+    ensures headline { RunsScript (rule pick.old) (job_read job.now)
         (seen (F.content folder.old) (F.read_faults folder.old)
         (F.write_faults folder.old) (F.write_wants folder.old) (S.left script.old)
         (S.faults script.old) (K.pieces out.old) (K.faults out.old))
@@ -131,39 +119,6 @@ fn run_job<F: Folder, S: Source, K: Sink>(
         Err(End::Failed) => Status::ReadFault,
         Err(End::Memory) => Status::Memory,
     }
-}
-
-// Opens the files and reads the script.
-fn find<F: Folder, S: Source>(
-    alloc: Global,
-    named: &Named,
-    folder: &mut F,
-    script: &mut S,
-) -> Result<(Workbook, Rows), End>
-    requires some { 0 < length named.now.sheets.items }
-    requires sheets { All (λ w. is_sheet (string_bytes w) ≡ true) named.now.sheets.items }
-    ensures finds { IfSome (F.content folder.old) (λ files. IfSome (S.left script.old)
-        (λ bytes. FindsAll (named_of named.now) files bytes (S.left script.new) result)) }
-    ensures order { IfSome (F.content folder.old)
-        (λ files. (stop : Stop) → book_in (named_of named.now) files ≡ Err stop → IsSourceLeft
-        (S.left script.old) (S.left script.new) (S.faults script.old) (S.faults script.new)) }
-    ensures many { SHEETS < length named.now.sheets.items
-        → (result ≡ Err (End.Stopped (Stop.TooMuch limit.Sheets)))
-        × (F.read_faults folder.new ≡ F.read_faults folder.old) × IsSourceLeft
-        (S.left script.old) (S.left script.new) (S.faults script.old) (S.faults script.new) }
-    ensures folder { F.content folder.new ≡ F.content folder.old }
-    ensures writes { F.write_faults folder.new ≡ F.write_faults folder.old }
-    ensures wants { F.write_wants folder.new ≡ F.write_wants folder.old }
-    ensures read_fault { result ≡ Err End.Failed
-        → IsFaultOf (F.read_faults folder.old) (F.read_faults folder.new)
-        (S.left script.old) (S.left script.new) (S.faults script.old) (S.faults script.new) }
-    ensures no_read_fault { result ≢ Err End.Failed
-        → (F.read_faults folder.new ≡ F.read_faults folder.old)
-        × (S.faults script.new ≡ S.faults script.old) }
-{
-    let book = open_files(alloc, named, folder)?;
-    let rows = read_commands(alloc, script)?;
-    Ok((book, rows))
 }
 
 // Prints why a run ends before the first record.

@@ -1,10 +1,14 @@
 //! The run over the real thing: the words of the command line, the working directory, standard input and standard output.
 #![tactic(auto)]
 
-ghost use Rattle.std.specs.Prelude.{◌≡◌, IfOk, OnErr};
+ghost use Rattle.std.specs.Prelude.{◌≡◌, ◌∷◌, [], IfOk, OnErr, ⊤};
+ghost use Rattle.std.specs.Process.{exit_status};
+ghost use Rattle.node_pick.specs.Rules.{best_first, depth_first, oldest_first};
 ghost use Rattle.opensolver_cli.specs.Completeness.{EndsExactly};
 ghost use Rattle.opensolver_cli.specs.Headline.{IsCounted, RunsAs};
+ghost use Rattle.run_inputs.specs.Numbers.{number_of};
 ghost use Rattle.opensolver_cli.specs.Outside.{seen};
+ghost use Rattle.real_run.specs.Exits.{Tells};
 ghost use Rattle.command_line.specs.Words.{asked_of, texts_of};
 
 use node_pick::{Best, Depth, Oldest, Picker};
@@ -16,29 +20,72 @@ use std::io::ErrorKind;
 use std::process::ExitCode;
 use std::rt::Runtime;
 
-/// Runs over the real thing, and gives the number in which the run ends. Contracts say nothing of it, since they say nothing of what
-/// the real thing holds: all that is proved of a run stands on `opensolver_cli::run`.
-pub fn run_for_real<R: Runtime + AllocGlobal>(rt: R) -> ExitCode {
-    let status = match end_of_run(rt) {
-        Ok(status) => status,
-        Err(_) => Status::Memory,
-    };
-    ExitCode::from(status.number())
+/// Runs over the real thing, and gives the number in which the run ends. A contract can't say which one, since none says what the real
+/// thing holds: that it is the one that the run answers is a clause of `run_to_end`.
+pub fn run_for_real<R: Runtime + AllocGlobal>(rt: R) -> ExitCode
+    ensures { Tells (λ _. ⊤) result }
+{
+    match end_of_run(rt) {
+        Ok(code) => code,
+        Err(_) => exit_code(Status::Memory),
+    }
 }
 
-// Runs over the words, and says how the run ends.
-fn end_of_run<R: Runtime + AllocGlobal>(rt: R) -> Result<Status, AllocError> {
+// Runs over the words.
+fn end_of_run<R: Runtime + AllocGlobal>(rt: R) -> Result<ExitCode, AllocError>
+    ensures { IfOk result (Tells (λ _. ⊤)) }
+{
     let words = words(&rt)?;
     let mut folder = DirFolder::new(rt.clone()?);
     let mut script = InSource::new(rt.clone()?);
     let mut out = OutSink::new(rt.clone()?);
-    run_with_pickers(
+    let code = run_to_end(
         rt.alloc(),
         words.as_slice(),
         &mut folder,
         &mut script,
         &mut out,
-    )
+    );
+    Ok(code)
+}
+
+// The exit code that tells how a run ends.
+fn exit_code(status: Status) -> ExitCode
+    ensures { exit_status result ≡ number_of status }
+{
+    ExitCode::from(status.number())
+}
+
+/// A run with a picker of each rule, and the exit code that tells how it ends: the number of one status, as which it runs.
+pub fn run_to_end<F: Folder, S: Source, K: Sink>(
+    alloc: Global,
+    words: &[String],
+    folder: &mut F,
+    script: &mut S,
+    out: &mut K,
+) -> ExitCode
+    ensures { Tells (λ ends.
+        RunsAs (depth_first ∷ best_first ∷ oldest_first ∷ []) (asked_of (texts_of words.now))
+        (seen (F.content folder.old) (F.read_faults folder.old)
+        (F.write_faults folder.old) (F.write_wants folder.old) (S.left script.old)
+        (S.faults script.old) (K.pieces out.old) (K.faults out.old))
+        (seen (F.content folder.new) (F.read_faults folder.new)
+        (F.write_faults folder.new) (F.write_wants folder.new) (S.left script.new)
+        (S.faults script.new) (K.pieces out.new) (K.faults out.new)) ends
+        × EndsExactly (asked_of (texts_of words.now)) (F.content folder.old)
+        (S.left script.old) ends
+        × IsCounted
+        (seen (F.content folder.old) (F.read_faults folder.old)
+        (F.write_faults folder.old) (F.write_wants folder.old) (S.left script.old)
+        (S.faults script.old) (K.pieces out.old) (K.faults out.old))
+        (seen (F.content folder.new) (F.read_faults folder.new)
+        (F.write_faults folder.new) (F.write_wants folder.new) (S.left script.new)
+        (S.faults script.new) (K.pieces out.new) (K.faults out.new)) ends) result }
+{
+    match run_with_pickers(alloc, words, folder, script, out) {
+        Ok(status) => exit_code(status),
+        Err(_) => exit_code(Status::Memory),
+    }
 }
 
 /// A run with a picker of each rule, each in a box of its own. An `Err` is want of memory for the boxes: then nothing was read.
@@ -49,7 +96,7 @@ pub fn run_with_pickers<F: Folder, S: Source, K: Sink>(
     script: &mut S,
     out: &mut K,
 ) -> Result<Status, AllocError>
-    ensures headline { IfOk result (RunsAs (asked_of (texts_of words.now))
+    ensures headline { IfOk result (RunsAs (depth_first ∷ best_first ∷ oldest_first ∷ []) (asked_of (texts_of words.now))
         (seen (F.content folder.old) (F.read_faults folder.old)
         (F.write_faults folder.old) (F.write_wants folder.old) (S.left script.old)
         (S.faults script.old) (K.pieces out.old) (K.faults out.old))

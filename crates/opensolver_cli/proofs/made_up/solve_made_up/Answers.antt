@@ -10,5 +10,5 @@ returns-clause-solves g c =
       | then-refused w ↦ w.status-is ∙ sym (ap status_by w.if-refused.true)
       | else-refused w ↦ w.status-is ∙ sym (ap status_by w.if-refused.false)
     ] in
-    answer_said c.args.size (string_bytes c.in-Ok.text) c.in-Ok.refused c.as_str.result.now c.if-refused.status (g.K.Sink.pieces c.args.out.now) (g.K.Sink.pieces c.say.new.out) c.say.result c.in-Ok.ensures c.as_str.ensures.value by
+    answer_said _ c.args.size (string_bytes c.in-Ok.text) c.in-Ok.refused c.as_str.result.now c.if-refused.status (g.K.Sink.pieces c.args.out.now) (g.K.Sink.pieces c.say.new.out) c.say.result c.in-Ok.ensures c.as_str.ensures.value by
     c.say.ensures.says

@@ -2,9 +2,9 @@ use Rattle.std.proofs.Common.{ℕ, ◌<◌, inl, inr, refl, ap, subst, ◌∙◌
 use Rattle.std.specs.Prelude.{Err}
 use Rattle.cell_refs.specs.declared.limits.TheConstants.{SHEETS}
 use Rattle.opensolver_cli.specs.Outside.{Outside, seen, written}
-use Rattle.opensolver_cli.specs.Stops.{stop_line}
+use Rattle.run_inputs.specs.Stops.{stop_line}
 use Rattle.command_line.specs.Read.{job_read, named_of}
-use Rattle.opensolver_cli.proofs.FileLaws.{length_texts}
+use Rattle.run_inputs.proofs.FileLaws.{length_texts}
 use Rattle.opensolver_cli.proofs.RunLaws.{IsFound, answered_counted, answered_exactly, answered_over, fault_over, memory_counted, memory_exactly, read_fault_counted, read_fault_exactly, run_answered, run_stopped, run_unseen, said_counted, stopped_exactly}
 use Rattle.opensolver_cli.proofs.top.run_job.Goals as goal
 
@@ -18,8 +18,8 @@ returns-in-Ok-clause-headline g c =
       order = c.in-Ok.ensures.order;
       many = λ big. absurd (cc (c.in-Ok.ensures.many (subst (λ (k : ℕ). SHEETS < k) (length_texts c.args.job.now.named.sheets.items) big)).0);
     } in
-    run_answered job before after c.in-Ok.book c.in-Ok.rows c.answer_records.result is c.in-Ok.ensures.finds
-    (answered_over job c.in-Ok.book c.in-Ok.rows (g.F.Folder.content c.find.new.folder) (g.F.Folder.content c.args.folder.now) (g.F.Folder.write_faults c.find.new.folder) (g.F.Folder.write_wants c.find.new.folder) (g.F.Folder.write_faults c.args.folder.now) (g.F.Folder.write_wants c.args.folder.now) (g.K.Sink.pieces c.args.out.now) (g.K.Sink.faults c.args.out.now) (written after) c.answer_records.result c.in-Ok.ensures.folder c.in-Ok.ensures.writes c.in-Ok.ensures.wants c.answer_records.ensures.answers)
+    run_answered _ job before after c.in-Ok.book c.in-Ok.rows c.answer_records.result is c.in-Ok.ensures.finds
+    (answered_over _ job c.in-Ok.book c.in-Ok.rows (g.F.Folder.content c.find.new.folder) (g.F.Folder.content c.args.folder.now) (g.F.Folder.write_faults c.find.new.folder) (g.F.Folder.write_wants c.find.new.folder) (g.F.Folder.write_faults c.args.folder.now) (g.F.Folder.write_wants c.args.folder.now) (g.K.Sink.pieces c.args.out.now) (g.K.Sink.faults c.args.out.now) (written after) c.answer_records.result c.in-Ok.ensures.folder c.in-Ok.ensures.writes c.in-Ok.ensures.wants c.answer_records.ensures.answers)
 
 pub returns-in-Ok-clause-exactly : goal.returns-in-Ok-clause-exactly
 returns-in-Ok-clause-exactly g c =
@@ -45,7 +45,7 @@ returns-in-Err-Stopped-clause-headline g c =
       order = c.in-Err-Stopped.ensures.order;
       many = λ big. let m = c.in-Err-Stopped.ensures.many (subst (λ (k : ℕ). SHEETS < k) (length_texts c.args.job.now.named.sheets.items) big) in (record { files = c.in-Err-Stopped.ensures.folder; reads = m.1; writes = c.in-Err-Stopped.ensures.writes; wants = c.in-Err-Stopped.ensures.wants }, m.2);
     } in
-    run_stopped job before after c.in-Err-Stopped.stop c.say_stop.result is c.in-Err-Stopped.ensures.folder (rw c.in-Err-Stopped.field-0-is at c.in-Err-Stopped.ensures.finds) c.say_stop.ensures.says
+    run_stopped _ job before after c.in-Err-Stopped.stop c.say_stop.result is c.in-Err-Stopped.ensures.folder (rw c.in-Err-Stopped.field-0-is at c.in-Err-Stopped.ensures.finds) c.say_stop.ensures.says
 
 pub returns-in-Err-Stopped-clause-exactly : goal.returns-in-Err-Stopped-clause-exactly
 returns-in-Err-Stopped-clause-exactly g c =
@@ -70,7 +70,7 @@ returns-in-Err-Failed-clause-headline g c =
       order = c.in-Err-Failed.ensures.order;
       many = λ big. let m = c.in-Err-Failed.ensures.many (subst (λ (k : ℕ). SHEETS < k) (length_texts c.args.job.now.named.sheets.items) big) in (record { files = c.in-Err-Failed.ensures.folder; reads = m.1; writes = c.in-Err-Failed.ensures.writes; wants = c.in-Err-Failed.ensures.wants }, m.2);
     } in
-    run_unseen job before after _ is c.in-Err-Failed.ensures.folder (inl refl) refl
+    run_unseen _ job before after _ is c.in-Err-Failed.ensures.folder (inl refl) refl
 
 pub returns-in-Err-Failed-clause-exactly : goal.returns-in-Err-Failed-clause-exactly
 returns-in-Err-Failed-clause-exactly g c =
@@ -94,7 +94,7 @@ returns-in-Err-Memory-clause-headline g c =
       order = c.in-Err-Memory.ensures.order;
       many = λ big. let m = c.in-Err-Memory.ensures.many (subst (λ (k : ℕ). SHEETS < k) (length_texts c.args.job.now.named.sheets.items) big) in (record { files = c.in-Err-Memory.ensures.folder; reads = m.1; writes = c.in-Err-Memory.ensures.writes; wants = c.in-Err-Memory.ensures.wants }, m.2);
     } in
-    run_unseen job before after _ is c.in-Err-Memory.ensures.folder (inr refl) refl
+    run_unseen _ job before after _ is c.in-Err-Memory.ensures.folder (inr refl) refl
 
 pub returns-in-Err-Memory-clause-exactly : goal.returns-in-Err-Memory-clause-exactly
 returns-in-Err-Memory-clause-exactly g c =

@@ -1,0 +1,5 @@
+pub mod Stops
+pub mod Opening
+pub mod Findings
+pub mod Inputs
+pub mod Numbers
