@@ -20,7 +20,7 @@ use Rattle.session.specs.Edits.{and_then, cell_to_set, home_to_name, home_to_unn
 use Rattle.session.specs.Laws.{OtherSearchesStay, OthersStay, SearchesAreApart, SheetsStay, searched, none, more}
 use Rattle.session.specs.Saves.{Saves}
 use Rattle.session.specs.Solves.{SearchEnds, WithModel}
-use Rattle.session.specs.States.{SessionState, open_search, other_searches}
+use Rattle.session.specs.States.{SessionState, open_search, other_searches, with_book}
 use Rattle.session.specs.Steps.{Applies, Does, Shows, Step, once_written}
 use Rattle.session.specs.declared.open_searches.TheConstants.{MOST_SEARCHES}
 use Rattle.session.proofs.Said.{if_ok_map}
@@ -40,6 +40,9 @@ at_each sheet before after h = record { search = ap (λ (l : List (Option Opened
 
 unchanged : (before after : SessionState) → after ≡ before → StayAll before after
 unchanged before after e = subst (λ (s : SessionState). StayAll before s) (sym e) (record { searches = refl; sheets = refl })
+
+nothing_written : (before after : SessionState) (book : State) → after ≡ with_book before book → book ≡ before.book → StayAll before after
+nothing_written before after book e same = unchanged before after (e ∙ ap (λ (b : State). with_book before b) same)
 
 -- ---- another sheet's search is put in or taken out
 put_elsewhere : (s : SessionState) (i sheet : ℕ) (x : Option Opened) → Some i ≢ Some sheet → open_search (record s { searches = set s.searches i x }) sheet ≡ open_search s sheet
@@ -96,15 +99,15 @@ does P Act before (Err r) a after h g d = g d.1
 
 search_ends : (task : Task) (before : SessionState) (s : Statement) (m : Model) (a : Answer) (after : SessionState) → SearchEnds task before s m a after → StayAll before after
 search_ends task before s m (answer.Optimal v) after h = record {
-  searches = ap (λ (s : SessionState). s.searches) h.6;
-  sheets = ap (λ (s : SessionState). s.book.sheets) h.6 ∙ ap (λ (b : State). b.sheets) h.5.written;
+  searches = ap (λ (s : SessionState). s.searches) h.2;
+  sheets = ap (λ (s : SessionState). s.book.sheets) h.2 ∙ ap (λ (b : State). b.sheets) h.1.4.written;
 }
-search_ends task before s m answer.Infeasible after h = unchanged before after h.3
-search_ends task before s m answer.Unbounded after h = unchanged before after h.5
-search_ends task before s m (answer.WidePivot path basis leaves enters) after h = unchanged before after h.4
-search_ends task before s m (answer.Budget n) after h = unchanged before after h.4
-search_ends task before s m (answer.NoRoom c) after h = unchanged before after h.5
-search_ends task before s m _ after h = absurd h
+search_ends task before s m answer.Infeasible after h = nothing_written before after h.0 h.2 h.1.3
+search_ends task before s m answer.Unbounded after h = nothing_written before after h.0 h.2 h.1.5
+search_ends task before s m (answer.WidePivot path basis leaves enters) after h = nothing_written before after h.0 h.2 h.1.2
+search_ends task before s m (answer.Budget n) after h = nothing_written before after h.0 h.2 h.1.4
+search_ends task before s m (answer.NoRoom c) after h = nothing_written before after h.0 h.2 h.1.5
+search_ends task before s m _ after h = absurd h.1
 
 sliced : (sheet : ℕ) (task : Task) (before : SessionState) (i : ℕ) (p : Prepared) (a : Answer) (after : SessionState) → Some i ≢ Some sheet → Sliced task before i p a after → StaysAt sheet before after
 sliced sheet task before i p (answer.More n) after other h = elsewhere before before after i sheet _ other (unchanged before before refl) h.5

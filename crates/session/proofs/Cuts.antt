@@ -18,7 +18,9 @@ use Rattle.session.specs.Cuts.{Begins, Cut, IsUnderWay, Sliced, Slices, cut, cut
 use Rattle.session.specs.Edits.{and_then}
 use Rattle.session.specs.Inner.{Spends, search_after}
 use Rattle.session.specs.Interrupted.{IsAllowed, IsInterrupted}
-use Rattle.session.specs.Solves.{WithModel}
+use Rattle.session.specs.Solves.{WithModel, with_written}
+use Rattle.workbook.specs.State.{State}
+use Rattle.cell_refs.specs.declared.cell.Cell.{Cell}
 use Rattle.session.specs.States.{SessionState, open_search, other_searches, with_book, with_changed, with_search, without_search}
 use Rattle.session.specs.Steps.{Does}
 use Rattle.session.specs.declared.open_searches.TheConstants.{MOST_SEARCHES}
@@ -186,31 +188,41 @@ taken_at s before l i sheet e h f = put_at s before l i sheet None None e h f re
 pub found_at : (s before : SessionState) (i sheet : ℕ) (o : Option Opened) (x : Opened) → s ≡ before → i ≡ sheet → o ≡ get_or s.searches i None → o ≡ Some x → open_search before sheet ≡ Some x
 found_at s before i sheet o x e f h g = sym (asked_at before s.searches i sheet (ap (λ (s : SessionState). s.searches) e) f) ∙ (sym h ∙ g)
 
+-- where an optimum is written apart from the search, it is written beside it
+written_apart : (s : SessionState) (sheet : ℕ) (a : Answer) (cells : List Cell) (book : State)
+    → without_search (with_written a cells (with_book (without_search s sheet) book)) sheet ≡ without_search (with_written a cells (with_book s book)) sheet
+written_apart s sheet (answer.Optimal value) cells book = taken_again (with_changed (with_book s book) cells) sheet
+written_apart s sheet _ cells book = taken_again (with_book s book) sheet
+
 -- a search that was taken out, gone on with, and put back or not
 pub gone_on : (task : Task) (before : SessionState) (sheet : ℕ) (p : Prepared) (a : Answer) (o : Opened) (middle after : SessionState)
     → Spends task (without_search before sheet) p.statement p.model a o middle → after ≡ with_left middle sheet (search_after a o) → Sliced task before sheet p a after
-gone_on task before sheet p (answer.More n) o middle after h e =
-    (h.0, h.1, h.2, h.3, h.4, e ∙ (ap (λ (m : SessionState). with_search m sheet o) h.6 ∙ (put_again before sheet o ∙ ap (λ (o : Opened). with_search before sheet o) h.5)))
-gone_on task before sheet p (answer.Optimal v) o middle after h e =
-    let ended : SessionState = with_changed (with_book before h.3) p.statement.decisions in
-    (ended, (h.0, h.1, h.2, h.3, h.4, h.5, refl), e ∙ (ap (λ (m : SessionState). without_search m sheet) h.6 ∙ taken_again ended sheet))
-gone_on task before sheet p answer.Infeasible o middle after h e =
-    (before, (h.0, h.1, h.2, refl), e ∙ (ap (λ (m : SessionState). without_search m sheet) h.3 ∙ taken_again before sheet))
-gone_on task before sheet p answer.Unbounded o middle after h e =
-    (before, (h.0, h.1, h.2, h.3, h.4, refl), e ∙ (ap (λ (m : SessionState). without_search m sheet) h.5 ∙ taken_again before sheet))
-gone_on task before sheet p (answer.WidePivot path basis leaves enters) o middle after h e =
-    (before, (h.0, h.1, h.2, h.3, refl), e ∙ (ap (λ (m : SessionState). without_search m sheet) h.4 ∙ taken_again before sheet))
-gone_on task before sheet p (answer.Budget n) o middle after h e =
-    (before, (h.0, h.1, h.2, h.3, refl), e ∙ (ap (λ (m : SessionState). without_search m sheet) h.4 ∙ taken_again before sheet))
-gone_on task before sheet p (answer.NoRoom c) o middle after h e =
-    (before, (h.0, h.1, h.2, h.3, h.4, refl), e ∙ (ap (λ (m : SessionState). without_search m sheet) h.5 ∙ taken_again before sheet))
-gone_on task before sheet p _ o middle after h e = absurd h
+gone_on task before sheet p (answer.More n) o middle after h e = (
+  h.1.0,
+  h.1.1,
+  h.1.2,
+  h.1.3,
+  h.1.4,
+  e ∙ (ap (λ (m : SessionState). with_search m sheet o) (h.2 ∙ ap (λ (b : State). with_book (without_search before sheet) b) h.1.6)
+      ∙ (put_again before sheet o ∙ ap (λ (o : Opened). with_search before sheet o) h.1.5)),
+)
+gone_on task before sheet p a o middle after h e = (
+  with_written a p.statement.decisions (with_book before h.0),
+  (h.0, h.1, refl),
+  e ∙ (ap (λ (m : SessionState). without_search m sheet) h.2 ∙ written_apart before sheet a p.statement.decisions h.0),
+)
 
 -- a search that was begun apart, and put in the place of the other, or not
 begun_anew : (task : Task) (before : SessionState) (sheet : ℕ) (p : Prepared) (a : Answer) (o : Opened) (middle after : SessionState) → Spends task before p.statement p.model a o middle
     → after ≡ with_left middle sheet (search_after a o) → Sliced task before sheet p a after
-begun_anew task before sheet p (answer.More n) o middle after h e =
-    (h.0, h.1, h.2, h.3, h.4, e ∙ (ap (λ (m : SessionState). with_search m sheet o) h.6 ∙ ap (λ (o : Opened). with_search before sheet o) h.5))
+begun_anew task before sheet p (answer.More n) o middle after h e = (
+  h.1.0,
+  h.1.1,
+  h.1.2,
+  h.1.3,
+  h.1.4,
+  e ∙ (ap (λ (m : SessionState). with_search m sheet o) (h.2 ∙ ap (λ (b : State). with_book before b) h.1.6) ∙ ap (λ (o : Opened). with_search before sheet o) h.1.5),
+)
 begun_anew task before sheet p a o middle after h e = (middle, h, e)
 
 -- the same of a model that is known to be the sheet's
@@ -299,7 +311,7 @@ begins_sheet before sheet p a after is h = subst (λ (a : Answer). WithModel (Be
 
 pub slices_sheet : (rule : Rule) (before : SessionState) (c : Cut) (p : Prepared) (a : Answer) (after : SessionState) → IsPrepared before.book c.sheet p → Slices rule before c p a after
     → WithModel (Slices rule before c) before c.sheet a after
-slices_sheet rule before c p (answer.Names fault) after is h = absurd h.2.1
-slices_sheet rule before c p (answer.Form refusal) after is h = absurd h.2.1
-slices_sheet rule before c p (answer.WideRow row) after is h = absurd h.2.1
+slices_sheet rule before c p (answer.Names fault) after is h = absurd h.2.1.1
+slices_sheet rule before c p (answer.Form refusal) after is h = absurd h.2.1.1
+slices_sheet rule before c p (answer.WideRow row) after is h = absurd h.2.1.1
 slices_sheet rule before c p a after is h = (p, is, h)

@@ -5,7 +5,6 @@ mod edits;
 mod laws;
 mod models;
 mod open_searches;
-mod paths;
 mod saving;
 mod session;
 mod slicing;

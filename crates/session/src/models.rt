@@ -1,10 +1,10 @@
 // The models of sheets.
 ghost use Rattle.std.specs.Prelude.{◌≡◌, ◌<◌, ℕ, Err, IfErr, IfOk, length};
 ghost use Rattle.commands.specs.Lines.{CanBeSaid};
-ghost use Rattle.session.specs.Models.{HasNoModel, Models};
+ghost use Rattle.session.specs.Models.{Models};
 ghost use Rattle.sheet_problems.specs.Laws.{ModelIsTheSheet};
 ghost use Rattle.workbook.specs.State.{State};
-ghost use Rattle.sheet_linear_model.specs.Answers.{Prepares, StopIsListed, prepared_of};
+ghost use Rattle.sheet_linear_model.specs.Answers.{HasNoModel, Prepares, StopIsListed, prepared_of};
 ghost use Rattle.sheet_linear_model.specs.Prepared.{IsPrepared};
 ghost use Rattle.statement_laws.specs.Laws.{IsWhole};
 ghost use Rattle.solver_names.specs.Answers.{statement_of};
@@ -38,9 +38,7 @@ pub(crate) fn answer_without_model(stop: NoModel) -> Result<Answer, Memory>
         → Prepares book sheet (Err stop) → StopIsListed book stop → CanBeSaid book.sheets answer) }
 {
     match stop {
-        NoModel::Names(fault) => Ok(Answer::Names(fault)),
-        NoModel::Form(refusal) => Ok(Answer::Form(refusal)),
-        NoModel::WideRow(row) => Ok(Answer::WideRow(row)),
+        NoModel::Refused(answer) => Ok(answer),
         NoModel::Memory => Err(Memory),
     }
 }

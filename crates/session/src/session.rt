@@ -4,7 +4,6 @@ ghost use Rattle.sheet_linear_model.specs.Answers.{prepared_of};
 ghost use Rattle.sheet_linear_model.specs.Prepared.{IsPrepared};
 ghost use Rattle.sheet_problems.specs.Laws.{ModelIsTheSheet};
 ghost use Rattle.sheet_solving.specs.Searches.{whole_task};
-ghost use Rattle.sheet_solving.specs.Solving.{CellsAreListed};
 ghost use Rattle.solver_names.specs.Answers.{statement_of};
 ghost use Rattle.statement_laws.specs.Laws.{IsWhole};
 ghost use Rattle.workbook.specs.Edits.{is_outside, set_fault};
@@ -13,24 +12,22 @@ ghost use Rattle.commands.specs.Commands.{Model as ToModel, Set, Show, Solve, sp
 ghost use Rattle.commands.specs.Lines.{CanBeSaid};
 ghost use Rattle.commands.specs.Locating.{cell_named, sheet_named};
 ghost use Rattle.session.specs.Edits.{cell_to_set, unless};
-ghost use Rattle.session.specs.Inner.{IsWidePivot, TellsEnd};
 ghost use Rattle.session.specs.Interrupted.{IsInterrupted, IsUntouched};
 ghost use Rattle.session.specs.Laws.{Counts, OthersStay};
-ghost use Rattle.session.specs.Solves.{SearchEnds, SolvesSheet};
+ghost use Rattle.session.specs.Solves.{SearchEnds, SolvesSheet, with_written};
 ghost use Rattle.session.specs.States.{IsSession, opened, with_changed};
 ghost use Rattle.session.specs.Steps.{Applies, Does, IsDone, ModelsSheet, Shows, with_text};
 
 use crate::edits::told_fault;
 use crate::models::{answer_without_model, model_of, prepare_sheet};
 use crate::open_searches::no_searches;
-use crate::paths::steps_of;
 use cell_refs::{Cell, SheetId, SheetNames};
 use commands::{Answer, Command, MOST_UNITS, Memory, locate};
 use dep_table::Deps;
 use node_pick::Picker;
 use recalc::{Shown, value};
 use sheet_linear_model::Prepared;
-use sheet_solving::{OpenSearch, Solved, solve};
+use sheet_solving::{OpenSearch, solve};
 use std::alloc::Global;
 use std::marker::Model;
 use workbook::{Adj, Workbook};
@@ -291,35 +288,18 @@ impl Session {
         ensures rule { rule pick.new ≡ rule pick.old }
     {
         let adj = prepared.statement.adj.copy()?;
-        let end = solve(self.alloc, &mut self.book, prepared, self.budget, pick)?;
-        self.tell(&adj, end)
+        let answer = solve(self.alloc, &mut self.book, prepared, self.budget, pick)?;
+        self.mark_written(&adj, &answer);
+        Ok(answer)
     }
 
-    // Tells how a search of the model with these cells to be decided ended, once an optimum is written.
-    pub(crate) fn tell(&mut self, adj: &Adj, end: Solved) -> Result<Answer, Memory>
-        requires listed { All (IsListed self.old.state.book.sheets) adj.now }
-        requires said { CellsAreListed self.old.state.book end }
-        ensures tells { IfOk result (λ answer.
-            TellsEnd end adj.now self.old.state answer self.new.state) }
-        ensures said { IfOk result (CanBeSaid self.old.state.book.sheets) }
-        ensures sheets { self.new.state.book.sheets ≡ self.old.state.book.sheets }
-        ensures memory { OnErr result (self.new.state ≡ self.old.state) }
-        ensures wide { OnErr result (IsWidePivot end) }
+    // Where an optimum is written into these cells, the files of their sheets count as changed.
+    pub(crate) fn mark_written(&mut self, adj: &Adj, answer: &Answer)
+        requires { All (IsListed self.old.state.book.sheets) adj.now }
+        ensures { self.new.state ≡ with_written answer.now adj.now self.old.state }
     {
-        match end {
-            Solved::Optimal(value) => {
-                self.mark(adj.cells());
-                Ok(Answer::Optimal(value))
-            }
-            Solved::Infeasible => Ok(Answer::Infeasible),
-            Solved::Unbounded => Ok(Answer::Unbounded),
-            Solved::More(units) => Ok(Answer::More(units)),
-            Solved::WidePivot(path, basis, leaves, enters) => {
-                let path = steps_of(self.alloc, &path)?;
-                Ok(Answer::WidePivot(path, basis, leaves, enters))
-            }
-            Solved::Budget(units) => Ok(Answer::Budget(units)),
-            Solved::NoRoom(cell) => Ok(Answer::NoRoom(cell)),
+        if let Answer::Optimal(_) = answer {
+            self.mark(adj.cells());
         }
     }
 

@@ -328,7 +328,8 @@ impl Session {
             units,
             budget: self.budget,
         };
-        let end = slice(self.alloc, &mut self.book, statement, search, allowed, pick)?;
-        self.tell(&statement.adj, end)
+        let answer = slice(self.alloc, &mut self.book, statement, search, allowed, pick)?;
+        self.mark_written(&statement.adj, &answer);
+        Ok(answer)
     }
 }

@@ -19,6 +19,7 @@ use Rattle.sheet_problems.specs.Forms.{HasForm, HasSides, conditions_of}
 use Rattle.sheet_problems.specs.Laws.{ModelIsTheSheet}
 use Rattle.sheet_problems.proofs.Fitting.{forms_fit}
 use Rattle.sheet_problems.proofs.Modelled.{linear_model_is_the_sheet}
+use Rattle.commands.specs.declared.answer.Answer.TheVariants as answer
 use Rattle.sheet_linear_model.specs.Answers.{Prepares, StopIsListed}
 use Rattle.sheet_linear_model.specs.Inner.{IsModelled, IsStatement}
 use Rattle.sheet_linear_model.specs.Prepared.{HaveForms, rows_of}
@@ -41,13 +42,11 @@ module _ (book : State) (sheet : ℕ) (s : Statement) (objective : AffineForm) (
   model_is_the_sheet m e = subst (λ (m : Model). ModelIsTheSheet book s m) (sym e) (linear_model_is_the_sheet book sheet s objective sides h.stated h.forms)
 
   pub stop_prepares : (e : NoModel) → IsModelled (rows_of s objective sides) (Err e) → Prepares book sheet (Err e)
-  stop_prepares (none.Names f) m = absurd m
-  stop_prepares (none.Form r) m = absurd m
-  stop_prepares (none.WideRow k) m = record { statement = s; objective = objective; sides = sides; forms = h; wide = m }
+  stop_prepares (none.Refused (answer.WideRow k)) m = record { statement = s; objective = objective; sides = sides; forms = h; wide = m }
+  stop_prepares (none.Refused _) m = absurd m
   stop_prepares none.Memory m = tt
 
   pub stop_said : (e : NoModel) → IsModelled (rows_of s objective sides) (Err e) → StopIsListed book e
-  stop_said (none.Names f) m = absurd m
-  stop_said (none.Form r) m = absurd m
-  stop_said (none.WideRow k) m = tt
+  stop_said (none.Refused (answer.WideRow k)) m = tt
+  stop_said (none.Refused _) m = absurd m
   stop_said none.Memory m = tt

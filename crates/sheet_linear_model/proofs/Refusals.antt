@@ -29,14 +29,16 @@ use Rattle.form_needs.specs.Needed as needed
 use Rattle.form_needs.specs.declared.refusal.FormRefusal.{FormRefusal}
 use Rattle.form_needs.specs.declared.refusal.FormRefusal.TheVariants as refusal
 use Rattle.statement_laws.specs.Laws.{FaultsAreListed, IsWhole}
-use Rattle.sheet_linear_model.specs.Answers.{PlaceIsListed, Prepares, RefusalIsListed, StopIsListed}
+use Rattle.commands.specs.Refusals.{PlaceIsListed, RefusalIsListed}
+use Rattle.commands.specs.declared.answer.Answer.TheVariants as answer
+use Rattle.sheet_linear_model.specs.Answers.{Prepares, StopIsListed}
 use Rattle.sheet_linear_model.specs.Inner.{IsStatement, stop_of}
 use Rattle.sheet_linear_model.specs.Prepared.{IsRefutedAt, IsRight}
 use Rattle.sheet_linear_model.specs.declared.prepared.NoModel.TheVariants as none
 use Rattle.sheet_linear_model.proofs.Rooted.{roots_are_listed}
 
 -- ---- faults
-pub stop_is : (e : NamesFault) → (e ≡ told.Memory → ⊥) → none.Names e ≡ stop_of e
+pub stop_is : (e : NamesFault) → (e ≡ told.Memory → ⊥) → none.Refused (answer.Names e) ≡ stop_of e
 stop_is told.Memory other = absurd (other refl)
 stop_is told.NoNames other = refl
 stop_is (told.BadReference text) other = refl
@@ -81,18 +83,18 @@ text_is_listed book c texts h = by (get book.contents c) refl
     by (Some text) e = texts c text e
 
 module _ (book : State) (s : Statement) (whole : IsWhole book s) (texts : TextsAreListed book) where
-  root_is_listed : (p : Place) → Contains (roots_of s) p → PlaceIsListed book p
-  root_is_listed p i = All-contains (PlaceIsListed book) (roots_of s) p (roots_are_listed book s whole) i
+  root_is_listed : (p : Place) → Contains (roots_of s) p → PlaceIsListed book.sheets p
+  root_is_listed p i = All-contains (PlaceIsListed book.sheets) (roots_of s) p (roots_are_listed book s whole) i
 
   looked_is_listed : (p : Place) (b : Cell) → needed.PlaceLooksAt (asked_of book s) p b → IsListed book.sheets b
   looked_is_listed (place.Cell a) b h = text_is_listed book b texts h.2
   looked_is_listed (place.Side k) b h = text_is_listed book b texts h.2.1
 
-  needed_is_listed : (p : Place) → IsNeeded (asked_of book s) p → PlaceIsListed book p
+  needed_is_listed : (p : Place) → IsNeeded (asked_of book s) p → PlaceIsListed book.sheets p
   needed_is_listed _ (needed.root p i d) = root_is_listed p i
   needed_is_listed _ (needed.looked p b n l) = looked_is_listed p b l
 
-  refusal_is_listed : (r : FormRefusal) → FirstRefusal (asked_of book s) r → RefusalIsListed book r
+  refusal_is_listed : (r : FormRefusal) → FirstRefusal (asked_of book s) r → RefusalIsListed book.sheets r
   refusal_is_listed (refusal.Malformed c) h = needed_is_listed (place.Cell c) h.holds.0
   refusal_is_listed (refusal.Circular p) h = needed_is_listed p h.1.holds.0
   refusal_is_listed (refusal.NotAffine p at) h = needed_is_listed p h.2.0
@@ -129,8 +131,8 @@ refusal_is_right q (refusal.NotNumber p) h = tt
 
 -- ---- what is answered of a refusal
 module _ (book : State) (s : Statement) (is : IsStatement book s) (r : FormRefusal) (h : FirstRefusal (asked_of book s) r) where
-  pub refusal_prepares : Prepares book s.sheet (Err (none.Form r))
+  pub refusal_prepares : Prepares book s.sheet (Err (none.Refused (answer.Form r)))
   refusal_prepares = record { statement = s; stated = is.stated; first = h; right = refusal_is_right (asked_of book s) r h }
 
-  pub refusal_said : TextsAreListed book → StopIsListed book (none.Form r)
+  pub refusal_said : TextsAreListed book → StopIsListed book (none.Refused (answer.Form r))
   refusal_said texts = refusal_is_listed book s is.whole texts r h

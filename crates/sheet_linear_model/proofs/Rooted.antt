@@ -21,7 +21,7 @@ use Rattle.form_needs.proofs.Numbers.{forms_where_none_is_refused}
 use Rattle.statement_laws.specs.Laws.{IsThere, IsWhole, RowIsThere}
 use Rattle.needed_cells.specs.Settled.{IsRoot}
 use Rattle.extract_incr.specs.Keeping.{Kept, asked_from}
-use Rattle.sheet_linear_model.specs.Answers.{PlaceIsListed}
+use Rattle.commands.specs.Refusals.{PlaceIsListed}
 use Rattle.sheet_linear_model.specs.Inner.{HasNumber, IsKeptFor, RowHasNumbers}
 
 abbrev pub places : RowOf → List Place
@@ -46,7 +46,7 @@ there_root : (sheets : List (List ℕ)) (sides : Sides) (p : Place) → IsThere 
 there_root sheets sides (place.Cell c) h = tt
 there_root sheets sides (place.Side k) h = h
 
-there_listed : (book : State) (sides : Sides) (p : Place) → IsThere book.sheets sides p → PlaceIsListed book p
+there_listed : (book : State) (sides : Sides) (p : Place) → IsThere book.sheets sides p → PlaceIsListed book.sheets p
 there_listed book sides (place.Cell c) h = h
 there_listed book sides (place.Side k) h = tt
 
@@ -55,9 +55,9 @@ pub roots_are_roots : (book : State) (s : Statement) → IsWhole book s → All 
 roots_are_roots book s h =
     each_root (IsRoot (sides_in book s.sheet)) (RowIsThere book.sheets (sides_in book s.sheet)) (λ r there. (tt, there_root book.sheets (sides_in book s.sheet) r.right there.right)) s (λ c e. tt) h.rows
 
-pub roots_are_listed : (book : State) (s : Statement) → IsWhole book s → All (PlaceIsListed book) (roots_of s)
+pub roots_are_listed : (book : State) (s : Statement) → IsWhole book s → All (PlaceIsListed book.sheets) (roots_of s)
 roots_are_listed book s h =
-    each_root (PlaceIsListed book) (RowIsThere book.sheets (sides_in book s.sheet)) (λ r there. (there.left, there_listed book (sides_in book s.sheet) r.right there.right)) s h.objective h.rows
+    each_root (PlaceIsListed book.sheets) (RowIsThere book.sheets (sides_in book s.sheet)) (λ r there. (there.left, there_listed book (sides_in book s.sheet) r.right there.right)) s h.objective h.rows
 
 -- ---- what is asked
 abbrev asked : State → Sides → List Cell → List Place → Asked

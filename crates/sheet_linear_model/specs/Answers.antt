@@ -2,19 +2,17 @@
 use Rattle.std.specs.Prelude.{◌≡◌, ◌+◌, ◌≤◌, ℕ, List, MatchResult, Result, Ok, Err, ⊤}
 use Rattle.cell_refs.specs.declared.cell.Cell.{Cell}
 use Rattle.workbook.specs.Kinds.{book_of}
-use Rattle.workbook.specs.Listed.{IsListed}
 use Rattle.workbook.specs.State.{State}
-use Rattle.workbook.specs.declared.place.Place.{Place}
-use Rattle.workbook.specs.declared.place.Place.TheVariants as place
 use Rattle.extract.specs.Tables.{no_forms}
-use Rattle.form_needs.specs.declared.refusal.FormRefusal.{FormRefusal}
-use Rattle.form_needs.specs.declared.refusal.FormRefusal.TheVariants as refusal
 use Rattle.extract_incr.specs.Keeping.{count_to_make}
 use Rattle.solver_names.specs.Answers.{Answers, statement_of}
 use Rattle.solver_names.specs.Sides.{sides_in}
 use Rattle.solver_names.specs.Stated.{statement_in}
 use Rattle.solver_names.specs.declared.fault.NamesFault.{NamesFault}
 use Rattle.solver_names.specs.declared.fault.NamesFault.TheVariants as told
+use Rattle.commands.specs.Lines.{CanBeSaid}
+use Rattle.commands.specs.declared.answer.Answer.{Answer}
+use Rattle.commands.specs.declared.answer.Answer.TheVariants as answer
 use Rattle.sheet_linear_model.specs.declared.prepared.NoModel.{NoModel}
 use Rattle.sheet_linear_model.specs.declared.prepared.NoModel.TheVariants as none
 use Rattle.sheet_linear_model.specs.declared.prepared.Prepared.{Prepared as Declared}
@@ -28,11 +26,16 @@ abbrev pub HasFault : State → ℕ → NamesFault → Type 0
 HasFault book sheet told.Memory = ⊥
 HasFault book sheet e = Answers book sheet (Err e)
 
+-- the answer names the first cause why the sheet has no linear model
+abbrev pub HasNoModel : State → ℕ → Answer → Type 0
+HasNoModel book sheet (answer.Names fault) = HasFault book sheet fault
+HasNoModel book sheet (answer.Form refusal) = IsRefusedBy book sheet refusal
+HasNoModel book sheet (answer.WideRow row) = HasWideRow book sheet row
+HasNoModel book sheet _ = ⊥
+
 abbrev pub Prepares : State → ℕ → Result Declared NoModel → Type 0
 Prepares book sheet (Ok p) = IsPrepared book sheet (prepared_of p)
-Prepares book sheet (Err (none.Names fault)) = HasFault book sheet fault
-Prepares book sheet (Err (none.Form r)) = IsRefusedBy book sheet r
-Prepares book sheet (Err (none.WideRow row)) = HasWideRow book sheet row
+Prepares book sheet (Err (none.Refused a)) = HasNoModel book sheet a
 Prepares book sheet (Err none.Memory) = ⊤
 
 -- ---- steps
@@ -46,19 +49,6 @@ MakesFew book sheet before after =
     MatchResult (statement_in book sheet) (λ s. after ≤ before + forms_to_make book sheet s.decisions) (λ f. after ≡ before)
 
 -- ---- cells in them lie on the sheets
-abbrev pub PlaceIsListed : State → Place → Type 0
-PlaceIsListed book (place.Cell c) = IsListed book.sheets c
-PlaceIsListed book (place.Side k) = ⊤
-
-abbrev pub RefusalIsListed : State → FormRefusal → Type 0
-RefusalIsListed book (refusal.Malformed c) = IsListed book.sheets c
-RefusalIsListed book (refusal.Circular p) = PlaceIsListed book p
-RefusalIsListed book (refusal.NotAffine p at) = PlaceIsListed book p
-RefusalIsListed book (refusal.Undecided p at) = PlaceIsListed book p
-RefusalIsListed book (refusal.Wide p) = PlaceIsListed book p
-RefusalIsListed book (refusal.NotNumber p) = PlaceIsListed book p
-
 abbrev pub StopIsListed : State → NoModel → Type 0
-StopIsListed book (none.Names (told.NotDecision k c)) = IsListed book.sheets c
-StopIsListed book (none.Form r) = RefusalIsListed book r
-StopIsListed book _ = ⊤
+StopIsListed book (none.Refused a) = CanBeSaid book.sheets a
+StopIsListed book none.Memory = ⊤

@@ -28,6 +28,7 @@ use Rattle.sheet_problems.specs.Places.{Sides}
 use Rattle.statement_laws.specs.Laws.{IsWhole}
 use Rattle.needed_cells.specs.Settled.{IsSettled}
 use Rattle.extract_incr.specs.Keeping.{Kept}
+use Rattle.commands.specs.declared.answer.Answer.TheVariants as answer
 use Rattle.sheet_linear_model.specs.declared.prepared.NoModel.{NoModel}
 use Rattle.sheet_linear_model.specs.declared.prepared.NoModel.TheVariants as none
 
@@ -48,7 +49,7 @@ pub record IsKeptFor (book : State) (s : Statement) (k : Kept) : Type 0 where
 -- a fault of the names as the cause why there is no model
 abbrev pub stop_of : NamesFault → NoModel
 stop_of told.Memory = none.Memory
-stop_of e = none.Names e
+stop_of e = none.Refused (answer.Names e)
 
 -- ---- forms as numbers
 -- the number that a form is, where it is one
@@ -86,7 +87,7 @@ pub record RowHasNumbers (book : State) (s : Statement) (r : RowOf) : Type 0 whe
 -- the linear model where the difference of each row is narrow, and else the first row whose difference isn't
 abbrev pub IsModelled : rows.Statement → Result Model NoModel → Type 0
 IsModelled s (Ok m) = (m ≡ linear s) × (wide_row s ≡ None)
-IsModelled s (Err (none.WideRow k)) = wide_row s ≡ Some k
+IsModelled s (Err (none.Refused (answer.WideRow k))) = wide_row s ≡ Some k
 IsModelled s (Err none.Memory) = ⊤
 IsModelled s (Err _) = ⊥
 

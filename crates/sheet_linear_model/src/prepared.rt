@@ -3,10 +3,10 @@ ghost use Rattle.std.specs.Prelude.{◌≡◌};
 ghost use Rattle.sheet_linear_model.specs.declared.prepared.NoModel.TheVariants as none;
 
 use affine_forms::Form;
-use form_needs::FormRefusal;
+use commands::Answer;
 use lin_model::LinModel;
 use memory::Memory;
-use solver_names::{NamesFault, Statement};
+use solver_names::Statement;
 
 /// What the names state, the forms of the objective and of both sides of each row, and the linear model. Without an objective its
 /// form is 0.
@@ -21,12 +21,9 @@ pub struct Prepared {
 /// Why a sheet has no linear model.
 #[derive(Drop)]
 pub enum NoModel {
-    /// The first fault of its names.
-    Names(NamesFault),
-    /// The first refusal of a needed place.
-    Form(FormRefusal),
-    /// The first row whose difference of sides isn't narrow, counted from 1.
-    WideRow(u16),
+    /// What every command answers that needs it: the first fault of its names, else the first refusal of a needed place, else the
+    /// first row whose difference of sides isn't narrow.
+    Refused(Answer),
     Memory,
 }
 

@@ -16,6 +16,7 @@ use crate::prepared::{NoModel, Prepared};
 use crate::stated::{check_forms, settle, statement_or_stop};
 use affine_forms::Form;
 use cell_refs::SheetId;
+use commands::Answer;
 use extract::Steps;
 use extract_incr::Forms;
 use lin_model::{BuildStop, LinModel, linear};
@@ -39,7 +40,7 @@ fn linear_model(
     let conditions = conditions(alloc, of)?;
     match linear(alloc, &conditions, objective, sides) {
         Ok(model) => Ok(model),
-        Err(BuildStop::WideRow(row)) => Err(NoModel::WideRow(row)),
+        Err(BuildStop::WideRow(row)) => Err(NoModel::Refused(Answer::WideRow(row))),
         Err(BuildStop::Memory) => Err(NoModel::Memory),
     }
 }

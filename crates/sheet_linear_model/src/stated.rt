@@ -11,6 +11,7 @@ ghost use Rattle.solver_names.specs.Sides.{sides_in};
 use crate::prepared::NoModel;
 use crate::roots::roots;
 use cell_refs::SheetId;
+use commands::Answer;
 use dep_table::Deps;
 use extract::Steps;
 use extract_incr::Forms;
@@ -27,7 +28,7 @@ fn stop_of(fault: NamesFault) -> NoModel
 {
     match fault {
         NamesFault::Memory => NoModel::Memory,
-        other => NoModel::Names(other),
+        other => NoModel::Refused(Answer::Names(other)),
     }
 }
 
@@ -110,7 +111,7 @@ pub(crate) fn check_forms(
 {
     book.texts_are_listed();
     match refusal(alloc, book, of, forms)? {
-        Some(refusal) => Err(NoModel::Form(refusal)),
+        Some(refusal) => Err(NoModel::Refused(Answer::Form(refusal))),
         None => Ok(()),
     }
 }

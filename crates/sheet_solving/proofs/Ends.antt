@@ -27,10 +27,13 @@ use Rattle.sheet_linear_model.specs.Prepared.{IsPrepared, Prepared, rows_of}
 use Rattle.sheet_problems.specs.Laws.{ModelIsTheSheet}
 use Rattle.statement_laws.specs.Laws.{IsWhole}
 use Rattle.write_back.specs.Writing.{number_text, texts_of}
-use Rattle.sheet_solving.specs.declared.solved.Solved.{Solved}
-use Rattle.sheet_solving.specs.declared.solved.Solved.TheVariants as solved
+use Rattle.commands.specs.declared.answer.Answer.{Answer}
+use Rattle.commands.specs.declared.answer.Answer.TheVariants as answer
+use Rattle.commands.specs.declared.answer.PathStep.{PathStep}
+use Rattle.commands.specs.Lines.{CanBeSaid}
+use Rattle.commands.specs.Refusals.{StepIsListed}
 use Rattle.sheet_solving.specs.Searches.{GoesFurther, Opened, Searched, Task, begun, task_from, total, whole_task}
-use Rattle.sheet_solving.specs.Solving.{CellsAreListed, Slices, Solves, StandsAt, by_cells}
+use Rattle.sheet_solving.specs.Solving.{Slices, Solves, StandsAt, by_cells}
 use Rattle.sheet_solving.specs.Inner.{Answered, CanBeTold, ComesTo, Runs, Tells, TellsStop, Writes}
 use Rattle.sheet_solving.proofs.Meaning.{IsBest, best_of}
 use Rattle.sheet_solving.proofs.Paths.{IsBelow, cells_listed}
@@ -51,7 +54,7 @@ full_listed sheets contents (c ∷ cells) (x ∷ numbers) cell h e =
     by_room false further e = further e
 
 -- the cells of a path, by equal lists
-pub told_cells : (cells decisions : List Cell) (path steps : List (ℕ × Bool × ℤ)) (told : List (Cell × Bool × ℤ)) → cells ≡ decisions → path ≡ steps → told ≡ by_cells cells path → told ≡ by_cells decisions steps
+pub told_cells : (cells decisions : List Cell) (path steps : List (ℕ × Bool × ℤ)) (told : List PathStep) → cells ≡ decisions → path ≡ steps → told ≡ by_cells cells path → told ≡ by_cells decisions steps
 told_cells cells decisions path steps told e f h =
     h ∙ (ap (λ (cells : List Cell). by_cells cells path) e ∙ ap (λ (path : List (ℕ × Bool × ℤ)). by_cells decisions path) f)
 
@@ -63,43 +66,39 @@ can_be_told task m o (Some (progress.Unbounded point direction)) book s same h =
 can_be_told task m o (Some progress.More) book s same h = absurd h
 can_be_told task m o None book s same h = tt
 
-written_slices : (task : Task) (before after : State) (s : Statement) (m : Model) (o : Opened) (x : Assignment) (v : ℚ) (told : Solved) → ModelIsTheSheet before s m → IsWhole before s
+written_slices : (task : Task) (before after : State) (s : Statement) (m : Model) (o : Opened) (x : Assignment) (v : ℚ) (told : Answer) → ModelIsTheSheet before s m → IsWhole before s
     → Answered task m o (answers.optimal x v) → Writes before s x v told after → Slices task before s m told o after
 written_slices task before after s m o x v told same whole found w = by_end told w
   where
     best : IsBest before s x v
     best = best_of before s m x v same found.is_true
 
-    by_end : (told : Solved) → Writes before s x v told after → Slices task before s m told o after
-    by_end (solved.Optimal value) w = (found.search, x, v, found.ends, is_solved before after s x w.1 v value whole.distinct best w.0)
-    by_end (solved.NoRoom cell) w = (found.search, x, v, found.ends, record { optimal = best.optimal; full = w.0 }, w.1)
-    by_end solved.Infeasible w = absurd w
-    by_end solved.Unbounded w = absurd w
-    by_end (solved.More n) w = absurd w
-    by_end (solved.WidePivot path basis leaves enters) w = absurd w
-    by_end (solved.Budget n) w = absurd w
+    by_end : (told : Answer) → Writes before s x v told after → Slices task before s m told o after
+    by_end (answer.Optimal value) w = (found.search, x, v, found.ends, is_solved before after s x w.1 v value whole.distinct best w.0)
+    by_end (answer.NoRoom cell) w = (found.search, x, v, found.ends, record { optimal = best.optimal; full = w.0 }, w.1)
+    by_end _ w = absurd w
 
 -- whatever is told of a search that has an answer or goes on
-told_slices : (task : Task) (before after : State) (s : Statement) (m : Model) (o : Opened) (end : Option Progress) (units : ℕ) (told : Solved) → ModelIsTheSheet before s m → IsWhole before s
+told_slices : (task : Task) (before after : State) (s : Statement) (m : Model) (o : Opened) (end : Option Progress) (units : ℕ) (told : Answer) → ModelIsTheSheet before s m → IsWhole before s
     → units ≡ o.units → ComesTo task m o end → Tells before s end units told after → Slices task before s m told o after
 told_slices task before after s m o (Some (progress.Optimal point value)) units told same whole is h w = written_slices task before after s m o point.items value told same whole h w
 told_slices task before after s m o (Some progress.Infeasible) units told same whole is h w =
-    subst (λ (told : Solved). Slices task before s m told o after) (sym w.0) (h.search, h.ends, (same.answers.infeasible).1 h.is_true, w.1)
+    subst (λ (told : Answer). Slices task before s m told o after) (sym w.0) (h.search, h.ends, (same.answers.infeasible).1 h.is_true, w.1)
 told_slices task before after s m o (Some (progress.Unbounded point direction)) units told same whole is h w =
-    subst (λ (told : Solved). Slices task before s m told o after) (sym w.0) (h.search, point.items, direction.items, h.ends, (same.answers.unbounded).1 h.is_true.1.1, w.1)
+    subst (λ (told : Answer). Slices task before s m told o after) (sym w.0) (h.search, point.items, direction.items, h.ends, (same.answers.unbounded).1 h.is_true.1.1, w.1)
 told_slices task before after s m o (Some progress.More) units told same whole is h w = absurd h
 told_slices task before after s m o None units told same whole is h w =
-    subst (λ (told : Solved). Slices task before s m told o after) (sym w.0) (h.search, is ∙ ap (λ (o : Opened). o.units) h.led, h.asked, h.within, h.leaf, h.led, w.1)
+    subst (λ (told : Answer). Slices task before s m told o after) (sym w.0) (h.search, is ∙ ap (λ (o : Opened). o.units) h.led, h.asked, h.within, h.leaf, h.led, w.1)
 
-pub all_told : (task : Task) (before after : State) (s : Statement) (m : Model) (o : Opened) (end : Option Progress) (units : ℕ) (r : Result Solved Memory) → ModelIsTheSheet before s m → IsWhole before s
+pub all_told : (task : Task) (before after : State) (s : Statement) (m : Model) (o : Opened) (end : Option Progress) (units : ℕ) (r : Result Answer Memory) → ModelIsTheSheet before s m → IsWhole before s
     → units ≡ o.units → ComesTo task m o end → IfOk r (λ told. Tells before s end units told after) → IfOk r (λ told. Slices task before s m told o after)
 all_told task before after s m o end units r same whole is h w =
-    IfOk-weaker r (λ (told : Solved). Tells before s end units told after) (λ (told : Solved). Slices task before s m told o after)
-    (λ (told : Solved) (w : Tells before s end units told after). told_slices task before after s m o end units told same whole is h w) w
+    IfOk-weaker r (λ (told : Answer). Tells before s end units told after) (λ (told : Answer). Slices task before s m told o after)
+    (λ (told : Answer) (w : Tells before s end units told after). told_slices task before after s m o end units told same whole is h w) w
 
 -- ---- searches that stop
-stop_slices : (task : Task) (book : State) (s : Statement) (m : Model) (o : Opened) (e : SearchStop) (told : Solved) → Runs task m o (Err e) → TellsStop s.decisions e told → Slices task book s m told o book
-stop_slices task book s m o (stop.WidePivot path basis leaves enters) (solved.WidePivot steps basis' leaves' enters') h w =
+stop_slices : (task : Task) (book : State) (s : Statement) (m : Model) (o : Opened) (e : SearchStop) (told : Answer) → Runs task m o (Err e) → TellsStop s.decisions e told → Slices task book s m told o book
+stop_slices task book s m o (stop.WidePivot path basis leaves enters) (answer.WidePivot steps basis' leaves' enters') h w =
     let at : StandsAt task s.decisions (length h.search.units) h.search.state steps.items basis.items leaves enters = record { steps = path.items; wide = h.wide; cells = w.0; left = h.left } in
     let with_basis : StandsAt task s.decisions (length h.search.units) h.search.state steps.items basis'.items leaves enters =
     subst (λ (b : Vec ℕ Global). StandsAt task s.decisions (length h.search.units) h.search.state steps.items b.items leaves enters) (sym w.1) at in
@@ -107,15 +106,15 @@ stop_slices task book s m o (stop.WidePivot path basis leaves enters) (solved.Wi
     subst (λ (l : ℕ). StandsAt task s.decisions (length h.search.units) h.search.state steps.items basis'.items l enters) (sym w.2) with_basis in
     (h.search, subst (λ (l : ℕ). StandsAt task s.decisions (length h.search.units) h.search.state steps.items basis'.items leaves' l) (sym w.3) with_leaves, refl)
 stop_slices task book s m o (stop.WidePivot path basis leaves enters) _ h w = absurd w
-stop_slices task book s m o (stop.Budget n) (solved.Budget units) h w =
-    subst (λ (k : ℕ). Slices task book s m (solved.Budget k) o book) (sym w) (h.search, h.spent, h.whole, h.leaf, refl)
+stop_slices task book s m o (stop.Budget n) (answer.Budget units) h w =
+    subst (λ (k : ℕ). Slices task book s m (answer.Budget k) o book) (sym w) (h.search, h.spent, h.whole, h.leaf, refl)
 stop_slices task book s m o (stop.Budget n) _ h w = absurd w
 stop_slices task book s m o stop.Memory told h w = absurd w
 
-pub all_stops : (task : Task) (book : State) (s : Statement) (m : Model) (o : Opened) (e : SearchStop) (r : Result Solved Memory) → Runs task m o (Err e) → IfOk r (TellsStop s.decisions e)
+pub all_stops : (task : Task) (book : State) (s : Statement) (m : Model) (o : Opened) (e : SearchStop) (r : Result Answer Memory) → Runs task m o (Err e) → IfOk r (TellsStop s.decisions e)
     → IfOk r (λ told. Slices task book s m told o book)
 all_stops task book s m o e r h w =
-    IfOk-weaker r (TellsStop s.decisions e) (λ (told : Solved). Slices task book s m told o book) (λ (told : Solved) (w : TellsStop s.decisions e told). stop_slices task book s m o e told h w) w
+    IfOk-weaker r (TellsStop s.decisions e) (λ (told : Answer). Slices task book s m told o book) (λ (told : Answer) (w : TellsStop s.decisions e told). stop_slices task book s m o e told h w) w
 
 -- ---- units that aren't lost
 pub further : (task : Task) (m : Model) (o : Opened) (end : Option Progress) → ComesTo task m o end → GoesFurther task m o
@@ -140,21 +139,16 @@ seen rule units budget first lent o r e h = subst (λ (f : Opened). Runs (task_f
 never_more : (rule : Rule) (budget : ℕ) (m : Model) (t : Searched (whole_task rule budget) m) → length t.units ≡ budget → total t < budget → ⊥
 never_more rule budget m t e l = omega (arith, e, l)
 
-whole_solves : (rule : Rule) (budget : ℕ) (before after : State) (s : Statement) (m : Model) (o : Opened) (told : Solved) → Slices (whole_task rule budget) before s m told o after
+whole_solves : (rule : Rule) (budget : ℕ) (before after : State) (s : Statement) (m : Model) (o : Opened) (told : Answer) → Slices (whole_task rule budget) before s m told o after
     → Solves (whole_task rule budget) before s m told after
-whole_solves rule budget before after s m o (solved.More n) h = absurd (never_more rule budget m h.0 h.2 h.3)
-whole_solves rule budget before after s m o (solved.Optimal value) h = h
-whole_solves rule budget before after s m o (solved.NoRoom cell) h = h
-whole_solves rule budget before after s m o solved.Infeasible h = h
-whole_solves rule budget before after s m o solved.Unbounded h = h
-whole_solves rule budget before after s m o (solved.WidePivot path basis leaves enters) h = h
-whole_solves rule budget before after s m o (solved.Budget n) h = h
+whole_solves rule budget before after s m o (answer.More n) h = absurd (never_more rule budget m h.0 h.2 h.3)
+whole_solves rule budget before after s m o told h = h
 
-pub all_solved : (rule : Rule) (budget : ℕ) (before after : State) (s : Statement) (m : Model) (first o : Opened) (r : Result Solved Memory) → first ≡ begun m
+pub all_solved : (rule : Rule) (budget : ℕ) (before after : State) (s : Statement) (m : Model) (first o : Opened) (r : Result Answer Memory) → first ≡ begun m
     → IfOk r (λ told. Slices (task_from rule first budget budget) before s first.model told o after) → IfOk r (λ told. Solves (whole_task rule budget) before s m told after)
 all_solved rule budget before after s m first o r is h =
-    IfOk-weaker r (λ (told : Solved). Slices (task_from rule (begun m) budget budget) before s m told o after) (λ (told : Solved). Solves (whole_task rule budget) before s m told after)
-    (λ (told : Solved) (h : Slices (whole_task rule budget) before s m told o after). whole_solves rule budget before after s m o told h)
+    IfOk-weaker r (λ (told : Answer). Slices (task_from rule (begun m) budget budget) before s m told o after) (λ (told : Answer). Solves (whole_task rule budget) before s m told after)
+    (λ (told : Answer) (h : Slices (whole_task rule budget) before s m told o after). whole_solves rule budget before after s m o told h)
     (subst (λ (f : Opened). IfOk r (λ told. Slices (task_from rule f budget budget) before s f.model told o after)) is h)
 
 -- ---- cells of a path
@@ -162,18 +156,18 @@ all_solved rule budget before after s m first o r is h =
 decisions_are : (book : State) (sheet : ℕ) (p : Prepared) → IsPrepared book sheet p → length p.model.whole ≡ length p.statement.decisions
 decisions_are book sheet p h = ap (λ (m : Model). length m.whole) h.model ∙ length-map-range_with_len (is_marked (rows_of p.statement p.objective p.sides)) 0 (length p.statement.decisions)
 
-stands_listed : (task : Task) (book : State) (sheet : ℕ) (p : Prepared) (s : Statement) (m : Model) (o : Opened) (e : SearchStop) (told : Solved) → IsPrepared book sheet p → p.statement ≡ s → p.model ≡ m
-    → IsWhole book s → Runs task m o (Err e) → TellsStop s.decisions e told → CellsAreListed book told
-stands_listed task book sheet p s m o (stop.WidePivot path basis leaves enters) (solved.WidePivot steps basis' leaves' enters') prepared same is whole h w =
+stands_listed : (task : Task) (book : State) (sheet : ℕ) (p : Prepared) (s : Statement) (m : Model) (o : Opened) (e : SearchStop) (told : Answer) → IsPrepared book sheet p → p.statement ≡ s → p.model ≡ m
+    → IsWhole book s → Runs task m o (Err e) → TellsStop s.decisions e told → CanBeSaid book.sheets told
+stands_listed task book sheet p s m o (stop.WidePivot path basis leaves enters) (answer.WidePivot steps basis' leaves' enters') prepared same is whole h w =
     let count : length m.whole ≡ length s.decisions = sym (ap (λ (m : Model). length m.whole) is) ∙ (decisions_are book sheet p prepared ∙ ap (λ (s : Statement). length s.decisions) same) in
-    subst (λ (told : List (Cell × Bool × ℤ)). All (λ (step : Cell × Bool × ℤ). IsListed book.sheets step.0) told) (sym w.0)
+    subst (All (StepIsListed book.sheets)) (sym w.0)
     (cells_listed book.sheets s.decisions path.items whole.decisions (subst (λ (n : ℕ). All (IsBelow n) path.items) count h.decisions))
 stands_listed task book sheet p s m o (stop.WidePivot path basis leaves enters) _ prepared same is whole h w = absurd w
-stands_listed task book sheet p s m o (stop.Budget n) (solved.Budget units) prepared same is whole h w = tt
+stands_listed task book sheet p s m o (stop.Budget n) (answer.Budget units) prepared same is whole h w = tt
 stands_listed task book sheet p s m o (stop.Budget n) _ prepared same is whole h w = absurd w
 stands_listed task book sheet p s m o stop.Memory told prepared same is whole h w = absurd w
 
-pub all_listed : (task : Task) (book : State) (sheet : ℕ) (p : Prepared) (s : Statement) (m : Model) (o : Opened) (e : SearchStop) (r : Result Solved Memory) → IsPrepared book sheet p → p.statement ≡ s → p.model ≡ m
-    → IsWhole book s → Runs task m o (Err e) → IfOk r (TellsStop s.decisions e) → IfOk r (CellsAreListed book)
+pub all_listed : (task : Task) (book : State) (sheet : ℕ) (p : Prepared) (s : Statement) (m : Model) (o : Opened) (e : SearchStop) (r : Result Answer Memory) → IsPrepared book sheet p → p.statement ≡ s → p.model ≡ m
+    → IsWhole book s → Runs task m o (Err e) → IfOk r (TellsStop s.decisions e) → IfOk r (CanBeSaid book.sheets)
 all_listed task book sheet p s m o e r prepared same is whole h w =
-    IfOk-weaker r (TellsStop s.decisions e) (CellsAreListed book) (λ (told : Solved) (w : TellsStop s.decisions e told). stands_listed task book sheet p s m o e told prepared same is whole h w) w
+    IfOk-weaker r (TellsStop s.decisions e) (CanBeSaid book.sheets) (λ (told : Answer) (w : TellsStop s.decisions e told). stands_listed task book sheet p s m o e told prepared same is whole h w) w

@@ -15,7 +15,8 @@ use Rattle.searches.proofs.TrueTrees.{trees_are_true}
 use Rattle.search_paths.specs.Steps.{step_of}
 use Rattle.branch_bound.specs.Ends.{IsWideAt}
 use Rattle.workbook.specs.Listed.{IsListed}
-use Rattle.sheet_solving.specs.Solving.{by_cells, no_cell}
+use Rattle.commands.specs.Refusals.{StepIsListed}
+use Rattle.sheet_solving.specs.Solving.{by_cell, by_cells, no_cell}
 
 -- the step's decision is one of so many
 abbrev pub IsBelow : ℕ → ℕ × Bool × ℤ → Type 0
@@ -45,7 +46,7 @@ steps_below m rule units s steps basis leaves enters valid trail wide =
 
 -- and the cells of such steps lie on the sheets
 pub cells_listed : (sheets : List (List ℕ)) (cells : List Cell) (steps : List (ℕ × Bool × ℤ)) → All (IsListed sheets) cells → All (IsBelow (length cells)) steps
-    → All (λ (step : Cell × Bool × ℤ). IsListed sheets step.0) (by_cells cells steps)
+    → All (StepIsListed sheets) (by_cells cells steps)
 cells_listed sheets cells steps listed below =
-    All-map (λ (step : Cell × Bool × ℤ). IsListed sheets step.0) (λ (step : ℕ × Bool × ℤ). (get_or cells step.0 no_cell, step.1, step.2)) steps
+    All-map (StepIsListed sheets) (by_cell cells) steps
     (All-weaker (IsBelow (length cells)) (λ (step : ℕ × Bool × ℤ). IsListed sheets (get_or cells step.0 no_cell)) (λ (step : ℕ × Bool × ℤ) (h : IsBelow (length cells) step). All-get_or (IsListed sheets) cells step.0 no_cell h listed) steps below)

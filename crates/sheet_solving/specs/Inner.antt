@@ -4,6 +4,8 @@ use Rattle.std.specs.Option.{option_map}
 use Rattle.fractions.specs.Rational.{ℚ, neg_ℚ}
 use Rattle.optimality.specs.Problem.{Assignment, Goal, greatest, least, reach}
 use Rattle.cell_refs.specs.declared.cell.Cell.{Cell}
+use Rattle.commands.specs.declared.answer.Answer.{Answer}
+use Rattle.commands.specs.declared.answer.Answer.TheVariants as answer
 use Rattle.linear_models.specs.Model.{Model}
 use Rattle.searches.specs.Answers as answers
 use Rattle.branch_bound.specs.Ends.{IsAnswerOf, IsWideAt}
@@ -16,8 +18,6 @@ use Rattle.workbook.specs.Kinds.{book_of}
 use Rattle.workbook.specs.State.{State}
 use Rattle.solver_names.specs.Statement.{Statement}
 use Rattle.write_back.specs.Writing.{KeepsSides, KeepsValues, with_numbers, without_room}
-use Rattle.sheet_solving.specs.declared.solved.Solved.{Solved}
-use Rattle.sheet_solving.specs.declared.solved.Solved.TheVariants as solved
 use Rattle.sheet_solving.specs.Searches.{EndsWith, GoesFurther, HasOpenLeaf, HasUnits, Opened, Searched, Task, led_to, total}
 use Rattle.sheet_solving.specs.Solving.{by_cells}
 
@@ -83,10 +83,10 @@ Runs task m s (Err (stop.Budget n)) = HasSpent task m s n
 Runs task m s (Err stop.Memory) = GoesFurther task m s
 
 -- why a search stops, by the cells to be decided
-abbrev pub TellsStop : List Cell → SearchStop → Solved → Type 0
-TellsStop decisions (stop.WidePivot path basis leaves enters) (solved.WidePivot steps now_basis now_leaves now_enters) =
+abbrev pub TellsStop : List Cell → SearchStop → Answer → Type 0
+TellsStop decisions (stop.WidePivot path basis leaves enters) (answer.WidePivot steps now_basis now_leaves now_enters) =
     (steps.items ≡ by_cells decisions path.items) × (now_basis ≡ basis) × (now_leaves ≡ leaves) × (now_enters ≡ enters)
-TellsStop decisions (stop.Budget n) (solved.Budget units) = units ≡ n
+TellsStop decisions (stop.Budget n) (answer.Budget units) = units ≡ n
 TellsStop decisions _ _ = ⊥
 
 -- ---- optima
@@ -107,18 +107,18 @@ pub record IsWritten (before after : State) (s : Statement) (numbers : Assignmen
   pub sides : KeepsSides (book_of before) s.decisions numbers (book_of after)
 
 -- what comes of writing an optimum with this value of the search
-abbrev pub Writes : State → Statement → Assignment → ℚ → Solved → State → Type 0
-Writes before s numbers v (solved.Optimal value) after = (value ≡ told_of s v) × IsWritten before after s numbers
-Writes before s numbers v (solved.NoRoom cell) after = (without_room before s.decisions numbers ≡ Some cell) × (after ≡ before)
+abbrev pub Writes : State → Statement → Assignment → ℚ → Answer → State → Type 0
+Writes before s numbers v (answer.Optimal value) after = (value ≡ told_of s v) × IsWritten before after s numbers
+Writes before s numbers v (answer.NoRoom cell) after = (without_room before s.decisions numbers ≡ Some cell) × (after ≡ before)
 Writes before s numbers v _ after = ⊥
 
 -- what is told of a search by its answer, an optimum written, or by the units that it has spent where it has none
-abbrev pub Tells : State → Statement → Option Progress → ℕ → Solved → State → Type 0
+abbrev pub Tells : State → Statement → Option Progress → ℕ → Answer → State → Type 0
 Tells before s (Some (progress.Optimal point value)) units told after = Writes before s point.items value told after
-Tells before s (Some progress.Infeasible) units told after = (told ≡ solved.Infeasible) × (after ≡ before)
-Tells before s (Some (progress.Unbounded point direction)) units told after = (told ≡ solved.Unbounded) × (after ≡ before)
+Tells before s (Some progress.Infeasible) units told after = (told ≡ answer.Infeasible) × (after ≡ before)
+Tells before s (Some (progress.Unbounded point direction)) units told after = (told ≡ answer.Unbounded) × (after ≡ before)
 Tells before s (Some progress.More) units told after = ⊥
-Tells before s None units told after = (told ≡ solved.More units) × (after ≡ before)
+Tells before s None units told after = (told ≡ answer.More units) × (after ≡ before)
 
 -- an answer that can be told of so many decisions: a point has a number for each
 abbrev pub CanBeTold : ℕ → Option Progress → Type 0

@@ -9,9 +9,11 @@ use Rattle.linear_models.specs.Model.{Model}
 use Rattle.searches.specs.Answers as answers
 use Rattle.searches.specs.Trails as trails
 use Rattle.branch_bound.specs.Ends.{IsWideAt}
+use Rattle.commands.specs.declared.answer.Answer.{Answer}
+use Rattle.commands.specs.declared.answer.Answer.TheVariants as answer
+use Rattle.commands.specs.declared.answer.PathStep.{PathStep}
 use Rattle.recalculation.specs.Entries.{no_overriding}
 use Rattle.workbook.specs.Kinds.{book_of}
-use Rattle.workbook.specs.Listed.{IsListed}
 use Rattle.workbook.specs.State.{State}
 use Rattle.workbook.specs.declared.place.Place.{Place}
 use Rattle.workbook.specs.declared.place.Place.TheVariants as place
@@ -21,8 +23,6 @@ use Rattle.sheet_problems.specs.Places.{number_in, put_over, value_at}
 use Rattle.sheet_problems.specs.SheetProblem.{not_negative_in, problem_in}
 use Rattle.write_back.specs.Writing.{with_numbers, without_room}
 use Rattle.sheet_solving.specs.Searches.{EndsWith, HasOpenLeaf, HasUnits, Opened, Searched, Task, led_to, total}
-use Rattle.sheet_solving.specs.declared.solved.Solved.{Solved}
-use Rattle.sheet_solving.specs.declared.solved.Solved.TheVariants as solved
 
 -- ---- what an answer means
 -- the number of a place of the workbook as it is, with no cell overridden
@@ -75,44 +75,41 @@ abbrev pub no_cell : Cell
 no_cell = record { sheet = record { 0 = 0 }; row = 0; col = 0 }
 
 -- the path to a node by the cells whose bounds its steps set
-abbrev pub by_cells : List Cell → List (ℕ × Bool × ℤ) → List (Cell × Bool × ℤ)
-by_cells decisions path = map (λ (step : ℕ × Bool × ℤ). (slice_index_or decisions step.0 no_cell, step.1, step.2)) path
+abbrev pub by_cell : List Cell → ℕ × Bool × ℤ → PathStep
+by_cell decisions step = record { cell = slice_index_or decisions step.0 no_cell; upper = step.1; bound = step.2 }
+
+abbrev pub by_cells : List Cell → List (ℕ × Bool × ℤ) → List PathStep
+by_cells decisions path = map (by_cell decisions) path
 
 -- the search stands at a pivot that isn't narrow, and after these units another one may be spent
-pub record StandsAt (task : Task) (decisions : List Cell) (units : ℕ) (s : trails.State) (path : List (Cell × Bool × ℤ)) (basis : List ℕ) (leaves enters : ℕ) : Type 0 where
+pub record StandsAt (task : Task) (decisions : List Cell) (units : ℕ) (s : trails.State) (path : List PathStep) (basis : List ℕ) (leaves enters : ℕ) : Type 0 where
   pub steps : List (ℕ × Bool × ℤ)
   pub wide : IsWideAt s steps basis leaves enters
   pub cells : path ≡ by_cells decisions steps
   pub left : HasUnits task units
 
 -- ---- all ends of a search of the model, for what the sheet's names state: the workbook is as before but for what an optimum writes
-abbrev pub Solves : Task → State → Statement → Model → Solved → State → Type 0
-Solves task before s m (solved.Optimal value) after =
+abbrev pub Solves : Task → State → Statement → Model → Answer → State → Type 0
+Solves task before s m (answer.Optimal value) after =
     (t : Searched task m) × (x : Assignment) × (v : ℚ) × EndsWith m t.state (answers.optimal x v) × IsSolved before after s x value
-Solves task before s m solved.Infeasible after =
+Solves task before s m answer.Infeasible after =
     (t : Searched task m) × EndsWith m t.state answers.infeasible × Infeasible (problem_in before s) × (after ≡ before)
-Solves task before s m solved.Unbounded after =
+Solves task before s m answer.Unbounded after =
     (t : Searched task m) × (x : Assignment) × (d : List ℚ) × EndsWith m t.state (answers.unbounded x d)
     × Unbounded (problem_in before s) × (after ≡ before)
-Solves task before s m (solved.More n) after = ⊥
-Solves task before s m (solved.WidePivot path basis leaves enters) after =
+Solves task before s m (answer.WidePivot path basis leaves enters) after =
     (t : Searched task m) × StandsAt task s.decisions (length t.units) t.state path.items basis.items leaves enters × (after ≡ before)
-Solves task before s m (solved.Budget n) after =
+Solves task before s m (answer.Budget n) after =
     (t : Searched task m) × (n ≡ total t) × (task.budget ≤ n) × HasOpenLeaf m t.state × (after ≡ before)
-Solves task before s m (solved.NoRoom cell) after =
+Solves task before s m (answer.NoRoom cell) after =
     (t : Searched task m) × (x : Assignment) × (v : ℚ) × EndsWith m t.state (answers.optimal x v) × HasNoRoom before s x cell
     × (after ≡ before)
+Solves task before s m _ after = ⊥
 
 -- the same of a slice, after which more may be to be done: all units that are asked for are spent, the budget isn't, a leaf is open, and
 -- the search stands where its units have led
-abbrev pub Slices : Task → State → Statement → Model → Solved → Opened → State → Type 0
-Slices task before s m (solved.More n) search after =
+abbrev pub Slices : Task → State → Statement → Model → Answer → Opened → State → Type 0
+Slices task before s m (answer.More n) search after =
     (t : Searched task m) × (n ≡ total t) × (length t.units ≡ task.units) × (total t < task.budget) × HasOpenLeaf m t.state
     × (search ≡ led_to t) × (after ≡ before)
 Slices task before s m end search after = Solves task before s m end after
-
--- ---- cells in them lie on the sheets
-abbrev pub CellsAreListed : State → Solved → Type 0
-CellsAreListed book (solved.WidePivot path basis leaves enters) = All (λ (step : Cell × Bool × ℤ). IsListed book.sheets step.0) path.items
-CellsAreListed book (solved.NoRoom cell) = IsListed book.sheets cell
-CellsAreListed book _ = ⊤

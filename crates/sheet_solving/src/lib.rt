@@ -5,12 +5,10 @@ mod open_search;
 mod path;
 mod searched;
 mod slicing;
-mod solved;
 mod solving;
 mod told;
 
 pub use open_search::OpenSearch;
 pub use searched::Allowed;
 pub use slicing::slice;
-pub use solved::Solved;
 pub use solving::solve;

@@ -3,6 +3,7 @@ ghost use Rattle.std.specs.Prelude.{◌≡◌, IfOk, slice_index_or};
 ghost use Rattle.sheet_solving.specs.Solving.{by_cells, no_cell};
 
 use cell_refs::{Cell, SheetId};
+use commands::PathStep;
 use memory::Memory;
 use std::alloc::Global;
 
@@ -25,12 +26,16 @@ pub(crate) fn by_cells(
     alloc: Global,
     cells: &[Cell],
     path: &[(u16, bool, i128)],
-) -> Result<Vec<(Cell, bool, i128)>, Memory>
+) -> Result<Vec<PathStep>, Memory>
     ensures { IfOk result (λ steps. steps.items ≡ by_cells cells.now path.now) }
 {
     let mut made = Vec::new(alloc);
-    for (decision, is_upper, bound) in path {
-        made.push((cell_of(cells, *decision), *is_upper, *bound))?;
+    for (decision, upper, bound) in path {
+        made.push(PathStep {
+            cell: cell_of(cells, *decision),
+            upper: *upper,
+            bound: *bound,
+        })?;
     }
     Ok(made)
 }

@@ -1,19 +1,20 @@
 // A slice of a search over the model of a sheet.
 ghost use Rattle.std.specs.Prelude.{◌≡◌, ◌≤◌, ℕ, IfOk, OnErr};
+ghost use Rattle.commands.specs.Lines.{CanBeSaid};
 ghost use Rattle.sheet_linear_model.specs.Prepared.{IsPrepared, Prepared};
 ghost use Rattle.sheet_problems.specs.Laws.{ModelIsTheSheet};
 ghost use Rattle.sheet_solving.specs.Inner.{TellsStop};
 ghost use Rattle.sheet_solving.specs.Searches.{GoesFurther, task_from};
-ghost use Rattle.sheet_solving.specs.Solving.{CellsAreListed, Slices};
+ghost use Rattle.sheet_solving.specs.Solving.{Slices};
 ghost use Rattle.solver_names.specs.Answers.{statement_of};
 ghost use Rattle.statement_laws.specs.Laws.{IsWhole};
 
 use crate::open_search::OpenSearch;
 use crate::path::by_cells;
 use crate::searched::{Allowed, spend};
-use crate::solved::Solved;
 use crate::told::tell;
 use branch_bound::SearchStop;
+use commands::Answer;
 use memory::Memory;
 use node_pick::Picker;
 use solver_names::Statement;
@@ -21,15 +22,15 @@ use std::alloc::Global;
 use workbook::Workbook;
 
 // Why a search stops, by the cells to be decided.
-fn tell_stop(alloc: Global, statement: &Statement, stop: SearchStop) -> Result<Solved, Memory>
+fn tell_stop(alloc: Global, statement: &Statement, stop: SearchStop) -> Result<Answer, Memory>
     ensures { IfOk result (TellsStop statement.now.adj stop) }
 {
     match stop {
         SearchStop::WidePivot(path, basis, leaves, enters) => {
             let steps = by_cells(alloc, statement.adj.cells(), &path)?;
-            Ok(Solved::WidePivot(steps, basis, leaves, enters))
+            Ok(Answer::WidePivot(steps, basis, leaves, enters))
         }
-        SearchStop::Budget(units) => Ok(Solved::Budget(units)),
+        SearchStop::Budget(units) => Ok(Answer::Budget(units)),
         SearchStop::Memory => Err(Memory),
     }
 }
@@ -43,7 +44,7 @@ pub fn slice(
     search: &mut OpenSearch,
     allowed: Allowed,
     pick: &mut Box<dyn Picker>,
-) -> Result<Solved, Memory>
+) -> Result<Answer, Memory>
     requires budget { allowed.budget ≤ 1000000 }
     requires prepared { (sheet : ℕ) × (p : Prepared) × IsPrepared book.old sheet p
         × (p.statement ≡ statement_of statement.now) × (p.model ≡ search.old.model) }
@@ -52,7 +53,7 @@ pub fn slice(
     ensures slices { IfOk result (λ s. Slices (task_from (rule pick.old) search.old
         allowed.units allowed.budget) book.old (statement_of statement.now)
         search.old.model s search.new book.new) }
-    ensures said { IfOk result (CellsAreListed book.old) }
+    ensures said { IfOk result (CanBeSaid book.old.sheets) }
     ensures sheets { book.new.sheets ≡ book.old.sheets }
     ensures memory { OnErr result (book.new ≡ book.old) }
     ensures further { GoesFurther (task_from (rule pick.old) search.old

@@ -1,17 +1,18 @@
 // A sheet's model, solved.
 ghost use Rattle.std.specs.Prelude.{◌≡◌, ◌≤◌, ℕ, IfOk, OnErr};
+ghost use Rattle.commands.specs.Lines.{CanBeSaid};
 ghost use Rattle.sheet_linear_model.specs.Answers.{prepared_of};
 ghost use Rattle.sheet_linear_model.specs.Prepared.{IsPrepared};
 ghost use Rattle.sheet_problems.specs.Laws.{ModelIsTheSheet};
 ghost use Rattle.sheet_solving.specs.Searches.{whole_task};
-ghost use Rattle.sheet_solving.specs.Solving.{CellsAreListed, Solves};
+ghost use Rattle.sheet_solving.specs.Solving.{Solves};
 ghost use Rattle.solver_names.specs.Answers.{statement_of};
 ghost use Rattle.statement_laws.specs.Laws.{IsWhole};
 
 use crate::open_search::OpenSearch;
 use crate::searched::Allowed;
 use crate::slicing::slice;
-use crate::solved::Solved;
+use commands::Answer;
 use memory::Memory;
 use node_pick::Picker;
 use sheet_linear_model::Prepared;
@@ -26,7 +27,7 @@ pub fn solve(
     of: Prepared,
     budget: u64,
     pick: &mut Box<dyn Picker>,
-) -> Result<Solved, Memory>
+) -> Result<Answer, Memory>
     requires budget { budget ≤ 1000000 }
     requires prepared { (sheet : ℕ) × IsPrepared book.old sheet (prepared_of of) }
     requires model { ModelIsTheSheet book.old (statement_of of.statement) of.model }
@@ -34,7 +35,7 @@ pub fn solve(
     ensures solves { IfOk result
         (λ s. Solves (whole_task (rule pick.old) budget) book.old
         (statement_of of.statement) of.model s book.new) }
-    ensures said { IfOk result (CellsAreListed book.old) }
+    ensures said { IfOk result (CanBeSaid book.old.sheets) }
     ensures sheets { book.new.sheets ≡ book.old.sheets }
     ensures memory { OnErr result (book.new ≡ book.old) }
     ensures rule { rule pick.new ≡ rule pick.old }

@@ -1,16 +1,16 @@
 // An optimum, written and told.
 ghost use Rattle.std.specs.Prelude.{◌≡◌, All, IfOk, OnErr, length};
 ghost use Rattle.std.specs.Option.{option_map};
+ghost use Rattle.commands.specs.Lines.{CanBeSaid};
 ghost use Rattle.lin_model.specs.Kinds.{goal_of};
 ghost use Rattle.sheet_solving.specs.Inner.{CanBeTold, Tells, Writes, value_told};
-ghost use Rattle.sheet_solving.specs.Solving.{CellsAreListed};
 ghost use Rattle.solver_names.specs.Answers.{statement_of};
 ghost use Rattle.workbook.specs.Listed.{IsListed};
 ghost use Rattle.write_back.specs.Writing.{AreDistinct};
 
-use crate::solved::Solved;
 use branch_bound::Progress;
 use cell_refs::Cell;
+use commands::Answer;
 use frac128::Frac;
 use lin_model::Goal;
 use memory::Memory;
@@ -40,19 +40,19 @@ fn write(
     statement: &Statement,
     point: &[Frac],
     value: Frac,
-) -> Result<Solved, Memory>
+) -> Result<Answer, Memory>
     requires each { length point.now ≡ length statement.now.adj }
     requires listed { All (IsListed book.old.sheets) statement.now.adj }
     requires distinct { AreDistinct statement.now.adj }
     ensures written { IfOk result
         (λ s. Writes book.old (statement_of statement.now) point.now value s book.new) }
-    ensures said { IfOk result (CellsAreListed book.old) }
+    ensures said { IfOk result (CanBeSaid book.old.sheets) }
     ensures sheets { book.new.sheets ≡ book.old.sheets }
     ensures memory { OnErr result (book.new ≡ book.old) }
 {
     match put(alloc, book, &statement.adj, point) {
-        Ok(()) => Ok(Solved::Optimal(objective_value(statement.objective, statement.goal, value))),
-        Err(PutFault::NoRoom(cell)) => Ok(Solved::NoRoom(cell)),
+        Ok(()) => Ok(Answer::Optimal(objective_value(statement.objective, statement.goal, value))),
+        Err(PutFault::NoRoom(cell)) => Ok(Answer::NoRoom(cell)),
         Err(PutFault::Memory) => Err(Memory),
     }
 }
@@ -64,21 +64,21 @@ pub(crate) fn tell(
     statement: &Statement,
     end: &Option<Progress>,
     units: u64,
-) -> Result<Solved, Memory>
+) -> Result<Answer, Memory>
     requires can { CanBeTold (length statement.now.adj) end.now }
     requires listed { All (IsListed book.old.sheets) statement.now.adj }
     requires distinct { AreDistinct statement.now.adj }
     ensures tells { IfOk result
         (λ s. Tells book.old (statement_of statement.now) end.now units s book.new) }
-    ensures said { IfOk result (CellsAreListed book.old) }
+    ensures said { IfOk result (CanBeSaid book.old.sheets) }
     ensures sheets { book.new.sheets ≡ book.old.sheets }
     ensures memory { OnErr result (book.new ≡ book.old) }
 {
     match end {
         Some(Progress::Optimal(point, value)) => write(alloc, book, statement, point, *value),
-        Some(Progress::Infeasible) => Ok(Solved::Infeasible),
-        Some(Progress::Unbounded(_, _)) => Ok(Solved::Unbounded),
+        Some(Progress::Infeasible) => Ok(Answer::Infeasible),
+        Some(Progress::Unbounded(_, _)) => Ok(Answer::Unbounded),
         Some(Progress::More) => unreachable!(),
-        None => Ok(Solved::More(units)),
+        None => Ok(Answer::More(units)),
     }
 }
