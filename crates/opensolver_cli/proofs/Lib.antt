@@ -3,3 +3,4 @@ pub mod RecordLaws
 pub mod SaveLaws
 pub mod RunLaws
 pub mod MadeUpLaws
+pub mod CompleteLaws

@@ -1,8 +1,10 @@
--- Each status comes exactly where its cause stands.
+-- Each status comes exactly where its cause stands, and a run of which no call fails answers all records, or memory runs out.
 use Rattle.std.specs.Prelude.{◌≡◌, ◌≢◌, ◌⊎◌, List, ℕ, Option, Some, None, Result, Ok, Err, ⊤}
+use Rattle.solver_io.specs.Causes.{Rose}
 use Rattle.solver_io.specs.Files.{Files}
 use Rattle.sheet_csv.specs.Sheet.{Record}
 use Rattle.workbook.specs.State.{State}
+use Rattle.opensolver_cli.specs.Outside.{Outside}
 use Rattle.run_inputs.specs.Findings.{found}
 use Rattle.run_inputs.specs.Stops.{status_of}
 use Rattle.command_line.specs.Words.{Asked, MadeUp, Named, Script}
@@ -37,3 +39,29 @@ abbrev pub EndsExactly : Option Asked → Option Files → Option (List ℕ) →
 EndsExactly None files script ends = (ends ≡ status.Usage) ⊎ IsEarly ends
 EndsExactly (Some (Script job)) files script ends = EndsForTold job.named files script ends
 EndsExactly (Some (MadeUp size)) files script ends = IsWhole ends ⊎ IsEarly ends
+
+-- ---- runs that answer all records
+-- no call of the folder, the script or the sink failed
+pub record NothingFailed (before after : Outside) : Type 0 where
+  pub folder_reads : ¬ (Rose before.folder_reads after.folder_reads)
+  pub folder_writes : ¬ (Rose before.folder_writes after.folder_writes)
+  pub script_reads : ¬ (Rose before.script_reads after.script_reads)
+  pub sink_writes : ¬ (Rose before.sink_writes after.sink_writes)
+
+-- the folder and the script tell their bytes, and what is found of them is a workbook and records
+pub record CanBeAnswered (named : Named) (before : Outside) : Type 0 where
+  pub files : Files
+  pub script : List ℕ
+  pub files_are : before.files ≡ Some files
+  pub script_is : before.left ≡ Some script
+  pub ready : State × List Record
+  pub finds : found named files script ≡ Ok ready
+
+-- the words ask for something, and where they name files, these can be answered
+abbrev pub IsWellFormed : Option Asked → Outside → Type 0
+IsWellFormed None before = ⊥
+IsWellFormed (Some (Script job)) before = CanBeAnswered job.named before
+IsWellFormed (Some (MadeUp size)) before = ⊤
+
+abbrev pub IsComplete : Option Asked → Outside → Outside → Status → Type 0
+IsComplete asked before after ends = IsWellFormed asked before → NothingFailed before after → IsWhole ends ⊎ (ends ≡ status.Memory)

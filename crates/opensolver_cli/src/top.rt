@@ -2,7 +2,7 @@
 ghost use Rattle.std.specs.Prelude.{◌≡◌, ◌<◌, ◌≤◌, All, Some, length, map, string_bytes, true};
 ghost use Rattle.commands.specs.declared.units.TheConstants.{MOST_UNITS};
 ghost use Rattle.opensolver_cli.specs.Answering.{IsSinkFault, Says};
-ghost use Rattle.opensolver_cli.specs.Completeness.{EndsExactly};
+ghost use Rattle.opensolver_cli.specs.Completeness.{EndsExactly, IsComplete};
 ghost use Rattle.opensolver_cli.specs.Headline.{IsCounted, RunsAs, RunsScript, rule_of};
 ghost use Rattle.opensolver_cli.specs.Outside.{seen};
 ghost use Rattle.run_inputs.specs.Stops.{status_of, stop_line};
@@ -44,6 +44,14 @@ pub fn run<F: Folder, S: Source, K: Sink>(
     ensures exactly { EndsExactly (asked_of (texts_of words.now))
         (F.content folder.old) (S.left script.old) result }
     ensures counts { IsCounted
+        (seen (F.content folder.old) (F.read_faults folder.old)
+        (F.write_faults folder.old) (F.write_wants folder.old) (S.left script.old)
+        (S.faults script.old) (K.pieces out.old) (K.faults out.old))
+        (seen (F.content folder.new) (F.read_faults folder.new)
+        (F.write_faults folder.new) (F.write_wants folder.new) (S.left script.new)
+        (S.faults script.new) (K.pieces out.new) (K.faults out.new))
+        result }
+    ensures complete { IsComplete (asked_of (texts_of words.now))
         (seen (F.content folder.old) (F.read_faults folder.old)
         (F.write_faults folder.old) (F.write_wants folder.old) (S.left script.old)
         (S.faults script.old) (K.pieces out.old) (K.faults out.old))
