@@ -15,6 +15,8 @@ pub mod Narrowness
 pub mod Merging
 pub mod Walking
 pub mod Below
-pub mod Taking
+pub mod Back
+pub mod TakenBack
+pub mod Changing
 pub mod Pivoted
 pub mod WrittenBack

@@ -12,7 +12,6 @@ use Rattle.dictionaries.specs.Dictionary.{substituted}
 use Rattle.dictionaries.specs.Narrow.{IsNarrowStep, IsNarrowAt, IsNarrowSubstituted}
 use Rattle.dictionaries.proofs.Keeps.{length-substituted}
 use Rattle.tableau.specs.Entries.{pair_at, AreEntries}
-use Rattle.tableau.specs.Written.{IsWritten}
 use Rattle.tableau.proofs.Adding.{sum_added}
 use Rattle.tableau.proofs.Narrowness.{all_checked}
 use Rattle.tableau.proofs.Zeros.{stays}
@@ -53,10 +52,10 @@ pub written_result : {T E : Type 0} (row by into : List ℚ) (col : ℕ) (rest f
     → MatchResult result (λ _. (j : ℕ) → suc j < length row
     → (at into (suc j) ≡ at (substituted row (suc col) by) (suc j)) × (at by (suc j) ≢ zero_ℚ → IsNarrowAt row (suc col) by (suc j)))
     (λ _. ¬ (IsNarrowSubstituted row (suc col) by))
-    → MatchResult result (λ _. IsWritten row (suc col) by into × IsNarrowSubstituted row (suc col) by) (λ _. ¬ (IsNarrowSubstituted row (suc col) by))
+    → MatchResult result (λ _. (into ≡ substituted row (suc col) by) × IsNarrowSubstituted row (suc col) by) (λ _. ¬ (IsNarrowSubstituted row (suc col) by))
 written_result row by into col rest factor other sum (Err x) n e f p q r s t m = m
 written_result row by into col rest factor other sum (Ok x) n e f p q r s t m = (
-  λ z. ext_get_or zero_ℚ into (substituted row (suc col) by) (f ∙ sym (length-substituted row (suc col) by e)) (λ j l. there j (omega (arith, l, f))),
+  ext_get_or zero_ℚ into (substituted row (suc col) by) (f ∙ sym (length-substituted row (suc col) by e)) (λ j l. there j (omega (arith, l, f))),
   all_checked row by col rest factor other n p q r s.1 (λ j l. (m j l).1),
 )
   where

@@ -6,7 +6,7 @@ use Rattle.fractions.specs.Rational.{ℚ}
 use Rattle.dictionaries.specs.Dictionary.{Dictionary, IsShaped, IsPlace, row_of, solved_row, pivoted}
 use Rattle.dictionaries.specs.Narrow.{IsNarrowPivot, IsNarrowSolvedRow}
 use Rattle.dictionaries.proofs.Keeps.{pivot_keeps_shape}
-use Rattle.tableau.specs.Table.{Numbers, IsTable, IsNarrowTable, table_after}
+use Rattle.tableau.specs.Table.{Numbers, IsNarrowTable, table_after}
 
 -- the numbers of a dictionary
 abbrev pub numbers_of : Dictionary → Numbers
@@ -58,7 +58,3 @@ pivot_made d r c v w row by t e f g h n i m = (
 
     narrow : IsNarrowTable (numbers_of d) r (suc c) (solved_row (row_of d r) (suc c))
     narrow = subst (IsNarrowTable (numbers_of d) r (suc c)) by_is m
-
--- the shape of a table, by equal numbers
-pub same_table : (t : Numbers) (height width rows columns : ℕ) → height ≡ rows → width ≡ columns → IsTable t height width → IsTable t rows columns
-same_table t height width rows columns e f h = subst (λ n. IsTable t n columns) e (subst (λ n. IsTable t height n) f h)

@@ -1,5 +1,5 @@
 pub mod Entries
 pub mod Rows
-pub mod Written
+pub mod Changed
 pub mod Table
 pub mod Fields

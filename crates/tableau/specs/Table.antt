@@ -3,7 +3,6 @@ use Rattle.std.specs.Prelude.{◌≡◌, ℕ, List, length, map, set, All}
 use Rattle.fractions.specs.Rational.{ℚ}
 use Rattle.dictionaries.specs.Dictionary.{substituted}
 use Rattle.dictionaries.specs.Narrow.{AreNarrow, IsNarrowSubstituted}
-use Rattle.tableau.specs.Written.{IsWritten, AreWritten}
 
 -- the rows, the objective and the auxiliary objective
 pub record Numbers : Type 0 where
@@ -23,12 +22,6 @@ pub record IsNarrowTable (t : Numbers) (leaving k : ℕ) (by : List ℚ) : Type 
   pub rows : AreNarrow t.rows leaving k by
   pub objective : IsNarrowSubstituted t.objective k by
   pub auxiliary : IsNarrowSubstituted t.auxiliary k by
-
--- each row that changes is made
-pub record IsTableWritten (t : Numbers) (leaving k : ℕ) (by : List ℚ) (into : Numbers) : Type 0 where
-  pub rows : AreWritten t.rows leaving k by into.rows
-  pub objective : IsWritten t.objective k by into.objective
-  pub auxiliary : IsWritten t.auxiliary k by into.auxiliary
 
 -- the numbers after the pivot
 abbrev pub table_after : Numbers → ℕ → ℕ → List ℚ → Numbers

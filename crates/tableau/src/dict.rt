@@ -12,15 +12,15 @@ use memory::Memory;
 use std::alloc::Global;
 use std::marker::Model;
 
-/// A dictionary, with room for the rows that a pivot makes. Each row has room for an entry in every column, so that a pivot
-/// takes no memory. The new rows are made there first, so that nothing changes where the pivot can't be made.
+/// A dictionary, with a row to which the leaving one is solved and a spare one, in which each row that a pivot changes is
+/// made. Each row has room for an entry in every column, so that a pivot takes no memory.
 #[derive(Drop)]
 pub struct Dict {
     basic: Vec<u16>,
     nonbasic: Vec<u16>,
     table: Table,
-    room: Table,
     solved: Row,
+    spare: Row,
 }
 
 impl Model for Dict {
@@ -60,14 +60,14 @@ impl Dict {
           auxiliary = table.auxiliary;
         }) }
     {
-        let room = Table::blank(alloc, basic.len(), nonbasic.len())?;
         let solved = Row::blank(alloc, nonbasic.len())?;
+        let spare = Row::blank(alloc, nonbasic.len())?;
         Ok(Dict {
             basic,
             nonbasic,
             table,
-            room,
             solved,
+            spare,
         })
     }
 
@@ -84,11 +84,13 @@ impl Dict {
             Ok(()) => {}
             Err(fault) => return Err(fault),
         }
-        match self.room.write(&self.table, row, col, &self.solved) {
+        match self
+            .table
+            .change(row, col, &mut self.solved, &mut self.spare)
+        {
             Ok(()) => {}
             Err(fault) => return Err(fault),
         }
-        self.table.take(row, col, &mut self.solved, &mut self.room);
         let col = col as usize;
         let leaving = self.basic[row];
         self.basic[row] = self.nonbasic[col];

@@ -6,6 +6,7 @@ mod entries;
 mod first;
 mod making;
 mod numbers;
+mod objectives;
 mod products;
 mod row;
 mod rows;

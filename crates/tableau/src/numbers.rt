@@ -6,7 +6,7 @@ ghost use Rattle.frac128.specs.Narrow.{IsNarrow};
 ghost use Rattle.dictionaries.specs.Dictionary.{solved_row, substituted};
 ghost use Rattle.dictionaries.specs.Narrow.{IsNarrowAt, IsNarrowQuotient, IsNarrowSolvedRow, IsNarrowSubstituted, dividend};
 ghost use Rattle.tableau.specs.Entries.{AreEntries, IsRising, pair_at};
-ghost use Rattle.tableau.specs.Written.{IsWritten};
+ghost use Rattle.tableau.specs.Changed.{IsChanged};
 
 use crate::products::plus_product;
 use crate::row::Row;
@@ -177,24 +177,20 @@ fn write_entries(row: &Row, col: u16, factor: Frac, by: &Row, into: &mut Row) ->
     Ok(())
 }
 
-/// Makes the row where `by` comes in for the variable of the column, unless the row has no entry there.
-pub fn write(row: &Row, col: u16, by: &Row, into: &mut Row) -> Result<(), Wide>
+/// Makes the row, which has the factor at the column, where `by` comes in for the variable of the column.
+fn write(row: &Row, col: u16, factor: Frac, by: &Row, into: &mut Row) -> Result<(), Wide>
     requires place { suc col < length row.now }
+    requires factor { factor ≡ at row.now (suc col) }
     requires other { length by.now ≡ length row.now }
     requires entry { at by.now (suc col) ≢ zero_ℚ }
     requires room { length into.old ≡ length row.now }
-    ensures made { MatchResult result (λ _. IsWritten row.now (suc col) by.now into.new
+    requires narrow { (j : ℕ) → j < length row.now → IsNarrow (at row.now j) }
+    ensures made { MatchResult result (λ _. (into.new ≡ substituted row.now (suc col) by.now)
         × IsNarrowSubstituted row.now (suc col) by.now)
         (λ _. ¬ (IsNarrowSubstituted row.now (suc col) by.now)) }
     ensures size { length into.new ≡ length into.old }
 {
-    let factor = row.entry(col);
     let rest = row.rest();
-    all_narrow(row.kept());
-    let _num = rest.num();
-    if factor.is_zero() {
-        return Ok(());
-    }
     match plus_product(rest, factor, by.rest()) {
         Ok(sum) => {
             into.clear();
@@ -205,17 +201,55 @@ pub fn write(row: &Row, col: u16, by: &Row, into: &mut Row) -> Result<(), Wide>
     }
 }
 
-/// The row changes places with the one that was made, where it has an entry at the column.
-pub fn take_over(row: &mut Row, col: u16, from: &mut Row)
-    requires place { suc col < length row.old }
-    requires room { length from.old ≡ length row.old }
-    ensures made { (by : List ℚ) → length by ≡ length row.old
-        → IsWritten row.old (suc col) by from.old → row.new ≡ substituted row.old (suc col) by }
-    ensures size { length row.new ≡ length row.old }
-    ensures room { length from.new ≡ length row.old }
+/// Each number of the row is narrow, since it stands in 128 bits: nothing is done for it when this runs.
+fn row_is_narrow(row: &Row)
+    requires { 0 < length row.now }
+    ensures { (j : ℕ) → j < length row.now → IsNarrow (at row.now j) }
 {
-    if row.entry(col).is_zero() {
-        return;
+    let rest = row.rest();
+    let kept = row.kept();
+    all_narrow(kept);
+    let _num = rest.num();
+}
+
+/// Lets `by` come in for the variable of the column: the row is made in the spare one, and changes places with it. A row
+/// without an entry at the column isn't touched, and none changes where a number would not be narrow.
+pub fn change(row: &mut Row, col: u16, by: &Row, spare: &mut Row) -> Result<(), Wide>
+    requires place { suc col < length row.old }
+    requires other { length by.now ≡ length row.old }
+    requires entry { at by.now (suc col) ≢ zero_ℚ }
+    requires room { length spare.old ≡ length row.old }
+    ensures made { MatchResult result (λ _. IsChanged row.old (suc col) by.now row.new)
+        (λ _. (row.new ≡ row.old) × ¬ (IsNarrowSubstituted row.old (suc col) by.now)) }
+    ensures size { length row.new ≡ length row.old }
+    ensures room { length spare.new ≡ length row.old }
+{
+    let factor = row.entry(col);
+    row_is_narrow(row);
+    if factor.is_zero() {
+        return Ok(());
     }
-    mem::swap(row, from);
+    match write(row, col, factor, by, spare) {
+        Ok(()) => {}
+        Err(fault) => return Err(fault),
+    }
+    mem::swap(row, spare);
+    Ok(())
+}
+
+/// Lets `by` come in for the variable of the column, where it is known that this makes narrow numbers.
+pub fn change_back(row: &mut Row, col: u16, by: &Row, spare: &mut Row)
+    requires place { suc col < length row.old }
+    requires other { length by.now ≡ length row.old }
+    requires entry { at by.now (suc col) ≢ zero_ℚ }
+    requires room { length spare.old ≡ length row.old }
+    requires narrow { IsNarrowSubstituted row.old (suc col) by.now }
+    ensures made { row.new ≡ substituted row.old (suc col) by.now }
+    ensures size { length row.new ≡ length row.old }
+    ensures room { length spare.new ≡ length row.old }
+{
+    match change(row, col, by, spare) {
+        Ok(()) => {}
+        Err(_) => unreachable!(),
+    }
 }

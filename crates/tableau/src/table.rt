@@ -1,15 +1,14 @@
 // The rows of a dictionary with its two objectives.
-ghost use Rattle.std.specs.Prelude.{◌≡◌, ◌≢◌, ◌<◌, ◌^◌, suc, [], length, IfOk, MatchResult, slice_index_or};
+ghost use Rattle.std.specs.Prelude.{◌≡◌, ◌≢◌, ◌<◌, suc, [], length, MatchResult, slice_index_or};
 ghost use Rattle.fractions.specs.Rational.{zero_ℚ};
 ghost use Rattle.fractions.specs.Vectors.{at};
-ghost use Rattle.tableau.specs.Table.{IsTable, IsNarrowTable, IsTableWritten, table_after};
+ghost use Rattle.dictionaries.specs.Dictionary.{solved_row};
+ghost use Rattle.tableau.specs.Table.{IsTable, IsNarrowTable, table_after};
 
-use crate::numbers::{take_over, write};
+use crate::objectives::{change_both, restore_both};
 use crate::row::Row;
-use crate::rows::{blank_rows, next_rows, write_rows};
+use crate::rows::change_rows;
 use frac128::Wide;
-use memory::Memory;
-use std::alloc::Global;
 use std::marker::Model;
 
 /// The rows, and the rows of the two objectives.
@@ -60,58 +59,52 @@ impl Table {
         &self.auxiliary
     }
 
-    /// A table of zeros.
-    pub fn blank(alloc: Global, height: usize, columns: usize) -> Result<Table, Memory>
-        requires { columns < 2 ^ 16 }
-        ensures { IfOk result (λ t. IsTable t height (suc columns)) }
-    {
-        let rows = blank_rows(alloc, height, columns)?;
-        let objective = Row::blank(alloc, columns)?;
-        let auxiliary = Row::blank(alloc, columns)?;
-        Ok(Table {
-            rows,
-            objective,
-            auxiliary,
-        })
-    }
-
-    /// Makes the rows of another table, as far as they change, where `by` comes in for the variable of the column, which
-    /// leaves at the row.
-    pub fn write(&mut self, of: &Table, leaving: usize, col: u16, by: &Row) -> Result<(), Wide>
-        requires place { suc col < length by.now }
-        requires entry { at by.now (suc col) ≢ zero_ℚ }
-        requires shaped { IsTable of.now (length of.now.rows) (length by.now) }
-        requires room { IsTable self.old (length of.now.rows) (length by.now) }
-        ensures made { MatchResult result
-            (λ _. IsTableWritten of.now leaving (suc col) by.now self.new
-            × IsNarrowTable of.now leaving (suc col) by.now)
-            (λ _. ¬ (IsNarrowTable of.now leaving (suc col) by.now)) }
-        ensures room { IsTable self.new (length of.now.rows) (length by.now) }
-    {
-        match write_rows(&of.rows, leaving, col, by, &mut self.rows) {
-            Ok(()) => {}
-            Err(fault) => return Err(fault),
-        }
-        match write(&of.objective, col, by, &mut self.objective) {
-            Ok(()) => {}
-            Err(fault) => return Err(fault),
-        }
-        write(&of.auxiliary, col, by, &mut self.auxiliary)
-    }
-
-    /// The rows change places with those that were made, with `by` as the leaving row.
-    pub fn take(&mut self, leaving: usize, col: u16, by: &mut Row, from: &mut Table)
+    /// Lets `by`, to which the leaving row is solved, come in for the variable of the column, and take the leaving row's place.
+    /// Where a number would not be narrow, nothing has changed.
+    pub fn change(
+        &mut self,
+        leaving: usize,
+        col: u16,
+        by: &mut Row,
+        spare: &mut Row,
+    ) -> Result<(), Wide>
         requires leaving { leaving < length self.old.rows }
         requires place { suc col < length by.old }
+        requires pivot { at (slice_index_or self.old.rows leaving []) (suc col) ≢ zero_ℚ }
+        requires solved { by.old ≡ solved_row (slice_index_or self.old.rows leaving []) (suc col) }
+        requires entry { at by.old (suc col) ≢ zero_ℚ }
         requires shaped { IsTable self.old (length self.old.rows) (length by.old) }
-        requires room { IsTable from.old (length self.old.rows) (length by.old) }
-        requires written { IsTableWritten self.old leaving (suc col) by.old from.old }
-        ensures made { self.new ≡ table_after self.old leaving (suc col) by.old }
+        requires room { length spare.old ≡ length by.old }
+        ensures made { MatchResult result
+            (λ _. (self.new ≡ table_after self.old leaving (suc col) by.old)
+            × IsNarrowTable self.old leaving (suc col) by.old)
+            (λ _. (self.new ≡ self.old) × ¬ (IsNarrowTable self.old leaving (suc col) by.old)) }
         ensures size { length by.new ≡ length by.old }
-        ensures room { IsTable from.new (length self.old.rows) (length by.old) }
+        ensures room { length spare.new ≡ length by.old }
     {
-        take_over(&mut self.objective, col, &mut from.objective);
-        take_over(&mut self.auxiliary, col, &mut from.auxiliary);
-        next_rows(&mut self.rows, leaving, col, by, &mut from.rows);
+        match change_both(
+            &mut self.objective,
+            &mut self.auxiliary,
+            &self.rows[leaving],
+            col,
+            by,
+            spare,
+        ) {
+            Ok(()) => {}
+            Err(fault) => return Err(fault),
+        }
+        match change_rows(&mut self.rows, leaving, col, by, spare) {
+            Ok(()) => Ok(()),
+            Err(fault) => {
+                restore_both(
+                    &mut self.objective,
+                    &mut self.auxiliary,
+                    &self.rows[leaving],
+                    col,
+                    spare,
+                );
+                Err(fault)
+            }
+        }
     }
 }

@@ -1,26 +1,16 @@
-use Rattle.std.proofs.Common.{◌≡◌, ◌<◌, ◌∙◌, sym, ap, subst, length, arith}
+use Rattle.std.proofs.Common.{◌≡◌, ◌<◌, ◌∙◌, ap, length, arith}
 use Rattle.std.proofs.lemmas.List.{length-replicate, length-set}
 use Rattle.fractions.specs.Rational.{zero_ℚ}
-use Rattle.frac128.specs.Narrow.{IsNarrow}
 use Rattle.tableau.proofs.Made.{put_here}
 use Rattle.tableau.proofs.Merging.{written_result}
-use Rattle.tableau.proofs.Narrowness.{all_numbers_narrow}
-use Rattle.tableau.proofs.Zeros.{narrow_row}
 use Rattle.tableau.proofs.numbers.write.Goals as goal
-
-pub returns-then-is_zero-clause-made : goal.returns-then-is_zero-clause-made
-returns-then-is_zero-clause-made c =
-    let all = all_numbers_narrow c.args.row.now c.kept.result.now c.kept.ensures (subst IsNarrow c.rest-rest.ensures c.num-num.ensures.narrow) c.all_narrow.ensures in
-    let z = sym c.entry-factor.ensures ∙ c.is_zero.ensures.0 c.if-is_zero.true in
-    (λ n. absurd (n z), narrow_row c.args.row.now _ c.args.by.now z all)
 
 pub returns-in-Ok-clause-made : goal.returns-in-Ok-clause-made
 returns-in-Ok-clause-made c =
-    let all = all_numbers_narrow c.args.row.now c.kept.result.now c.kept.ensures (subst IsNarrow c.rest-rest.ensures c.num-num.ensures.narrow) c.all_narrow.ensures in
     let width : length c.clear.new.self ≡ length c.args.into.now = ap length c.clear.ensures ∙ length-replicate (length c.args.into.now) zero_ℚ in
     let some : 0 < length c.clear.new.self = omega (arith, c.requires.place, c.requires.room, width) in
     let size : length c.write_entries.new.into ≡ length c.args.row.now =
     c.write_entries.ensures.size ∙ ap length c.set_rest.ensures ∙ length-set c.clear.new.self 0 c.in-Ok.sum ∙ width ∙ c.requires.room in
-    written_result c.args.row.now c.args.by.now c.write_entries.new.into c.args.col c.rest-rest.result c.entry-factor.result c.rest.result c.in-Ok.sum c.write_entries.result all
-    c.requires.other size c.rest-rest.ensures c.entry-factor.ensures c.rest.ensures c.in-Ok.ensures
+    written_result c.args.row.now c.args.by.now c.write_entries.new.into c.args.col c.rest-rest.result c.args.factor c.rest.result c.in-Ok.sum c.write_entries.result c.requires.narrow
+    c.requires.other size c.rest-rest.ensures c.requires.factor c.rest.ensures c.in-Ok.ensures
     (c.write_entries.ensures.rest ∙ put_here c.clear.new.self c.set_rest.new.self 0 c.in-Ok.sum c.set_rest.ensures some) c.write_entries.ensures.made

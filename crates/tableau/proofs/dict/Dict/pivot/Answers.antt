@@ -3,7 +3,7 @@ use Rattle.std.proofs.lemmas.List.{length-set, get_or_read}
 use Rattle.dictionaries.specs.Dictionary.{Dictionary, IsPlace, pivoted}
 use Rattle.dictionaries.specs.Narrow.{IsNarrowPivot}
 use Rattle.tableau.specs.Fields.{dictionary_of}
-use Rattle.tableau.proofs.Pivoted.{shaped_after, same_table, pivot_made, with_numbers}
+use Rattle.tableau.proofs.Pivoted.{shaped_after, pivot_made, with_numbers}
 use Rattle.tableau.proofs.dict.Dict.pivot.Goals as goal
 
 pub invariant_of-self-2 : goal.invariant_of-self-2
@@ -12,11 +12,10 @@ invariant_of-self-2 c =
     let wide : length c.solve_for.new.into ≡ length i.nonbasic.items + 1 = c.in-Ok.ensures.size ∙ c.self.invariant.solved in
     let place : IsPlace (dictionary_of i) c.args.row c.args.col = subst (λ d. IsPlace d c.args.row c.args.col) (sym c.self.view_is) c.requires in
     record {
-      shaped = shaped_after (dictionary_of i) c.args.row c.args.col (suc c.args.col) _ _ c.row.result.now c.solve_for.new.into c.take.new.self
-          c.self.invariant.shaped place refl c.row.ensures c.in-Ok.ensures.made.0 c.take.ensures.made;
-      room = same_table c.take.new.from _ _ _ _ (c.self.invariant.shaped.rows ∙ sym (length-set i.basic.items c.args.row _))
-          (wide ∙ ap (λ n. n + 1) (sym (length-set i.nonbasic.items c.args.col _))) c.take.ensures.room;
-      solved = c.take.ensures.size ∙ wide ∙ ap (λ n. n + 1) (sym (length-set i.nonbasic.items c.args.col _));
+      shaped = shaped_after (dictionary_of i) c.args.row c.args.col (suc c.args.col) _ _ c.row.result.now c.solve_for.new.into c.change.new.self
+          c.self.invariant.shaped place refl c.row.ensures c.in-Ok.ensures.made.0 c.in-Ok-change.ensures.made.0;
+      solved = c.in-Ok-change.ensures.size ∙ wide ∙ ap (λ n. n + 1) (sym (length-set i.nonbasic.items c.args.col _));
+      spare = c.in-Ok-change.ensures.room ∙ wide ∙ ap (λ n. n + 1) (sym (length-set i.nonbasic.items c.args.col _));
       height = subst (λ n. n < 2 ^ 16) (sym (length-set i.basic.items c.args.row _)) c.self.invariant.height;
       width = subst (λ n. n < 2 ^ 16) (sym (length-set i.nonbasic.items c.args.col _)) c.self.invariant.width;
     }
@@ -29,7 +28,7 @@ returns c =
     let place : IsPlace (dictionary_of i) row col = subst (λ d. IsPlace d row col) (sym c.self.view_is) c.requires in
     let entering = get_or_read i.nonbasic.items col c.index.result.now place.column c.index.ensures 0 in
     let leaving = get_or_read i.basic.items row c.index-leaving.result.now place.row c.index-leaving.ensures 0 in
-    subst (λ (d : Dictionary). (with_numbers (set i.basic.items row c.index.result.now) (set i.nonbasic.items col c.index-leaving.result.now) c.take.new.self ≡ pivoted d row col) × IsNarrowPivot d row col)
+    subst (λ (d : Dictionary). (with_numbers (set i.basic.items row c.index.result.now) (set i.nonbasic.items col c.index-leaving.result.now) c.change.new.self ≡ pivoted d row col) × IsNarrowPivot d row col)
     c.self.view_is
-    (pivot_made (dictionary_of i) row col c.index.result.now c.index-leaving.result.now c.row.result.now c.solve_for.new.into c.take.new.self entering leaving
-    c.row.ensures c.in-Ok.ensures.made.0 c.in-Ok.ensures.made.1 c.take.ensures.made c.in-Ok-write.ensures.made.1)
+    (pivot_made (dictionary_of i) row col c.index.result.now c.index-leaving.result.now c.row.result.now c.solve_for.new.into c.change.new.self entering leaving
+    c.row.ensures c.in-Ok.ensures.made.0 c.in-Ok.ensures.made.1 c.in-Ok-change.ensures.made.0 c.in-Ok-change.ensures.made.1)
