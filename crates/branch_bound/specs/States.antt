@@ -4,7 +4,6 @@ use Rattle.std.specs.List.{AllByRecursion}
 use Rattle.std.specs.Option.{option_map}
 use Rattle.fractions.specs.Rational.{ℚ}
 use Rattle.dictionaries.specs.Dictionary.{first_of_program}
-use Rattle.dictionaries.specs.Bland.{HasEnded}
 use Rattle.dictionaries.specs.Run.{IsReached}
 use Rattle.node_pick.specs.Rules.{Rule, Follows}
 use Rattle.node_pick.specs.Messages.{Message, question, news}
@@ -14,6 +13,7 @@ use Rattle.linear_models.specs.Model.{Model}
 use Rattle.searches.specs.Trees as trees
 use Rattle.searches.specs.Trails as trails
 use Rattle.search_paths.specs.Tables as table
+use Rattle.search_ends.specs.Ends.{IsNext}
 use Rattle.branch_bound.specs.declared.frontier.Visit.{Visit}
 use Rattle.branch_bound.specs.declared.frontier.Found.{Found}
 use Rattle.branch_bound.specs.declared.frontier.Way.{Way}
@@ -112,9 +112,10 @@ pub record IsReady (m : Model) (f : Frontier) (w : Work) : Type 0 where
   pub listed : IsListed f.paths.paths w.info
   pub room : HasRoom f 2
 
+-- and its run goes on, with the next pivot that is kept with it
 abbrev pub IsReadyIf : Model → Frontier → Option Work → Type 0
 IsReadyIf m f None = ⊤
-IsReadyIf m f (Some w) = IsReady m f w × (HasEnded w.dict → ⊥)
+IsReadyIf m f (Some w) = IsReady m f w × IsNext w.dict w.next
 
 -- ---- openings
 -- what was made ready for a node that still waits

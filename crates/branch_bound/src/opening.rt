@@ -16,6 +16,7 @@ use lin_model::LinModel;
 use linear_programs::Standard;
 use memory::Memory;
 use node_pick::{NodeEvent, NodeInfo, Picker};
+use search_ends::Pivot;
 use std::alloc::Global;
 use tableau::start;
 
@@ -68,6 +69,7 @@ fn prepare(model: &LinModel, frontier: &mut Frontier, info: NodeInfo) -> Result<
         pivots: 0,
         program,
         dict,
+        next: Pivot { row: 0, column: 0 },
         point,
         direction,
     })

@@ -166,9 +166,9 @@ impl Search {
                         self.work = settle(&self.model, &mut self.frontier, work, pick);
                         Ok(())
                     }
-                    Err((row, col)) => {
+                    Err(next) => {
                         self.work = Some(work);
-                        Err(StepStop::Wide(row, col))
+                        Err(StepStop::Wide(next.row, next.column))
                     }
                 }
             }

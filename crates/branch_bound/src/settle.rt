@@ -14,7 +14,7 @@ use crate::work::Work;
 use frac128::Frac;
 use lin_model::LinModel;
 use node_pick::{NodeEvent, NodeInfo, Picker};
-use search_ends::{NodeEnd, end_of};
+use search_ends::{NodeEnd, NodeRun, run_of};
 use search_paths::Part;
 
 // The value of the point found, if one is found.
@@ -153,7 +153,7 @@ fn finish(frontier: &mut Frontier, work: Work, end: NodeEnd, pick: &mut Box<dyn 
     }
 }
 
-/// The node that is worked on, unless its run has ended; then its end is taken, which needs no memory.
+/// The node that is worked on, with its next pivot, unless its run has ended; then its end is taken, which needs no memory.
 pub(crate) fn settle(
     model: &LinModel,
     frontier: &mut Frontier,
@@ -172,7 +172,7 @@ pub(crate) fn settle(
 {
     let mut work = work;
     let best = best_value(frontier);
-    let end = end_of(
+    let run = run_of(
         model,
         best,
         &work.program,
@@ -180,9 +180,12 @@ pub(crate) fn settle(
         &mut work.point,
         &mut work.direction,
     );
-    match end {
-        None => Some(work),
-        Some(end) => {
+    match run {
+        NodeRun::Goes(next) => {
+            work.next = next;
+            Some(work)
+        }
+        NodeRun::Ends(end) => {
             finish(frontier, work, end, pick);
             None
         }

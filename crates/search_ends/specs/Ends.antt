@@ -1,15 +1,19 @@
--- What becomes of a node, as an end of it.
+-- What becomes of a node, as an end of it, and how its run goes on.
 use Rattle.std.specs.Prelude.{◌≡◌, pos, ◌+ℤ◌, List, Option, Some, None, ⊤}
 use Rattle.std.specs.Option.{option_map}
 use Rattle.fractions.specs.Rational.{ℚ, ◌<ℚ◌}
 use Rattle.frac128.specs.Narrow.{IsNarrowWhole}
 use Rattle.linear_programs.specs.Program.{Program}
 use Rattle.dictionaries.specs.Dictionary.{Dictionary}
+use Rattle.dictionaries.specs.Bland.{HasEnded, NextPivot}
 use Rattle.linear_models.specs.Model.{Model}
 use Rattle.searches.specs.Trees.{End, empty, beaten, whole, split, endless, Found}
 use Rattle.searches.specs.Trails.{Outcome, Finishes, ComesTo}
 use Rattle.search_ends.specs.declared.ends.NodeEnd.{NodeEnd}
 use Rattle.search_ends.specs.declared.ends.NodeEnd.TheVariants as ends
+use Rattle.search_ends.specs.declared.ends.NodeRun.{NodeRun}
+use Rattle.search_ends.specs.declared.ends.NodeRun.TheVariants as runs
+use Rattle.search_ends.specs.declared.ends.Pivot.{Pivot}
 
 -- with the point and the direction where it has them
 abbrev pub end_at : NodeEnd → List ℚ → List ℚ → End
@@ -34,6 +38,15 @@ pub record IsEndOf (m : Model) (best : Option ℚ) (p : Program) (d : Dictionary
   pub finishes : Finishes p d outcome
   pub comes : ComesToWith m best outcome e
 
+-- the pivot is the dictionary's next one
+abbrev pub IsNext : Dictionary → Pivot → Type 0
+IsNext d next = NextPivot d next.row next.column
+
+-- the run goes on at the dictionary, with that pivot; or it has ended there, and its outcome comes to that end, with the point and the direction
+abbrev pub IsRunOf : Model → Option ℚ → Program → Dictionary → NodeRun → List ℚ → List ℚ → Type 0
+IsRunOf m best p d (runs.Goes next) point way = (HasEnded d → ⊥) × IsNext d next
+IsRunOf m best p d (runs.Ends e) point way = IsEndOf m best p d (end_at e point way)
+
 -- the floor of a split and the whole number above it fit
 abbrev pub HasNarrowParts : NodeEnd → Type 0
 HasNarrowParts ends.Empty = ⊤
@@ -41,3 +54,7 @@ HasNarrowParts (ends.Beaten v) = ⊤
 HasNarrowParts (ends.Whole v) = ⊤
 HasNarrowParts (ends.Split j f v) = IsNarrowWhole f × IsNarrowWhole (f +ℤ pos 1)
 HasNarrowParts ends.Endless = ⊤
+
+abbrev pub HasNarrowEnd : NodeRun → Type 0
+HasNarrowEnd (runs.Goes next) = ⊤
+HasNarrowEnd (runs.Ends e) = HasNarrowParts e

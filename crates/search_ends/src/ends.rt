@@ -1,11 +1,10 @@
-ghost use Rattle.std.specs.Prelude.{◌≡◌, ◌≢◌, ◌↔◌, length, List, IsTrue, MatchOption, IfSome, Option};
+ghost use Rattle.std.specs.Prelude.{◌≡◌, ◌≢◌, ◌↔◌, length, List, IsTrue, Option};
 ghost use Rattle.fractions.specs.Rational.{ℚ, denominator};
 ghost use Rattle.fractions.specs.Floor.{floor_ℚ};
 ghost use Rattle.searches.specs.Trees.{split};
-ghost use Rattle.dictionaries.specs.Bland.{HasEnded};
 ghost use Rattle.dictionaries.specs.Run.{IsReached};
 ghost use Rattle.searches.specs.Trails.{best as at_best};
-ghost use Rattle.search_ends.specs.Ends.{ComesToWith, HasNarrowParts, IsBetter, IsEndOf, end_at};
+ghost use Rattle.search_ends.specs.Ends.{ComesToWith, HasNarrowEnd, HasNarrowParts, IsBetter, IsRunOf, end_at};
 
 use crate::broken::first_broken;
 use crate::reading::{read_direction, read_point};
@@ -24,6 +23,20 @@ pub enum NodeEnd {
     Whole(Frac),
     Split(u16, i128, Frac),
     Endless,
+}
+
+/// The row and the column of a pivot.
+#[derive(Clone, Copy)]
+pub struct Pivot {
+    pub row: u16,
+    pub column: u16,
+}
+
+/// Whether the run of a node's program goes on, with which pivot, or what becomes of the node.
+#[derive(Drop)]
+pub enum NodeRun {
+    Goes(Pivot),
+    Ends(NodeEnd),
 }
 
 // Whether the value is better than the best one, if there is one.
@@ -64,38 +77,37 @@ fn end_at_best(model: &LinModel, best: Option<Frac>, point: &[Frac], value: Frac
     }
 }
 
-/// What becomes of a node, where its program's run has come to the dictionary, and none where the run goes on. The best
-/// value is that of the best point found before. The point and the direction, of which there is one number a decision, are
-/// written where the end has them.
-pub fn end_of(
+/// What becomes of a node, where its program's run has come to the dictionary, or the next pivot where the run goes on. The
+/// best value is that of the best point found before. The point and the direction, of which there is one number a
+/// decision, are written where the end has them.
+pub fn run_of(
     model: &LinModel,
     best: Option<Frac>,
     of: &Standard,
     dict: &Dict,
     point: &mut [Frac],
     direction: &mut [Frac],
-) -> Option<NodeEnd>
+) -> NodeRun
     requires reached { IsReached of.now dict.now }
     requires decisions { length of.now.columns ≡ length model.now.whole }
     requires point { length point.old ≡ length model.now.whole }
     requires direction { length direction.old ≡ length model.now.whole }
-    ensures end { MatchOption result (¬ (HasEnded dict.now))
-        (λ e. IsEndOf model.now best of.now dict.now (end_at e point.new direction.new)) }
-    ensures narrow { IfSome result HasNarrowParts }
+    ensures run { IsRunOf model.now best of.now dict.now result point.new direction.new }
+    ensures narrow { HasNarrowEnd result }
 {
     match choose_next(of, dict) {
-        Next::Pivot(_, _) => None,
-        Next::Infeasible => Some(NodeEnd::Empty),
+        Next::Pivot(row, column) => NodeRun::Goes(Pivot { row, column }),
+        Next::Infeasible => NodeRun::Ends(NodeEnd::Empty),
         Next::Unbounded(col) => {
             read_point(of, dict, point);
             read_direction(of, dict, col, direction);
-            Some(NodeEnd::Endless)
+            NodeRun::Ends(NodeEnd::Endless)
         }
         Next::Best => {
             let _width = dict.width();
             read_point(of, dict, point);
             let value = dict.objective().rest();
-            Some(end_at_best(model, best, point, value))
+            NodeRun::Ends(end_at_best(model, best, point, value))
         }
     }
 }

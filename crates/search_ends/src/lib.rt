@@ -1,8 +1,8 @@
-//! What becomes of a node of a search at the end of its program's run.
+//! What becomes of a node of a search at the end of its program's run, and how the run goes on until then.
 #![tactic(auto)]
 
 mod broken;
 mod ends;
 mod reading;
 
-pub use ends::{NodeEnd, end_of};
+pub use ends::{NodeEnd, NodeRun, Pivot, run_of};

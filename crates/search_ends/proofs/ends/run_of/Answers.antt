@@ -4,24 +4,25 @@ use Rattle.fractions.specs.Vectors.{at}
 use Rattle.dictionaries.proofs.Ends.{end_is_final}
 use Rattle.searches.specs.Trails.{no_point, best, no_bound, without_point, at_best, without_bound, is_empty, is_endless, decisions_at}
 use Rattle.search_ends.specs.Ends.{ComesToWith, end_at}
-use Rattle.search_ends.proofs.ends.end_of.Goals as goal
+use Rattle.search_ends.proofs.ends.run_of.Goals as goal
 
-pub returns-in-Pivot-clause-end : goal.returns-in-Pivot-clause-end
-returns-in-Pivot-clause-end c = λ h. end_is_final c.args.of.now c.args.dict.now c.in-Pivot.field-0 c.in-Pivot.field-1 c.in-Pivot.ensures.on_the_way h c.in-Pivot.ensures.next
+pub returns-in-Pivot-clause-run : goal.returns-in-Pivot-clause-run
+returns-in-Pivot-clause-run c =
+    (λ h. end_is_final c.args.of.now c.args.dict.now c.in-Pivot.row c.in-Pivot.column c.in-Pivot.ensures.on_the_way h c.in-Pivot.ensures.next, c.in-Pivot.ensures.next)
 
-pub returns-in-Infeasible-clause-end : goal.returns-in-Infeasible-clause-end
-returns-in-Infeasible-clause-end c = record { outcome = no_point; finishes = without_point c.in-Infeasible.ensures.next; comes = λ found e. is_empty }
+pub returns-in-Infeasible-clause-run : goal.returns-in-Infeasible-clause-run
+returns-in-Infeasible-clause-run c = record { outcome = no_point; finishes = without_point c.in-Infeasible.ensures.next; comes = λ found e. is_empty }
 
-pub returns-in-Unbounded-clause-end : goal.returns-in-Unbounded-clause-end
-returns-in-Unbounded-clause-end c =
+pub returns-in-Unbounded-clause-run : goal.returns-in-Unbounded-clause-run
+returns-in-Unbounded-clause-run c =
     rw (c.read_point.ensures, c.read_direction.ensures) record {
       outcome = no_bound _ _;
       finishes = without_bound c.in-Unbounded.col c.in-Unbounded.ensures.next;
       comes = λ found e. is_endless _ _;
     }
 
-pub returns-in-Best-clause-end : goal.returns-in-Best-clause-end
-returns-in-Best-clause-end c =
+pub returns-in-Best-clause-run : goal.returns-in-Best-clause-run
+returns-in-Best-clause-run c =
     let p = c.args.of.now in
     let d = c.args.dict.now in
     let x : c.read_point-in-Best.new.into ≡ decisions_at p d = c.read_point-in-Best.ensures in
