@@ -1,0 +1,17 @@
+pub mod Products
+pub mod Wholes
+pub mod Counted
+pub mod WholeBounds
+pub mod Halves
+pub mod Weights
+pub mod Nodes
+pub mod Splits
+pub mod Sizes
+pub mod MoreChoices
+pub mod Programs
+pub mod Floors
+pub mod Improving
+pub mod Weighing
+pub mod Spending
+pub mod Closing
+pub mod Units
