@@ -9,3 +9,4 @@ pub mod Openings
 pub mod Holding
 pub mod Running
 pub mod Slices
+pub mod Budgets

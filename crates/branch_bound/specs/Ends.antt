@@ -1,5 +1,5 @@
 -- How a run of a search ends.
-use Rattle.std.specs.Prelude.{◌≡◌, ◌≤◌, ◌<◌, ◌⊎◌, ◌+◌, ◌∷◌, ◌++◌, ℕ, ℤ, Bool, List, [], true, false, map, Some, Result, Ok, Err}
+use Rattle.std.specs.Prelude.{◌≡◌, ◌≤◌, ◌<◌, ◌⊎◌, ◌+◌, ◌∷◌, ◌++◌, ℕ, ℤ, Bool, List, [], true, false, map, Some, Result, Ok, Err, ⊤}
 use Rattle.simplex.specs.Solved.{IsWidePivot}
 use Rattle.node_pick.specs.Messages.{Message, Hears, question}
 use Rattle.searches.specs.Trees.{info}
@@ -54,6 +54,12 @@ EndsAs before units s (Ok progress.More) = (s.units ≡ before + units) × (s.un
 EndsAs before units s (Err (stop.WidePivot path basis leaves enters)) = MayGoOn before units s × IsWideAt s.state path.items basis.items leaves enters
 EndsAs before units s (Err (stop.Budget n)) = (n ≡ s.units) × (s.budget ≤ s.units) × HasOpenLeaf s
 EndsAs before units s (Err stop.Memory) = MayGoOn before units s × IsShort s.state
+
+-- it stops for another reason than that the budget is spent
+abbrev pub HasBudgetLeft : SearchStop → Type 0
+HasBudgetLeft (stop.WidePivot path basis leaves enters) = ⊤
+HasBudgetLeft (stop.Budget n) = ⊥
+HasBudgetLeft stop.Memory = ⊤
 
 -- what a picker heard until a run ended: the messages of its units, and after want of memory perhaps the question, which node is opened, once more
 abbrev pub HearsUntil : (List Message → Type 0) → (List Message → Type 0) → trails.State → Result Progress SearchStop → List Message → Type 0

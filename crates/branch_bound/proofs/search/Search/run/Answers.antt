@@ -1,6 +1,8 @@
-use Rattle.std.proofs.Common.{arith, refl, ◌≡◌, sym, ◌∙◌, subst, inl, inr}
+use Rattle.std.proofs.Common.{arith, refl, ◌≡◌, ◌<◌, sym, ◌∙◌, subst, inl, inr}
+use Rattle.search_bounds.specs.Enough.{enough_for}
 use Rattle.branch_bound.specs.Searches.{Held, HasEnded}
 use Rattle.branch_bound.specs.Ends.{MayGoOn}
+use Rattle.branch_bound.proofs.Budgets.{few_units, stop_left}
 use Rattle.branch_bound.proofs.Running.{none_yet, one_more, stop_ends, continued, answered_too, stop_continued}
 use Rattle.std.proofs.lemmas.Bool.{false≢true}
 use Rattle.branch_bound.proofs.search.Search.run.Goals.{then-loop-spent-test+then-not-has_ended+else-units-budget, then-loop-spent-test+else-not-has_ended, else-loop-spent-test}
@@ -77,3 +79,34 @@ pub returns-then-budget-units-clause-trail : goal.returns-then-budget-units-clau
 returns-then-budget-units-clause-trail g c =
     let i = c.loop-spent.invariant in
     continued _ _ _ _ _ c.loop-spent.self i.trail i.spent i.in_budget i.model i.budget
+
+pub returns-in-Err-clause-enough : goal.returns-in-Err-clause-enough
+returns-in-Err-clause-enough g c b l = stop_left c.step.new.self c.stop_of.result c.stop_of.ensures
+
+pub returns-then-budget-units-clause-enough : goal.returns-then-budget-units-clause-enough
+returns-then-budget-units-clause-enough g c b l =
+    let i = c.loop-spent.invariant in
+    let few = few_units _ _ _ _ _ c.whole-valid.ensures.valid c.model.ensures i.model c.units-2.ensures.trail b in
+    let u = c.units-2.ensures.value in
+    let v = c.budget-2.ensures.value in
+    let e = i.budget in
+    let t = c.if-budget-units.true in
+    absurd (omega (arith, few, u, v, e, t, l))
+
+pub returns-in-Err-clause-few : goal.returns-in-Err-clause-few
+returns-in-Err-clause-few g c b =
+    let i = c.loop-spent.invariant in
+    let few = few_units _ _ _ _ _ c.whole-valid.ensures.valid c.model.ensures i.model c.units.ensures.trail b in
+    subst (λ (s : Held). s.units < enough_for c.args.self.now.model) (sym c.in-Err.ensures.stop.0) few
+
+pub returns-then-has_ended-clause-few : goal.returns-then-has_ended-clause-few
+returns-then-has_ended-clause-few g c b =
+    let i = c.loop-spent.invariant in
+    let few = few_units _ _ _ _ _ c.whole-valid.ensures.valid c.model.ensures i.model c.units-trail.ensures.trail b in
+    subst (λ (s : Held). s.units < enough_for c.args.self.now.model) (sym c.answer.ensures.same) few
+
+pub returns-then-budget-units-clause-few : goal.returns-then-budget-units-clause-few
+returns-then-budget-units-clause-few g c b = few_units _ _ _ _ _ c.whole-valid.ensures.valid c.model.ensures c.loop-spent.invariant.model c.units-trail.ensures.trail b
+
+pub returns-clause-few : goal.returns-clause-few
+returns-clause-few g c b = few_units _ _ _ _ _ c.whole-valid.ensures.valid c.model.ensures c.loop-spent.invariant.model c.units-trail.ensures.trail b
