@@ -3,3 +3,4 @@ pub mod Paths
 pub mod Recalculated
 pub mod Running
 pub mod Ends
+pub mod Budgets

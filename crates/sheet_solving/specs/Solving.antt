@@ -113,3 +113,8 @@ Slices task before s m (answer.More n) search after =
     (t : Searched task m) × (n ≡ total t) × (length t.units ≡ task.units) × (total t < task.budget) × HasOpenLeaf m t.state
     × (search ≡ led_to t) × (after ≡ before)
 Slices task before s m end search after = Solves task before s m end after
+
+-- it ends for another reason than that the budget is spent
+abbrev pub HasBudgetLeft : Answer → Type 0
+HasBudgetLeft (answer.Budget n) = ⊥
+HasBudgetLeft _ = ⊤

@@ -1,5 +1,8 @@
 // Units of a search.
-ghost use Rattle.std.specs.Prelude.{◌≡◌, ◌≤◌, IfOk, OnErr, None, false};
+ghost use Rattle.std.specs.Prelude.{◌≡◌, ◌<◌, ◌≤◌, IfErr, IfOk, OnErr, None, false};
+ghost use Rattle.search_bounds.specs.Choices.{IsBounded};
+ghost use Rattle.search_bounds.specs.Enough.{enough_for};
+ghost use Rattle.branch_bound.specs.Ends.{HasBudgetLeft};
 ghost use Rattle.sheet_solving.specs.Inner.{IsKept, Runs, answer_in, opened_of};
 ghost use Rattle.sheet_solving.specs.Searches.{task_from};
 
@@ -37,6 +40,9 @@ fn go_on(
     ensures unanswered { OnErr result (search.new.answered ≡ false) }
     ensures runs { Runs (task_from (rule pick.old) (opened_of search.old)
         allowed.units allowed.budget) search.old.model (opened_of search.new) result }
+    ensures enough { IsBounded search.old.model → enough_for search.old.model ≤ allowed.budget
+        → IfErr result HasBudgetLeft }
+    ensures few { IsBounded search.old.model → search.new.units < enough_for search.old.model }
     ensures rule { rule pick.new ≡ rule pick.old }
 {
     search.set_budget(allowed.budget);
@@ -62,8 +68,13 @@ pub(crate) fn spend(
     ensures unanswered { OnErr result (search.new.answered ≡ false) }
     ensures runs { Runs (task_from (rule pick.old) (opened_of search.old)
         allowed.units allowed.budget) search.old.model (opened_of search.new) result }
+    ensures enough { IsBounded search.old.model → enough_for search.old.model ≤ allowed.budget
+        → IfErr result HasBudgetLeft }
+    ensures few { IsBounded search.old.model → search.new.units < enough_for search.old.model }
     ensures rule { rule pick.new ≡ rule pick.old }
 {
+    let _valid = search.model().whole();
+    let _trail = search.units();
     match end {
         Some(answer) => Ok(Some(answer)),
         None => go_on(search, allowed, pick),

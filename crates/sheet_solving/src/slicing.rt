@@ -1,11 +1,13 @@
 // A slice of a search over the model of a sheet.
-ghost use Rattle.std.specs.Prelude.{◌≡◌, ◌≤◌, ℕ, IfOk, OnErr};
+ghost use Rattle.std.specs.Prelude.{◌≡◌, ◌<◌, ◌≤◌, ℕ, IfOk, OnErr};
 ghost use Rattle.commands.specs.Lines.{CanBeSaid};
+ghost use Rattle.search_bounds.specs.Choices.{IsBounded};
+ghost use Rattle.search_bounds.specs.Enough.{enough_for};
 ghost use Rattle.sheet_linear_model.specs.Prepared.{IsPrepared, Prepared};
 ghost use Rattle.sheet_problems.specs.Laws.{ModelIsTheSheet};
 ghost use Rattle.sheet_solving.specs.Inner.{TellsStop};
 ghost use Rattle.sheet_solving.specs.Searches.{GoesFurther, task_from};
-ghost use Rattle.sheet_solving.specs.Solving.{Slices};
+ghost use Rattle.sheet_solving.specs.Solving.{HasBudgetLeft, Slices};
 ghost use Rattle.solver_names.specs.Answers.{statement_of};
 ghost use Rattle.statement_laws.specs.Laws.{IsWhole};
 
@@ -58,6 +60,9 @@ pub fn slice(
     ensures memory { OnErr result (book.new ≡ book.old) }
     ensures further { GoesFurther (task_from (rule pick.old) search.old
         allowed.units allowed.budget) search.old.model search.new }
+    ensures enough { IsBounded search.old.model → enough_for search.old.model ≤ allowed.budget
+        → IfOk result HasBudgetLeft }
+    ensures few { IsBounded search.old.model → search.new.units < enough_for search.old.model }
     ensures rule { rule pick.new ≡ rule pick.old }
 {
     let end = search.end.take();

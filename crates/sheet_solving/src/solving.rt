@@ -1,11 +1,13 @@
 // A sheet's model, solved.
 ghost use Rattle.std.specs.Prelude.{◌≡◌, ◌≤◌, ℕ, IfOk, OnErr};
 ghost use Rattle.commands.specs.Lines.{CanBeSaid};
+ghost use Rattle.search_bounds.specs.Choices.{IsBounded};
+ghost use Rattle.search_bounds.specs.Enough.{enough_for};
 ghost use Rattle.sheet_linear_model.specs.Answers.{prepared_of};
 ghost use Rattle.sheet_linear_model.specs.Prepared.{IsPrepared};
 ghost use Rattle.sheet_problems.specs.Laws.{ModelIsTheSheet};
 ghost use Rattle.sheet_solving.specs.Searches.{whole_task};
-ghost use Rattle.sheet_solving.specs.Solving.{Solves};
+ghost use Rattle.sheet_solving.specs.Solving.{HasBudgetLeft, Solves};
 ghost use Rattle.solver_names.specs.Answers.{statement_of};
 ghost use Rattle.statement_laws.specs.Laws.{IsWhole};
 
@@ -38,6 +40,7 @@ pub fn solve(
     ensures said { IfOk result (CanBeSaid book.old.sheets) }
     ensures sheets { book.new.sheets ≡ book.old.sheets }
     ensures memory { OnErr result (book.new ≡ book.old) }
+    ensures enough { IsBounded of.model → enough_for of.model ≤ budget → IfOk result HasBudgetLeft }
     ensures rule { rule pick.new ≡ rule pick.old }
 {
     let Prepared {

@@ -1,5 +1,7 @@
 use Rattle.std.proofs.Common.{Ok, Err}
+use Rattle.solver_names.specs.Answers.{statement_of}
 use Rattle.sheet_solving.specs.Inner.{opened_of}
+use Rattle.sheet_solving.proofs.Budgets.{all_stops_left, all_told_left, few_seen, left_seen}
 use Rattle.sheet_solving.proofs.Ends.{all_listed, all_stops, all_told, further, further_at_stop, seen}
 use Rattle.sheet_solving.proofs.slicing.slice.Goals as goal
 
@@ -32,3 +34,19 @@ pub returns-in-Err-clause-further : goal.returns-in-Err-clause-further
 returns-in-Err-clause-further g c =
     further_at_stop _ _ (opened_of c.spend.new.search) c.in-Err.stop
     (seen _ c.args.allowed.units c.args.allowed.budget (opened_of c.search.inside.search) c.args.search.now (opened_of c.spend.new.search) (Err c.in-Err.stop) c.search.view_is c.in-Err.ensures.runs)
+
+pub returns-in-Ok-clause-enough : goal.returns-in-Ok-clause-enough
+returns-in-Ok-clause-enough g c b l =
+    all_told_left c.args.book.now c.tell-told.new.book (statement_of c.args.statement.now) c.in-Ok.end c.units.result c.tell-told.result c.tell-told.ensures.tells
+
+pub returns-in-Err-clause-enough : goal.returns-in-Err-clause-enough
+returns-in-Err-clause-enough g c b l =
+    all_stops_left _ c.in-Err.stop c.tell_stop.result
+    (left_seen (opened_of c.search.inside.search) c.args.search.now c.args.allowed.budget c.in-Err.stop c.search.view_is c.in-Err.ensures.enough b l)
+    c.tell_stop.ensures
+
+pub returns-in-Ok-clause-few : goal.returns-in-Ok-clause-few
+returns-in-Ok-clause-few g c = few_seen (opened_of c.search.inside.search) c.args.search.now _ c.search.view_is c.in-Ok.ensures.few
+
+pub returns-in-Err-clause-few : goal.returns-in-Err-clause-few
+returns-in-Err-clause-few g c = few_seen (opened_of c.search.inside.search) c.args.search.now _ c.search.view_is c.in-Err.ensures.few
