@@ -6,4 +6,5 @@ pub mod Naming
 pub mod Changed
 pub mod Apart
 pub mod Counting
+pub mod Complete
 mod Examples

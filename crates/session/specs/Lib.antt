@@ -8,3 +8,4 @@ pub mod Steps
 pub mod Interrupted
 pub mod Inner
 pub mod Laws
+pub mod Completeness

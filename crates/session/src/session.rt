@@ -3,7 +3,10 @@ ghost use Rattle.std.specs.Prelude.{◌≡◌, ◌≢◌, ◌≤◌, ◌<◌, Al
 ghost use Rattle.sheet_linear_model.specs.Answers.{prepared_of};
 ghost use Rattle.sheet_linear_model.specs.Prepared.{IsPrepared};
 ghost use Rattle.sheet_problems.specs.Laws.{ModelIsTheSheet};
+ghost use Rattle.search_bounds.specs.Choices.{IsBounded};
+ghost use Rattle.search_bounds.specs.Enough.{enough_for};
 ghost use Rattle.sheet_solving.specs.Searches.{whole_task};
+ghost use Rattle.sheet_solving.specs.Solving.{HasBudgetLeft};
 ghost use Rattle.solver_names.specs.Answers.{statement_of};
 ghost use Rattle.statement_laws.specs.Laws.{IsWhole};
 ghost use Rattle.workbook.specs.Edits.{is_outside, set_fault};
@@ -11,6 +14,7 @@ ghost use Rattle.workbook.specs.Listed.{IsListed};
 ghost use Rattle.commands.specs.Commands.{Model as ToModel, Set, Show, Solve, spoken};
 ghost use Rattle.commands.specs.Lines.{CanBeSaid};
 ghost use Rattle.commands.specs.Locating.{cell_named, sheet_named};
+ghost use Rattle.session.specs.Completeness.{CanBeSolved, IsComplete, IsSettled};
 ghost use Rattle.session.specs.Edits.{cell_to_set, unless};
 ghost use Rattle.session.specs.Interrupted.{IsInterrupted, IsUntouched};
 ghost use Rattle.session.specs.Laws.{Counts, OthersStay};
@@ -108,6 +112,8 @@ impl Session {
             OthersStay self.old.state (spoken command.now) self.new.state) }
         ensures counts { IfOk result (λ answer.
             Counts self.old.state (spoken command.now) answer self.new.state) }
+        ensures complete { IfOk result
+            (IsComplete (rule pick.old) self.old.state (spoken command.now)) }
     {
         self.follow(command, pick)
     }
@@ -121,6 +127,8 @@ impl Session {
         ensures sheets { self.new.state.book.sheets ≡ self.old.state.book.sheets }
         ensures memory { OnErr result (IsInterrupted (rule pick.old) self.old.state
             (spoken command.now) self.new.state) }
+        ensures complete { IfOk result
+            (IsComplete (rule pick.old) self.old.state (spoken command.now)) }
     {
         match command {
             Command::Set(address, text) => self.set(address.as_str(), text.as_str()),
@@ -244,6 +252,8 @@ impl Session {
         ensures sheets { self.new.state.book.sheets ≡ self.old.state.book.sheets }
         ensures memory { OnErr result
             (IsUntouched self.old.state (Solve name.now) self.new.state) }
+        ensures complete { IfOk result
+            (IsComplete (rule pick.old) self.old.state (Solve name.now)) }
         ensures rule { rule pick.new ≡ rule pick.old }
     {
         match self.book.sheets().find(name) {
@@ -260,6 +270,8 @@ impl Session {
         ensures said { IfOk result (CanBeSaid self.old.state.book.sheets) }
         ensures sheets { self.new.state.book.sheets ≡ self.old.state.book.sheets }
         ensures memory { OnErr result (self.new.state ≡ self.old.state) }
+        ensures complete { IfOk result (λ answer.
+            CanBeSolved (rule pick.old) self.old.state sheet.0 → IsSettled answer) }
         ensures rule { rule pick.new ≡ rule pick.old }
     {
         match prepare_sheet(self.alloc, &self.book, sheet) {
@@ -285,6 +297,8 @@ impl Session {
         ensures said { IfOk result (CanBeSaid self.old.state.book.sheets) }
         ensures sheets { self.new.state.book.sheets ≡ self.old.state.book.sheets }
         ensures memory { OnErr result (self.new.state ≡ self.old.state) }
+        ensures enough { IsBounded prepared.model
+            → enough_for prepared.model ≤ self.old.state.budget → IfOk result HasBudgetLeft }
         ensures rule { rule pick.new ≡ rule pick.old }
     {
         let adj = prepared.statement.adj.copy()?;

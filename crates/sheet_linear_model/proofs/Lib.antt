@@ -6,3 +6,4 @@ pub mod Refusals
 pub mod Looping
 pub mod Modelled
 pub mod Printed
+pub mod Single

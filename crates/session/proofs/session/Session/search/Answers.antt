@@ -1,7 +1,8 @@
-use Rattle.std.proofs.Common.{◌∙◌, List, ap}
+use Rattle.std.proofs.Common.{◌≤◌, ◌∙◌, List, ap, subst, sym}
 use Rattle.cell_refs.specs.declared.cell.Cell.{Cell}
+use Rattle.search_bounds.specs.Enough.{enough_for}
 use Rattle.session.specs.Solves.{with_written}
-use Rattle.session.specs.States.{SessionState, with_book}
+use Rattle.session.specs.States.{Session, SessionState, with_book}
 use Rattle.session.proofs.session.Session.search.Goals as goal
 
 pub returns-clause-step : goal.returns-clause-step
@@ -17,3 +18,6 @@ returns-clause-step g c =
       c.in_ok-answer.ensures.solves,
       c.mark_written.ensures ∙ ap (λ (cells : List Cell). with_written c.in_ok-answer.answer cells (with_book before c.solve.new.book)) c.in_ok-adj.ensures,
     )
+
+pub returns-clause-enough : goal.returns-clause-enough
+returns-clause-enough g c b l = c.in_ok-answer.ensures.enough b (subst (λ (x : Session). enough_for c.args.prepared.model ≤ x.state.budget) (sym c.self.view_is) l)

@@ -1,0 +1,18 @@
+use Rattle.std.proofs.Common.{◌∙◌, ap}
+use Rattle.cell_refs.specs.Names.{place_in}
+use Rattle.session.specs.States.{Session}
+use Rattle.session.proofs.Complete.{none_named, settled_named}
+use Rattle.session.proofs.Cuts.{placed_none, placed_some}
+use Rattle.session.proofs.session.Session.solve.Goals as goal
+
+pub returns-in-Some-clause-complete : goal.returns-in-Some-clause-complete
+returns-in-Some-clause-complete g c =
+    let s = c.args.self.now.state in
+    let place = placed_some c.find.result c.sheets.result.now s.book.sheets c.args.name.now c.in-Some.sheet c.find.ensures.place (c.sheets.ensures ∙ ap (λ (x : Session). x.state.book.sheets) c.self.view_is) c.in-Some.is in
+    settled_named _ s (place_in s.book.sheets c.args.name.now) c.in-Some.sheet c.solve_sheet.result place c.solve_sheet.ensures.complete
+
+pub returns-in-None-clause-complete : goal.returns-in-None-clause-complete
+returns-in-None-clause-complete g c =
+    let s = c.args.self.now.state in
+    let place = placed_none c.find.result c.sheets.result.now s.book.sheets c.args.name.now c.find.ensures.place (c.sheets.ensures ∙ ap (λ (x : Session). x.state.book.sheets) c.self.view_is) c.in-None.is in
+    none_named _ s (place_in s.book.sheets c.args.name.now) _ place
