@@ -87,7 +87,7 @@ ends_said refused line before after status.WriteFault h = (inr tt, λ e. cc e)
 ends_said refused line before after status.Memory h = (inr tt, λ e. cc e)
 ends_said refused line before after status.ReadFault h = absurd h
 
-size_ends : (rule : Rule) (size : ℕ) (before after : Option (List (List ℕ))) (ends : Status) → SolvesSize rule size before after ends → Ends ends
+pub size_ends : (rule : Rule) (size : ℕ) (before after : Option (List (List ℕ))) (ends : Status) → SolvesSize rule size before after ends → Ends ends
 size_ends rule size before after ends (inl (answer, next, step, says)) = ends_said (is_refusal (sheet_name ∷ []) answer) (made_up_line size answer) before after ends says
 size_ends rule size before after ends (inr (memory, same)) = subst Ends (sym memory) (inr tt, λ e. cc e)
 

@@ -63,5 +63,10 @@ IsWellFormed None before = ⊥
 IsWellFormed (Some (Script job)) before = CanBeAnswered job.named before
 IsWellFormed (Some (MadeUp size)) before = ⊤
 
+-- for a workbook that is made up it is enough that no call of the sink failed
+abbrev pub NothingFailedFor : Option Asked → Outside → Outside → Type 0
+NothingFailedFor (Some (MadeUp size)) before after = ¬ (Rose before.sink_writes after.sink_writes)
+NothingFailedFor asked before after = NothingFailed before after
+
 abbrev pub IsComplete : Option Asked → Outside → Outside → Status → Type 0
-IsComplete asked before after ends = IsWellFormed asked before → NothingFailed before after → IsWhole ends ⊎ (ends ≡ status.Memory)
+IsComplete asked before after ends = IsWellFormed asked before → NothingFailedFor asked before after → IsWhole ends ⊎ (ends ≡ status.Memory)

@@ -208,12 +208,12 @@ sheets_stay rule before after command a step =
 
 -- ---- lists of commands
 pub searches_are_apart : SearchesAreApart
-searches_are_apart rule before after [] [] sheet none all = refl
-searches_are_apart rule before after [] (a ∷ rest) sheet steps all = elim steps [ ]
-searches_are_apart rule before after (command ∷ commands) [] sheet steps all = elim steps [ ]
-searches_are_apart rule before after (command ∷ commands) (a ∷ rest) sheet (more {m = m} step later) all =
+searches_are_apart before after [] [] sheet none all = refl
+searches_are_apart before after [] (a ∷ rest) sheet steps all = elim steps [ ]
+searches_are_apart before after (command ∷ commands) [] sheet steps all = elim steps [ ]
+searches_are_apart before after (command ∷ commands) (a ∷ rest) sheet (more rule {m = m} step later) all =
     let leaves : List (List ℕ) → Spoken → Type 0 = λ sheets command. searched sheets command ≢ Some sheet in
     let one = steps_at sheet rule before m command a step (All-head (leaves before.book.sheets) command commands all) in
-    searches_are_apart rule m after commands rest sheet later
+    searches_are_apart m after commands rest sheet later
     (subst (λ (sheets : List (List ℕ)). All (leaves sheets) commands) (sym one.sheets) (All-tail (leaves before.book.sheets) command commands all))
     ∙ one.search

@@ -2,12 +2,11 @@
 use Rattle.std.proofs.Common.{◌≡◌, ◌≤◌, ◌∙◌, ℕ, Bool, List, Option, Some, None, Result, Ok, Err, ap, subst, sym}
 use Rattle.std.specs.Prelude.{IfOk, unwrap_or, ℤ}
 use Rattle.fractions.specs.Rational.{ℚ}
-use Rattle.optimality.specs.Optimal.{Optimal}
-use Rattle.sheet_problems.specs.SheetProblem.{problem_in}
 use Rattle.cell_refs.specs.declared.cell.Cell.{Cell}
 use Rattle.cell_refs.specs.declared.cell.SheetId.{SheetId}
 use Rattle.linear_models.specs.Model.{Model}
 use Rattle.node_pick.specs.Rules.{Rule}
+use Rattle.searches.specs.Answers as answers
 use Rattle.searches.specs.Trails.{SearchUnit, State as SearchState, Trail}
 use Rattle.branch_bound.specs.Ends.{IsWideAt}
 use Rattle.search_bounds.specs.Choices.{IsBounded}
@@ -20,7 +19,7 @@ use Rattle.sheet_linear_model.specs.Answers.{HasNoModel, Prepares}
 use Rattle.sheet_linear_model.specs.Prepared.{IsPrepared, Prepared}
 use Rattle.sheet_linear_model.specs.declared.prepared.NoModel.{NoModel}
 use Rattle.sheet_linear_model.proofs.Single.{never_both, prepared_is_one}
-use Rattle.sheet_solving.specs.Searches.{whole_task}
+use Rattle.sheet_solving.specs.Searches.{EndsWith, whole_task}
 use Rattle.sheet_solving.specs.Solving.{HasBudgetLeft, HasNoRoom, Solves}
 use Rattle.session.specs.Completeness.{CanBeSolved, IsSettled, PivotsAreNarrow}
 use Rattle.session.specs.Solves.{SearchEnds}
@@ -37,10 +36,11 @@ module _ (rule : Rule) (before : SessionState) (sheet : ℕ) (can : CanBeSolved 
   same : can.prepared ≡ p
   same = prepared_is_one before.book sheet can.prepared p can.is_prepared is
 
-  never_full : (x : List ℚ) (cell : Cell) → HasNoRoom before.book p.statement x cell → ⊥
-  never_full x cell h =
-      let room = subst (λ (q : Prepared). Optimal (problem_in before.book q.statement) x → without_room before.book q.statement.decisions x ≡ None) same (can.room x) in
-      let both : None ≡ Some cell = sym (room h.optimal) ∙ h.full in
+  never_full : (us : List SearchUnit) (t : SearchState) (x : List ℚ) (v : ℚ) (cell : Cell) → Trail p.model rule us t → EndsWith p.model t (answers.optimal x v) → HasNoRoom before.book p.statement x cell → ⊥
+  never_full us t x v cell trail over h =
+      let room =
+      subst (λ (q : Prepared). Trail q.model rule us t → EndsWith q.model t (answers.optimal x v) → without_room before.book q.statement.decisions x ≡ None) same (can.room us t x v) in
+      let both : None ≡ Some cell = sym (room trail over) ∙ h.full in
       cc
 
   ends : (book : State) (a : Answer) → Solves (whole_task rule before.budget) before.book p.statement p.model a book → HasBudgetLeft a → IsSettled a
@@ -50,7 +50,7 @@ module _ (rule : Rule) (before : SessionState) (sheet : ℕ) (can : CanBeSolved 
   ends book (answer.WidePivot path basis leaves enters) h left =
       absurd (never_wide p.model rule h.0.units h.0.state h.1.steps basis.items leaves enters (subst (λ (q : Prepared). PivotsAreNarrow q.model rule) same can.narrow) h.0.leads h.1.wide)
   ends book (answer.Budget n) h left = absurd left
-  ends book (answer.NoRoom cell) h left = absurd (never_full h.1 cell h.4)
+  ends book (answer.NoRoom cell) h left = absurd (never_full h.0.units h.0.state h.1 h.2 cell h.0.leads h.3 h.4)
   ends book _ h left = absurd h
 
   -- by the end of the search of its model

@@ -48,9 +48,15 @@ not_modelled book sheet (answer.WideRow row) h = h
 not_modelled book sheet _ h = absurd h
 
 -- the end of a search over a sheet's model solves the sheet
-pub ends_solve : (rule : Rule) (before : SessionState) (sheet : ℕ) (p : Prepared) (a : Answer) (after : SessionState) → IsPrepared before.book sheet p
+ends_solve : (rule : Rule) (before : SessionState) (sheet : ℕ) (p : Prepared) (a : Answer) (after : SessionState) → IsPrepared before.book sheet p
     → SearchEnds (whole_task rule before.budget) before p.statement p.model a after → SolvesSheet rule before sheet a after
 ends_solve rule before sheet p (answer.Names fault) after is h = absurd h.1
 ends_solve rule before sheet p (answer.Form refusal) after is h = absurd h.1
 ends_solve rule before sheet p (answer.WideRow row) after is h = absurd h.1
 ends_solve rule before sheet p a after is h = (p, is, h)
+
+pub all_end : {E : Type 0} (rule : Rule) (before after : SessionState) (sheet : ℕ) (p : Prepared) (r : Result Answer E) → IsPrepared before.book sheet p
+    → IfOk r (λ a. SearchEnds (whole_task rule before.budget) before p.statement p.model a after) → IfOk r (λ a. SolvesSheet rule before sheet a after)
+all_end rule before after sheet p r is h =
+    if_ok_map r (λ (a : Answer). SearchEnds (whole_task rule before.budget) before p.statement p.model a after) (λ (a : Answer). SolvesSheet rule before sheet a after)
+    (λ a h. ends_solve rule before sheet p a after is h) h

@@ -2,17 +2,18 @@
 -- for the values.
 use Rattle.std.specs.Prelude.{◌≡◌, ◌≤◌, ℕ, List, Some, None, ⊤}
 use Rattle.cell_refs.specs.Names.{place_in}
+use Rattle.fractions.specs.Rational.{ℚ}
 use Rattle.optimality.specs.Problem.{Assignment}
-use Rattle.optimality.specs.Optimal.{Optimal}
 use Rattle.dictionaries.specs.Bland.{NextPivot}
 use Rattle.dictionaries.specs.Narrow.{IsNarrowPivot}
 use Rattle.linear_models.specs.Model.{Model}
 use Rattle.node_pick.specs.Rules.{Rule}
+use Rattle.searches.specs.Answers as answers
 use Rattle.searches.specs.Trails.{SearchUnit, State, Trail, Work}
 use Rattle.search_bounds.specs.Choices.{IsBounded}
 use Rattle.search_bounds.specs.Enough.{enough_for}
-use Rattle.sheet_problems.specs.SheetProblem.{problem_in}
 use Rattle.sheet_linear_model.specs.Prepared.{IsPrepared, Prepared}
+use Rattle.sheet_solving.specs.Searches.{EndsWith}
 use Rattle.write_back.specs.Writing.{without_room}
 use Rattle.commands.specs.declared.answer.Answer.{Answer}
 use Rattle.commands.specs.declared.answer.Answer.TheVariants as answer
@@ -27,14 +28,15 @@ PivotsAreNarrow m rule =
 
 -- the names have no fault, each needed place has a form, each side and the objective is a number under every assignment, and each row is
 -- narrow: so there is a model; each decision of it that is to be whole has two bounds, the units that are stated to be enough for it are
--- within the budget, its pivots are narrow, and each optimal assignment has room in the cells to be decided
+-- within the budget, its pivots are narrow, and each optimal assignment to which they lead has room in the cells to be decided
 pub record CanBeSolved (rule : Rule) (s : SessionState) (sheet : ℕ) : Type 0 where
   pub prepared : Prepared
   pub is_prepared : IsPrepared s.book sheet prepared
   pub bounded : IsBounded prepared.model
   pub budget : enough_for prepared.model ≤ s.budget
   pub narrow : PivotsAreNarrow prepared.model rule
-  pub room : (x : Assignment) → Optimal (problem_in s.book prepared.statement) x → without_room s.book prepared.statement.decisions x ≡ None
+  pub room : (us : List SearchUnit) (t : State) (x : Assignment) (v : ℚ) → Trail prepared.model rule us t → EndsWith prepared.model t (answers.optimal x v)
+      → without_room s.book prepared.statement.decisions x ≡ None
 
 -- optimal, infeasible or unbounded
 abbrev pub IsSettled : Answer → Type 0

@@ -23,7 +23,7 @@ refused fault.TooManyCells = answer.TooManyCells
 refused fault.TooManyFormulas = answer.TooManyFormulas
 refused fault.BadName = answer.BadName
 refused fault.TooManyNames = answer.TooManyNames
-refused fault.Memory = answer.Done
+refused fault.Memory = answer.UnknownCommand
 
 abbrev pub unless : {A : Type 0} → Option EditFault → A → Result A Answer
 unless None x = Ok x

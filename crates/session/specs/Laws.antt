@@ -7,6 +7,8 @@ use Rattle.commands.specs.declared.answer.Answer.{Answer}
 use Rattle.commands.specs.declared.answer.Answer.TheVariants as answer
 use Rattle.commands.specs.Commands.{Spoken, Begin, Slice, Stop}
 use Rattle.commands.specs.Locating.{units_in}
+use Rattle.commands.specs.declared.units.TheConstants.{MOST_UNITS}
+use Rattle.session.specs.declared.open_searches.TheConstants.{MOST_SEARCHES}
 use Rattle.session.specs.States.{SessionState, open_search}
 use Rattle.session.specs.Steps.{Step}
 
@@ -44,16 +46,22 @@ Counts before command a after = ⊤
 abbrev pub SlicesCountOn : Type 0
 SlicesCountOn = (rule : Rule) (before after : SessionState) (command : Spoken) (a : Answer) → Step rule before command a after → Counts before command a after
 
+-- ---- limits
+-- at most 8 sheets have an open search, and a search may spend at most 1,000,000 units
+pub record LimitsOfSearchesAre : Type 0 where
+  pub searches : MOST_SEARCHES ≡ 8
+  pub units : MOST_UNITS ≡ 1000000
+
 -- ---- lists of commands
--- the answers to some commands in order, and the session behind them
-pub data Steps (rule : Rule) : SessionState → List Spoken → List Answer → SessionState → Type 0 where
-  none : {s : SessionState} → Steps rule s [] [] s
-  more : {s m e : SessionState} {command : Spoken} {commands : List Spoken} {a : Answer} {rest : List Answer}
-      → Step rule s command a m → Steps rule m commands rest e → Steps rule s (command ∷ commands) (a ∷ rest) e
+-- the answers to some commands in order, each by the picker that it is lent, and the session behind them
+pub data Steps : SessionState → List Spoken → List Answer → SessionState → Type 0 where
+  none : {s : SessionState} → Steps s [] [] s
+  more : (rule : Rule) {s m e : SessionState} {command : Spoken} {commands : List Spoken} {a : Answer} {rest : List Answer}
+      → Step rule s command a m → Steps m commands rest e → Steps s (command ∷ commands) (a ∷ rest) e
 
 -- whatever commands come that don't open, go on with or close the search of a sheet, edits, solves and slices of others among them, it is
 -- as it was
 abbrev pub SearchesAreApart : Type 0
-SearchesAreApart = (rule : Rule) (before after : SessionState) (commands : List Spoken) (answers : List Answer) (sheet : ℕ)
-    → Steps rule before commands answers after → All (λ command. searched before.book.sheets command ≢ Some sheet) commands
+SearchesAreApart = (before after : SessionState) (commands : List Spoken) (answers : List Answer) (sheet : ℕ)
+    → Steps before commands answers after → All (λ command. searched before.book.sheets command ≢ Some sheet) commands
     → open_search after sheet ≡ open_search before sheet

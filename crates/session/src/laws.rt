@@ -1,5 +1,5 @@
 // What is true of every step of a session, and of every list of commands.
-ghost use Rattle.session.specs.Laws.{OtherSearchesStay, SearchesAreApart, SheetsStay, SlicesCountOn};
+ghost use Rattle.session.specs.Laws.{LimitsOfSearchesAre, OtherSearchesStay, SearchesAreApart, SheetsStay, SlicesCountOn};
 
 /// A command leaves the open searches of all sheets but its own as they were.
 pub fn other_searches_stay()
@@ -14,6 +14,11 @@ pub fn sheets_stay()
 /// A slice that goes further counts the units on where the model is still that of its search, and from 0 where it isn't.
 pub fn slices_count_on()
     ensures { SlicesCountOn }
+{}
+
+/// How many sheets may have an open search, and how many units a search may spend.
+pub fn limits_of_searches_are()
+    ensures { LimitsOfSearchesAre }
 {}
 
 /// Whatever other commands stand between, the search of a sheet is as its own commands left it.

@@ -6,8 +6,8 @@ use Rattle.command_line.specs.Words.{MadeUp, Script, asked_of, texts_of}
 use Rattle.opensolver_cli.specs.Headline.{RunsScript}
 use Rattle.opensolver_cli.specs.Outside.{Outside, seen}
 use Rattle.opensolver_cli.proofs.RunLaws.{job_runs, memory_counted, rules_in}
-use Rattle.opensolver_cli.proofs.MadeUpLaws.{asked_script, asked_size, memory_ends, memory_runs, size_counted, size_exactly, size_runs}
-use Rattle.opensolver_cli.proofs.CompleteLaws.{asked_complete, memory_complete}
+use Rattle.opensolver_cli.proofs.MadeUpLaws.{asked_script, asked_size, memory_ends, size_ends, memory_runs, size_counted, size_exactly, size_runs}
+use Rattle.opensolver_cli.proofs.CompleteLaws.{job_complete, memory_complete, size_complete}
 use Rattle.opensolver_cli.proofs.top.run.Given as given
 use Rattle.opensolver_cli.proofs.top.run.Goals as goal
 
@@ -60,16 +60,15 @@ returns-in-MadeUp-clause-complete g c =
     let before : Outside = seen (g.F.Folder.content c.args.folder.now) (g.F.Folder.read_faults c.args.folder.now) (g.F.Folder.write_faults c.args.folder.now) (g.F.Folder.write_wants c.args.folder.now) (g.S.Source.left c.args.script.now) (g.S.Source.faults c.args.script.now) (g.K.Sink.pieces c.args.out.now) (g.K.Sink.faults c.args.out.now) in
     let after : Outside = seen (g.F.Folder.content c.args.folder.now) (g.F.Folder.read_faults c.args.folder.now) (g.F.Folder.write_faults c.args.folder.now) (g.F.Folder.write_wants c.args.folder.now) (g.S.Source.left c.args.script.now) (g.S.Source.faults c.args.script.now) (g.K.Sink.pieces c.solve_made_up.new.out) (g.K.Sink.faults c.solve_made_up.new.out) in
     let is : Some (MadeUp c.in-MadeUp.size) ≡ asked_of (texts_of c.args.words.now) = asked_size c.in-MadeUp.size c.in-Ok-Some.asked _ _ c.in-Ok-Some.field-0-is c.in-MadeUp.is c.in-Ok-Some.ensures.asked in
-    asked_complete _ _ before after c.solve_made_up.result is
-    (size_exactly _ c.in-MadeUp.size _ (g.F.Folder.content c.args.folder.now) (g.S.Source.left c.args.script.now) (g.K.Sink.pieces c.args.out.now) (g.K.Sink.pieces c.solve_made_up.new.out) c.solve_made_up.result refl c.solve_made_up.ensures.solves)
-    (size_counted _ c.in-MadeUp.size before after c.solve_made_up.result (record { files = refl; reads = refl; writes = refl; wants = refl }) (record { left = refl; reads = refl }) c.solve_made_up.ensures.solves c.solve_made_up.ensures.cause)
+    let ends = size_ends _ c.in-MadeUp.size (g.K.Sink.pieces c.args.out.now) (g.K.Sink.pieces c.solve_made_up.new.out) c.solve_made_up.result c.solve_made_up.ensures.solves in
+    size_complete c.in-MadeUp.size _ before after c.solve_made_up.result is ends.0 ends.1 c.solve_made_up.ensures.cause
 
 pub returns-in-Script-clause-complete : goal.returns-in-Script-clause-complete
 returns-in-Script-clause-complete g c =
     let before : Outside = seen (g.F.Folder.content c.args.folder.now) (g.F.Folder.read_faults c.args.folder.now) (g.F.Folder.write_faults c.args.folder.now) (g.F.Folder.write_wants c.args.folder.now) (g.S.Source.left c.args.script.now) (g.S.Source.faults c.args.script.now) (g.K.Sink.pieces c.args.out.now) (g.K.Sink.faults c.args.out.now) in
     let after : Outside = seen (g.F.Folder.content c.run_job.new.folder) (g.F.Folder.read_faults c.run_job.new.folder) (g.F.Folder.write_faults c.run_job.new.folder) (g.F.Folder.write_wants c.run_job.new.folder) (g.S.Source.left c.run_job.new.script) (g.S.Source.faults c.run_job.new.script) (g.K.Sink.pieces c.run_job.new.out) (g.K.Sink.faults c.run_job.new.out) in
     let is : Some (Script (job_read c.in-Script.job)) ≡ asked_of (texts_of c.args.words.now) = asked_script c.in-Script.job c.in-Ok-Some.asked _ _ c.in-Ok-Some.field-0-is c.in-Script.is c.in-Ok-Some.ensures.asked in
-    asked_complete _ _ before after c.run_job.result is c.run_job.ensures.exactly c.run_job.ensures.counts
+    job_complete _ _ before after c.run_job.result is c.run_job.ensures.exactly c.run_job.ensures.counts
 
 pub returns-in-Err-clause-complete : goal.returns-in-Err-clause-complete
 returns-in-Err-clause-complete g c =

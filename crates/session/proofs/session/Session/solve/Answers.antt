@@ -1,5 +1,6 @@
 use Rattle.std.proofs.Common.{◌∙◌, ap}
 use Rattle.cell_refs.specs.Names.{place_in}
+use Rattle.commands.specs.declared.answer.Answer.TheVariants as answer
 use Rattle.session.specs.States.{Session}
 use Rattle.session.proofs.Complete.{none_named, settled_named}
 use Rattle.session.proofs.Cuts.{placed_none, placed_some}
@@ -15,4 +16,4 @@ pub returns-in-None-clause-complete : goal.returns-in-None-clause-complete
 returns-in-None-clause-complete g c =
     let s = c.args.self.now.state in
     let place = placed_none c.find.result c.sheets.result.now s.book.sheets c.args.name.now c.find.ensures.place (c.sheets.ensures ∙ ap (λ (x : Session). x.state.book.sheets) c.self.view_is) c.in-None.is in
-    none_named _ s (place_in s.book.sheets c.args.name.now) _ place
+    none_named _ s (place_in s.book.sheets c.args.name.now) answer.UnknownSheet place

@@ -3,14 +3,14 @@ use Rattle.sheet_linear_model.specs.Answers.{Prepares, prepared_of}
 use Rattle.sheet_linear_model.specs.Prepared.{IsPrepared}
 use Rattle.session.specs.States.{Session}
 use Rattle.session.proofs.Complete.{all_settled, none_settled}
-use Rattle.session.proofs.Ends.{ends_solve, none_solved}
+use Rattle.session.proofs.Ends.{all_end, none_solved}
 use Rattle.session.proofs.Said.{if_ok_map}
 use Rattle.session.proofs.session.Session.solve_sheet.Goals as goal
 
 pub returns-in-Ok-clause-step : goal.returns-in-Ok-clause-step
 returns-in-Ok-clause-step g c =
     let prepares = subst (λ (session : Session). IsPrepared session.state.book c.args.sheet.0 (prepared_of c.in-Ok.prepared)) c.self.view_is c.in-Ok.ensures.prepares in
-    if_ok_map c.search.result _ _ (λ a h. ends_solve _ _ c.args.sheet.0 (prepared_of c.in-Ok.prepared) a _ prepares h) c.search.ensures.step
+    all_end _ c.args.self.now.state _ c.args.sheet.0 (prepared_of c.in-Ok.prepared) c.search.result prepares c.search.ensures.step
 
 pub returns-in-Err-clause-step : goal.returns-in-Err-clause-step
 returns-in-Err-clause-step g c =
