@@ -7,4 +7,5 @@ pub mod Changed
 pub mod Apart
 pub mod Counting
 pub mod Complete
+pub mod Refused
 mod Examples

@@ -1,11 +1,12 @@
 -- What is true of every step of a session, and of every list of commands.
-use Rattle.std.specs.Prelude.{◌≡◌, ◌≢◌, ◌+◌, ℕ, List, [], ◌∷◌, All, Option, Some, None, ⊤}
+use Rattle.std.specs.Prelude.{◌≡◌, ◌≢◌, ◌+◌, ℕ, true, List, [], ◌∷◌, All, Option, Some, None, ⊤}
 use Rattle.cell_refs.specs.Names.{place_in}
 use Rattle.node_pick.specs.Rules.{Rule}
 use Rattle.sheet_solving.specs.Searches.{Opened}
 use Rattle.commands.specs.declared.answer.Answer.{Answer}
 use Rattle.commands.specs.declared.answer.Answer.TheVariants as answer
 use Rattle.commands.specs.Commands.{Spoken, Begin, Slice, Stop}
+use Rattle.commands.specs.Lines.{is_refusal}
 use Rattle.commands.specs.Locating.{units_in}
 use Rattle.commands.specs.declared.units.TheConstants.{MOST_UNITS}
 use Rattle.session.specs.declared.open_searches.TheConstants.{MOST_SEARCHES}
@@ -45,6 +46,18 @@ Counts before command a after = ⊤
 
 abbrev pub SlicesCountOn : Type 0
 SlicesCountOn = (rule : Rule) (before after : SessionState) (command : Spoken) (a : Answer) → Step rule before command a after → Counts before command a after
+
+-- ---- refusals
+-- neither the workbook nor the budget is another one, nor do other files count as changed
+pub record IsUnchanged (before after : SessionState) : Type 0 where
+  pub book : after.book ≡ before.book
+  pub changed : after.changed ≡ before.changed
+  pub budget : after.budget ≡ before.budget
+
+-- so it is after every refusal; a slice that is refused may have closed its search
+abbrev pub RefusedChangesNothing : Type 0
+RefusedChangesNothing = (rule : Rule) (before after : SessionState) (command : Spoken) (a : Answer) → Step rule before command a after → is_refusal before.book.sheets a ≡ true
+    → IsUnchanged before after
 
 -- ---- limits
 -- at most 8 sheets have an open search, and a search may spend at most 1,000,000 units

@@ -1,5 +1,5 @@
 // What is true of every step of a session, and of every list of commands.
-ghost use Rattle.session.specs.Laws.{LimitsOfSearchesAre, OtherSearchesStay, SearchesAreApart, SheetsStay, SlicesCountOn};
+ghost use Rattle.session.specs.Laws.{LimitsOfSearchesAre, OtherSearchesStay, RefusedChangesNothing, SearchesAreApart, SheetsStay, SlicesCountOn};
 
 /// A command leaves the open searches of all sheets but its own as they were.
 pub fn other_searches_stay()
@@ -14,6 +14,11 @@ pub fn sheets_stay()
 /// A slice that goes further counts the units on where the model is still that of its search, and from 0 where it isn't.
 pub fn slices_count_on()
     ensures { SlicesCountOn }
+{}
+
+/// A refused command changes neither the workbook nor the budget nor which files count as changed.
+pub fn refused_changes_nothing()
+    ensures { RefusedChangesNothing }
 {}
 
 /// How many sheets may have an open search, and how many units a search may spend.
