@@ -22,7 +22,7 @@ class Calls:
 
 
 class Folder(Calls):
-    """Bytes by name."""
+    """Bytes by name; a run's words are texts of bytes, as all its texts are."""
 
     def __init__(self, files, fails=()):
         super().__init__(fails)
@@ -30,11 +30,15 @@ class Folder(Calls):
 
     def read(self, name):
         self.make(3)
-        return self.files.get(name)
+        return self.files.get(named(name))
 
     def write(self, name, data):
         self.make(4)
-        self.files[name] = data
+        self.files[named(name)] = data
+
+
+def named(word):
+    return word.encode('latin-1').decode('utf-8')
 
 
 class Script(Calls):

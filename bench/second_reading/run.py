@@ -65,7 +65,7 @@ def is_sheet_word(word):
 
 def run(words, folder, script, printer):
     """The status of a run over a folder, a script and a printer."""
-    read = Words(words)
+    read = Words(word.encode('utf-8').decode('latin-1') for word in words)
     try:
         if not read.is_right:
             return told(printer, USAGE, 2)
