@@ -131,11 +131,17 @@ def joined(deciding):
 
 def not_(args):
     value = single(args[0])
+    if isinstance(value, Fault):
+        return value
     return Test(value, '=') if isinstance(value, Form) else Test(value.form, REVERSED[value.relation])
 
 
 def broken(args):
-    first_test(wanted(args))
+    found = wanted(args)
+    fault = functions.first_fault(found)
+    if fault:
+        return fault
+    first_test(found)
     raise Break
 
 

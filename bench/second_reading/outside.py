@@ -44,7 +44,7 @@ def named(word):
 class Script(Calls):
     """The script's bytes: a call for each piece of so many bytes, and one more that finds none left."""
 
-    PIECE = 65536
+    PIECE = 4096
 
     def __init__(self, data, fails=()):
         super().__init__(fails)
