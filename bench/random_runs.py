@@ -27,9 +27,9 @@ from second_reading.random_books import Case
 from second_reading.run import outcome
 
 SECONDS = 60
-LINE = re.compile(rb'''(ok|empty|number \S+|text ".*|logical (TRUE|FALSE)|error \#\S+|optimal( \S+)?|infeasible|unbounded|begun|more \d+|stopped
-    |saved \d+|gen\ \d+\ .*|usage:\ .*|limit\ [a-z]+\ \d+|bad-input\ .*|refused\ [a-z]+.*|(max|min|reach)\ .*|none|row\ .*|cell\ .*|end)'''
-                  .replace(b'\n', b'').replace(b'    |', b'|').replace(b'\\ ', b' '), re.DOTALL)
+LINE = re.compile(
+    rb'(ok|empty|number \S+|text ".*|logical (TRUE|FALSE)|error #\S+|optimal( \S+)?|infeasible|unbounded|begun|more \d+|stopped'
+    rb'|saved \d+|gen \d+ .*|usage: .*|limit [a-z]+ \d+|bad-input .*|refused [a-z]+.*|(max|min|reach) .*|none|row .*|cell .*|end)')
 
 
 class Slow(Exception):
@@ -106,7 +106,7 @@ def difference(found, want, case):
 
 
 def odd_line(data):
-    odd = [line for line in data.split(b'\n')[:-1] if not LINE.match(line)]
+    odd = [line for line in data.split(b'\n')[:-1] if not LINE.fullmatch(line)]
     return 'odd line %r' % odd[0] if odd and b'text "' not in data else None
 
 
@@ -133,6 +133,8 @@ def main():
     for seed in range(options.first, options.first + options.count):
         if time.time() - begin > options.seconds:
             break
+        if counts['runs'] % 1000 == 999:
+            print('seed %d: %d runs, %d different' % (seed, counts['runs'], counts['different']), flush=True)
         case = made(seed)
         found, want = tried(program, case), expected(case)
         wrong = difference(found, want, case)

@@ -3,11 +3,11 @@
 
     python3 bench/refused_memory.py PROGRAM [--step N]
 
-PROGRAM is a native one that takes its memory by the malloc and realloc of a shared C library. Each run below is made once with ample memory,
-which tells how many requests it makes, and then twice for each of their numbers (each Nth one, with --step N): with that request refused,
-and with that one and all behind it refused. Such a run must be the same as the one with ample memory, or end with status 5, having
-printed the answers of some of the first records, whole, and having written some of the first of the files that are saved, whole; the one
-file that was being written then may hold anything, which is counted. Ends with 1 where a run does anything else.
+PROGRAM is a native one that takes its memory by the malloc and realloc of a shared C library. Each run below is made once with ample
+memory, which tells how many requests it makes, and then twice for each of their numbers (each Nth one, with --step N): with that
+request refused, and with that one and all behind it refused. Such a run must be the same as the one with ample memory, or end with
+status 5, having printed the answers of some of the first records, whole, and having written some of the first of the files that are
+saved, whole; the one file that was being written then may hold anything, which is counted. Ends with 1 where a run does anything else.
 """
 import argparse
 import os

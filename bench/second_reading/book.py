@@ -1,12 +1,11 @@
 """The contents and the names of a workbook, and the entry of each cell: its value, its form, or why it has none."""
 from . import rows
-from .formulas import BLOCKED, Evaluation, Refusal, cells_in, cells_of
+from .forms import Form
+from .formulas import BLOCKED, Evaluation, Refusal, cells_of
 from .fraction import Wide, narrow_numeral, numeral
 from .grammar import Node, parse, parse_reference
 from .tokens import Malformed, is_name, lower
-from .values import CIRCULAR, EMPTY, MALFORMED
-from .forms import Form
-from .values import ONE, ZERO
+from .values import CIRCULAR, EMPTY, MALFORMED, ONE, ZERO
 
 
 class Stop(Exception):
@@ -29,7 +28,7 @@ class Book:
 
     def __init__(self, stems):
         self.stems, self.sheets = stems, {lower(stem): number for number, stem in enumerate(stems)}
-        self.texts, self.names, self.trees = {}, [], {}
+        self.texts, self.names, self.trees, self.read_trees = {}, [], {}, {}
 
     def read(self, sheet, records):
         for row, record in enumerate(records):
@@ -50,19 +49,28 @@ class Book:
     def tree(self, cell):
         """The tree of a cell's formula with its names replaced; None where it is malformed."""
         if cell not in self.trees:
-            try:
-                self.trees[cell] = self.expanded(parse(self.texts[cell], cell[0], self.sheets), cell[0])
-            except Malformed:
-                self.trees[cell] = None
+            self.trees[cell] = self.tree_of(cell[0], self.texts[cell])
         return self.trees[cell]
+
+    def tree_of(self, home, text):
+        """The tree of a formula with its names replaced, or None; what stands in the text itself is read once."""
+        try:
+            if (home, text) not in self.read_trees:
+                self.read_trees[home, text] = None
+                self.read_trees[home, text] = parse(text, home, self.sheets)
+            tree = self.read_trees[home, text]
+            return tree and self.expanded(tree, home)
+        except Malformed:
+            return None
 
     def expanded(self, node, home):
         if node.kind == 'name':
             return self.meaning(node, home)
-        if not node.parts:
+        parts = tuple(self.expanded(part, home) for part in node.parts)
+        if all(part is old for part, old in zip(parts, node.parts)):
             return node
         made = Node(node.kind, node.start, node.end, node.value)
-        made.parts = tuple(self.expanded(part, home) for part in node.parts)
+        made.parts = parts
         return made
 
     def meaning(self, node, home):
@@ -192,13 +200,15 @@ def order(place):
 
 def references(tree):
     """The cells to which a tree refers."""
-    found, waiting = set(), [tree]
-    while waiting:
-        node = waiting.pop()
-        if node.kind == 'reference':
-            found.update(cells_of(node))
-        waiting += node.parts
-    return found
+    if tree.cells is None:
+        found, waiting = set(), [tree]
+        while waiting:
+            node = waiting.pop()
+            if node.kind == 'reference':
+                found.update(cells_of(node))
+            waiting += node.parts
+        tree.cells = frozenset(found)
+    return tree.cells
 
 
 def least(places):
@@ -263,5 +273,3 @@ def sheet_records(word, data):
     check(all(len(field) <= LIMITS['field'] for record in records for field in record), 'field')
     return records
 
-
-__all__ = ['Book', 'Entries', 'Stop', 'cells_in', 'opened']

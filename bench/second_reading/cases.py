@@ -11,13 +11,15 @@ from .outside import Folder, Printer, Script
 from .run import run
 
 NEVER = 10 ** 9
+BYTES = (0, 10, 13, 34, 44, 61, 128, 255)
 
 
 class Case:
-    """A run: its words, its files and its script, and the calls that fail."""
+    """A run: its words, its files and its script, and the calls that fail; or many runs, of damaged files and scripts."""
 
     def __init__(self, name):
         self.name, self.words, self.files, self.script, self.fails = name, [], [], bytearray(), [NEVER] * 3
+        self.damage = None
 
 
 class Reader:
@@ -58,6 +60,9 @@ class Reader:
 
     def on_fails(self, rest):
         self.case.fails = list(map(int, rest.split()))
+
+    def on_damage(self, kind):
+        self.case.damage = kind
 
     def on_file(self, name):
         self.part = bytearray()
@@ -106,6 +111,8 @@ def spelling(byte):
 
 def answer_of(case):
     """The lines that must come of a case."""
+    if case.damage:
+        return answers_of_damage(case)
     files = {name: bytes(data) for name, data in case.files}
     folder, printer = Folder(files, case.fails[:1]), Printer(case.fails[2:])
     status = run(case.words, folder, Script(bytes(case.script), case.fails[1:2]), printer)
@@ -114,6 +121,45 @@ def answer_of(case):
         if folder.files[name] != data:
             found += ['file ' + name] + lines(folder.files[name])
     return found
+
+
+def damaged(data, kind):
+    """Each place of bytes, with the bytes damaged there."""
+    for place in range(len(data)):
+        if kind == 'cuts':
+            yield place, data[:place]
+        else:
+            for byte in BYTES:
+                yield place, data[:place] + bytes([byte]) + data[place + 1:]
+
+
+def answers_of_damage(case):
+    """The lines that must come of a case of many runs."""
+    kinds = {}
+    files, script = {name: bytes(data) for name, data in case.files}, bytes(case.script)
+    for name, data in list(files.items()) + [('script', script)]:
+        for place, other in damaged(data, case.damage):
+            before = {**files, name: other} if name in files else files
+            folder, printer = Folder(before), Printer()
+            status = run(case.words, folder, Script(script if name in files else other), printer)
+            changed = [file for file in before if folder.files[file] != before[file]]
+            kind = kinds.setdefault((status, printer.data, tuple(changed)), [0, '%s %d' % (name, place), {}])
+            kind[0] += 1
+            for file in changed:
+                kind[2][file] = digest(kind[2].get(file, 0), folder.files[file])
+    found = ['case ' + case.name]
+    for (status, printed, _), (count, first, sums) in kinds.items():
+        found.append('%d runs, first %s' % (count, first))
+        found += ['changed %s %016x' % pair for pair in sums.items()]
+        found += ['status %d' % status, '>' + ''.join(map(spelling, printed))]
+    return found
+
+
+def digest(before, data):
+    """A digest that goes on over bytes, and over the end of them."""
+    for byte in data:
+        before = (before * 1099511628211 + byte + 1) % 2 ** 64
+    return before * 1099511628211 % 2 ** 64
 
 
 def main():

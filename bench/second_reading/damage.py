@@ -1,8 +1,10 @@
 """Random damage: bytes of a case are cut, changed and doubled, files are missing, words are odd."""
 
 BYTES = [0, 9, 10, 13, 32, 34, 36, 39, 40, 41, 44, 45, 46, 48, 49, 58, 61, 65, 69, 91, 126, 127, 128, 195, 239, 255]
-WORDS = ['--', '-', '--budget', '--pick', 'best', '--names', '--gen', '3', '--help', '-x', 'plan', '.csv', 'none.csv', '--pick=depth', 'a/.csv', '',
-         '--budget=0', '--budget=1000001', '--x=1', 'plan.csv']
+WORDS = [
+    '--', '-', '--budget', '--pick', 'best', '--names', '--gen', '3', '--help', '-x', 'plan', '.csv', 'none.csv', '--pick=depth',
+    'a/.csv', '', '--budget=0', '--budget=1000001', '--x=1', 'plan.csv',
+]
 
 
 def damaged(random, case):

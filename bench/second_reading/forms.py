@@ -1,8 +1,8 @@
 """Forms: a constant and terms over the decision cells; tests of forms; and operators where a side is one of these."""
 from . import fraction
-from .fraction import Wide, add, divide, multiply
+from .fraction import add, divide, multiply
 from .functions import raised
-from .values import DIVISION, EMPTY, RELATIONS, VALUE, ZERO, ONE, Fault, Grid, is_number, shrunk, to_number, to_text, compared
+from .values import DIVISION, EMPTY, ONE, RELATIONS, VALUE, ZERO, Fault, Grid, compared, is_number, shrunk, to_number, to_text
 
 REVERSED = {'=': '<>', '<>': '=', '<': '>=', '>=': '<', '>': '<=', '<=': '>'}
 
@@ -206,5 +206,3 @@ def negated(arg):
 def hundredth(arg):
     return mapped(lambda value: scaled(value, ONE / 100), arg)
 
-
-__all__ = ['Break', 'Form', 'Test', 'Undecided', 'Wide']

@@ -1,6 +1,4 @@
 """Trees of formulas: the grammar, read from left to right."""
-from fractions import Fraction
-
 from .fraction import Wide, numeral
 from .functions import COUNTS
 from .tokens import Malformed, address, lower, tokens, unquoted
@@ -15,6 +13,7 @@ class Node:
 
     def __init__(self, kind, start, end, value=None, parts=()):
         self.kind, self.start, self.end, self.value, self.parts = kind, start, end, value, parts
+        self.cells = None
         self.height = 1 + max((part.height for part in parts), default=0)
 
     @property

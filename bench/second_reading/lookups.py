@@ -2,7 +2,7 @@
 from fractions import Fraction
 
 from .fraction import floor
-from .values import NOT_AVAILABLE, REFERENCE, VALUE, EMPTY, Fault, Grid, compared, grid, shrunk, single, to_logical, to_number
+from .values import EMPTY, NOT_AVAILABLE, REFERENCE, VALUE, Fault, Grid, compared, grid, shrunk, single, to_logical, to_number
 
 
 def place(arg):
@@ -63,8 +63,8 @@ def match(args):
     return NOT_AVAILABLE if found is None else Fraction(found + 1)
 
 
-def lookup_part(table_rows, columns, keys, args):
-    """The row and the column, from 0, of what VLOOKUP picks, or an error; keys is called for the first column's elements."""
+def lookup_part(columns, keys, args):
+    """The row and the column, from 0, of what VLOOKUP picks from so many columns whose first one has these keys, or an error."""
     key, column = single(args[0]), place(args[2])
     fourth = to_logical(single(args[3])) if len(args) > 3 else True
     for value in (key, column, fourth):
@@ -80,15 +80,12 @@ def lookup_part(table_rows, columns, keys, args):
 
 def vlookup(args):
     table = grid(args[1])
-    part = lookup_part(table.rows, table.columns, [table.at(row, 0) for row in range(table.rows)], args)
+    part = lookup_part(table.columns, [table.at(row, 0) for row in range(table.rows)], args)
     return part if isinstance(part, Fault) else table.at(*part)
 
 
 def hlookup(args):
-    table = grid(args[1])
-    keys = [table.at(0, column) for column in range(table.columns)]
-    part = lookup_part(table.columns, table.rows, keys, args)
-    return part if isinstance(part, Fault) else table.at(part[1], part[0])
+    return vlookup([args[0], turned(grid(args[1]))] + list(args[2:]))
 
 
 def turned(table):

@@ -17,7 +17,7 @@ class Refused(Exception):
 
 @dataclass
 class Model:
-    """Decisions by number. Rows are (form, relation), numbers of their own beside them in `row_numbers`."""
+    """Decisions by number. Rows are a form and a relation."""
 
     goal: str
     value: object
@@ -26,9 +26,6 @@ class Model:
     whole: list
     lows: list
     highs: list
-
-    def same(self, other):
-        return self == other
 
 
 def side_form(entry):

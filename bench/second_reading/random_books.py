@@ -11,7 +11,8 @@ class Case:
 
     def __init__(self, random):
         self.random = random
-        self.sheets = random.sample(SHEETS, random.choice([1, 1, 2, 2, 3])) if random.random() < 0.5 else ['plan', 'data'][:random.choice([1, 2])]
+        is_odd = random.random() < 0.5
+        self.sheets = random.sample(SHEETS, random.choice([1, 1, 2, 2, 3])) if is_odd else ['plan', 'data'][:random.choice([1, 2])]
         self.decisions = []
         self.formulas = Formulas(random, self.sheets, names=NAMES[:4])
         self.names = []
@@ -36,10 +37,11 @@ class Case:
         return self.files(sheets, [['show', '%s!%s%d' % (name, column, row)] for row in range(5, 10) for column in 'ABCD'])
 
     def sheet_of_values(self):
-        value = lambda: self.pick('0', '1', '2', '3', '4', '5', '-1', '0.5', '', 'a', 'b', 'TRUE', self.random.choice(NUMERALS), self.random.choice(PLAIN))
-        row = lambda: [value() for _ in range(5)]
-        rising = sorted(self.random.sample(range(-3, 12), 5))
-        return [row(), list(map(str, rising)) if self.chance(0.7) else row(), row(), row() if self.chance(0.7) else [self.formulas.formula(1)] * 3]
+        odd = [self.random.choice(NUMERALS), self.random.choice(PLAIN)]
+        row = lambda: [self.pick('0', '1', '2', '3', '4', '5', '-1', '0.5', '', 'a', 'b', 'TRUE', *odd) for _ in range(5)]
+        rising = list(map(str, sorted(self.random.sample(range(-3, 12), 5))))
+        last = row() if self.chance(0.7) else [self.formulas.formula(1)] * 3
+        return [row(), rising if self.chance(0.7) else row(), row(), last]
 
     def forms(self):
         self.decisions = self.random.sample([(0, 0), (0, 1), (1, 0), (1, 1), (2, 3)], self.random.randint(1, 4))
@@ -55,7 +57,8 @@ class Case:
         script = []
         for row in range(5, 10):
             for column in 'ABCD':
-                script += [['name', self.sheets[0], 'solver_opt', column + str(row)], [self.pick('model', 'model', 'model', 'solve'), self.sheets[0]]]
+                script.append(['name', self.sheets[0], 'solver_opt', column + str(row)])
+                script.append([self.pick('model', 'model', 'model', 'solve'), self.sheets[0]])
         return self.files(sheets, script)
 
     # Runs that show cells.
@@ -64,15 +67,17 @@ class Case:
         self.plain_names()
         script = []
         for _ in range(self.random.randint(2, 10)):
-            script.append(self.edit() if self.chance(0.25) else ['show', self.written_cell(sheets) if self.chance(0.8) else self.address()])
+            address = self.written_cell(sheets) if self.chance(0.8) else self.address()
+            script.append(self.edit() if self.chance(0.25) else ['show', address])
         if self.chance(0.3):
             script.append(['save'])
         return self.files(sheets, script)
 
     def written_cell(self, sheets):
         number = self.random.randrange(len(sheets))
-        cells = [(row, column) for row, texts in enumerate(sheets[number]) for column, text in enumerate(texts) if text.startswith('=')] or [(0, 0)]
-        row, column = self.random.choice(cells)
+        texts = sheets[number]
+        cells = [(row, column) for row in range(len(texts)) for column in range(len(texts[row])) if texts[row][column].startswith('=')]
+        row, column = self.random.choice(cells or [(0, 0)])
         return "'%s'!%s%d" % (self.sheets[number].replace("'", "''"), chr(65 + column), row + 1)
 
     def sheet_of_texts(self):
@@ -96,8 +101,8 @@ class Case:
         if not sheet.isidentifier() or self.chance(0.1):
             sheet = "'%s'" % sheet.replace("'", "''")
         if self.chance(0.03):
-            return self.pick('A1', 'none!A1', sheet + '!A0', sheet + '!IW1', sheet + '!A4097', sheet + '!$A$2', sheet + '!A', '!A1',
-                             sheet + '!a002', sheet + ' !A1', sheet + '!A1:A2', '$' + sheet + '.B$1', "''!A1", sheet + '!A99999999999')
+            place = self.pick('!A0', '!IW1', '!A4097', '!$A$2', '!A', '!a002', ' !A1', '!A1:A2', '.B$1', '!A99999999999')
+            return self.pick('A1', 'none!A1', '!A1', "''!A1", '$' + sheet + place, sheet + place, sheet + place, sheet + place)
         return '%s%s%s%d' % (sheet, self.pick('!', '!', '.'), self.pick(*'ABCDE'), self.random.randint(1, 6))
 
     def sheet_field(self):
@@ -114,7 +119,8 @@ class Case:
             return ['name', self.pick('', self.sheet_field()), self.random.choice(NAMES), self.name_text()]
         if chosen < 0.92:
             return ['unname', self.pick('', self.sheet_field()), self.random.choice(NAMES + ['TRUE', 'A1', '$a', 'a b', ''])]
-        return self.pick(['save'], ['sort', 'plan'], ['set', 'plan!A1'], ['save', 'x'], [''], ['show', self.address(), ''], ['Set', 'plan!A1', '1'])
+        odd = [['sort', 'plan'], ['set', 'plan!A1'], ['save', 'x'], [''], ['show', self.address(), ''], ['Set', 'plan!A1', '1']]
+        return self.pick(['save'], *odd)
 
     # Runs that solve.
     def models(self):
@@ -129,7 +135,7 @@ class Case:
         return self.files(sheets, self.model_script())
 
     def number(self):
-        return self.pick('0', '1', '2', '3', '4', '5', '6', '7', '12', '-1', '-3', '0.5', '2.5', '1/3', '10', '100', '=7/3', '-0.25', '1E20', '')
+        return self.pick('0', '1', '2', '3', '4', '5', '6', '7', '12', '-1', '-3', '0.5', '2.5', '1/3', '10', '100', '=7/3', '1E20', '')
 
     def formula_of_model(self):
         chosen = self.random.random()
@@ -138,16 +144,19 @@ class Case:
         return self.formulas.formula(2) if chosen < 0.93 else self.number()
 
     def model_sheet(self, columns):
-        sheet = [[self.pick('0', '0', '', '1', '3', 'x') for _ in range(columns)] + [self.formulas.text() if self.chance(0.2) else '' for _ in range(5 - columns)]]
+        decided = [self.pick('0', '0', '', '1', '3', 'x') for _ in range(columns)]
+        sheet = [decided + [self.formulas.text() if self.chance(0.2) else '' for _ in range(5 - columns)]]
         for _ in range(4):
-            sheet.append([self.number() for _ in range(2)] + [self.formula_of_model()] + [self.number(), self.formula_of_model() if self.chance(0.3) else ''])
+            last = self.formula_of_model() if self.chance(0.3) else ''
+            sheet.append([self.number(), self.number(), self.formula_of_model(), self.number(), last])
         return sheet
 
     def solver_names(self, columns):
         add = lambda name, text: self.names.append([self.sheets[0], 'solver_' + name, text])
         adj = '$A$1:$%s$1' % 'ABC'[columns - 1] if columns > 1 else 'A1'
         if self.chance(0.15):
-            adj = self.pick('A1,B1', 'A1;A1', '=A1~C1', 'A1:B2', '[.A1:.B1]', '%s!A1' % self.sheets[0], 'A1,', 'C2', '', 'none!A1', '(A1)', 'A1 , B1')
+            adj = self.pick('A1,B1', 'A1;A1', '=A1~C1', 'A1:B2', '[.A1:.B1]', '%s!A1' % self.sheets[0], 'A1,', 'C2', '', 'none!A1',
+                            '(A1)', 'A1 , B1')
         if not self.chance(0.02):
             add('adj', adj)
         if self.chance(0.9):

@@ -4,8 +4,6 @@ from dataclasses import dataclass
 
 from . import rows
 from .book import LIMITS, Entries, is_formula, least, own_refusals
-from .formulas import Refusal
-from .forms import Form
 from .fraction import printed
 from .model import Building, Refused, side_form
 from .search import PICKERS, Search, Stuck
@@ -213,7 +211,7 @@ class Session:
         sheet, count = self.sheet(sheet_name), units_of(units)
         self.need_search(sheet)
         ready = self.prepared(sheet)
-        if not self.searches[sheet].model.same(ready.model):
+        if self.searches[sheet].model != ready.model:
             self.searches[sheet] = Search(ready.model)
         try:
             answer, is_open = self.ended(self.searches[sheet], count, ready)
@@ -306,5 +304,3 @@ def shown(value):
         return 'empty'
     return 'error ' + value.text if isinstance(value, Fault) else 'text "%s"' % value.replace('"', '""')
 
-
-__all__ = ['Form', 'Refusal', 'Session']

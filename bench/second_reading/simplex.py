@@ -1,8 +1,6 @@
 """Dictionaries and the two phases by Bland's rule."""
-from .fraction import MOST, Wide, add, divide, is_narrow, multiply
+from .fraction import Wide, add, divide, is_narrow, multiply
 from .values import ONE, ZERO
-
-assert MOST
 
 
 class WidePivot(Exception):

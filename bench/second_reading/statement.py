@@ -2,7 +2,6 @@
 from dataclasses import dataclass, field
 from fractions import Fraction
 
-from .book import is_formula, order
 from .formulas import cells_in, size
 from .fraction import narrow_numeral
 from .grammar import Node, Reader, parse, parse_reference
@@ -219,5 +218,3 @@ class Cell:
     def __str__(self):
         return '\0%d,%d,%d\0' % self.cell
 
-
-__all__ = ['NamesFault', 'Reading', 'Statement', 'is_formula', 'order']
