@@ -24,7 +24,8 @@ class Case:
         return self.random.choice(choices)
 
     def case(self):
-        kind = self.random.choices([self.shows, self.models, self.values, self.forms], [20, 40, 20, 20])[0]
+        kinds = [self.shows, self.models, self.values, self.forms, self.programs]
+        kind = self.random.choices(kinds, [20, 36, 18, 18, 8])[0]
         return kind()
 
     # Runs that show many formulas over the same values, and the forms of many over the same decision cells.
@@ -133,6 +134,28 @@ class Case:
             self.plain_names()
         self.solver_names(columns)
         return self.files(sheets, self.model_script())
+
+    # Runs over programs of many digits, whose pivots may meet numbers that don't fit.
+    def programs(self):
+        self.sheets = ['plan']
+        count, height = self.random.randint(2, 4), self.random.randint(2, 5)
+        digits = self.pick(1, 2, 6, 12, 18, 24)
+        number = lambda: str(self.random.randint(-10 ** digits // 4, 10 ** digits))
+        last = 'ABCD'[count - 1]
+        sheet = [['0'] * count]
+        for row in range(2, height + 3):
+            sheet.append([number() for _ in range(count)] + ['=SUMPRODUCT($A$1:$%s$1;A%d:%s%d)' % (last, row, last, row), number()])
+        result, right = 'ABCDEF'[count], 'ABCDEF'[count + 1]
+        texts = {
+            'adj': 'A1:%s1' % last, 'opt': result + '2', 'typ': self.pick('1', '2', '3'), 'num': '2',
+            'rel1': self.pick('1', '1', '2', '3'),
+            'lhs1': '%s3:%s%d' % (result, result, height + 2), 'rhs1': '%s3:%s%d' % (right, right, height + 2),
+            'lhs2': self.pick('A1', 'A1:B1', 'A1:%s1' % last), 'rel2': self.pick('1', '3', '4', '4', '5'), 'rhs2': number(),
+            'neg': self.pick('1', '1', '2'), 'val': number(),
+        }
+        self.names = [['plan', 'solver_' + name, text] for name, text in texts.items()]
+        script = [['model', 'plan'], ['solve', 'plan'], ['begin', 'plan'], ['slice', 'plan', '2'], ['slice', 'plan', '30'], ['save']]
+        return self.files([sheet], script)
 
     def number(self):
         return self.pick('0', '1', '2', '3', '4', '5', '6', '7', '12', '-1', '-3', '0.5', '2.5', '1/3', '10', '100', '=7/3', '1E20', '')
