@@ -1,5 +1,4 @@
 """A whole run: what it prints, its status, and the files that it writes."""
-import argparse
 import re
 import sys
 
@@ -134,11 +133,8 @@ def outcome(words, files, script):
 
 
 def main():
-    """Prints what the program has to print over files of the working folder; saves nothing."""
-    parser = argparse.ArgumentParser(description=main.__doc__)
-    parser.add_argument('words', nargs=argparse.REMAINDER)
-    words = parser.parse_args().words
-    files = {}
+    """Prints what the program has to print by these words over files of the working folder; saves nothing."""
+    words, files = sys.argv[1:], {}
     for word in words:
         try:
             with open(word, 'rb') as file:
