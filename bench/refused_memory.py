@@ -1,16 +1,18 @@
 #!/usr/bin/env python3
 """Runs in which one request for memory is refused, and runs in which all from one on are.
 
-    python3 bench/refused_memory.py PROGRAM [--step N]
+    python3 bench/refused_memory.py PROGRAM [--step N] [--only NAME]
 
 PROGRAM is a native one that takes its memory by the malloc and realloc of a shared C library. Each run below is made once with ample
 memory, which tells how many requests it makes, and then twice for each of their numbers (each Nth one, with --step N): with that
 request refused, and with that one and all behind it refused. Such a run must be the same as the one with ample memory, or end with
-status 5, having printed the answers of some of the first records, whole, and having written some of the first of the files that are
-saved, whole; the one file that was being written then may hold anything, which is counted. Ends with 1 where a run does anything else.
+status 5, having printed the answers of the first records, each whole; its files then are those behind these records, or the next record
+is a save and some of the first files that it saves are written, of which the last one may hold anything. Ends with 1 where a run does
+anything else.
 """
 import argparse
 import os
+import re
 import subprocess
 import sys
 import tempfile
@@ -55,46 +57,53 @@ RUNS = {
 
 
 class Tries:
-    """The tries of one run of a program."""
+    """The tries of one run of a program. `ends` are what stands with ample memory behind each of the first records."""
 
     def __init__(self, program, library, run):
-        words, self.files, script = run
+        words, files, self.script = run
+        self.files = {name: text.encode() for name, text in files.items()}
         self.command = [program, '--names', 'names.csv'] + words
-        self.script = ''.join(line + '\n' for line in script).encode()
         self.written = words + ['names.csv']
         self.library, self.count = library, 0
-        self.ample = self.made({})
+        self.ends = [self.made({}, count) for count in range(len(self.script) + 1)]
 
-    def made(self, settings):
+    def made(self, settings, records=None):
         """What is printed, the status and the files behind it."""
         with tempfile.TemporaryDirectory(dir='/dev/shm' if os.path.isdir('/dev/shm') else None) as folder:
-            for name, text in self.files.items():
-                with open(os.path.join(folder, name), 'w') as file:
-                    file.write(text)
+            for name, data in self.files.items():
+                with open(os.path.join(folder, name), 'wb') as file:
+                    file.write(data)
             counted = folder + '.count'
             surroundings = {**os.environ, 'LD_PRELOAD': self.library, 'REFUSE_COUNT': counted, **settings}
-            found = subprocess.run(self.command, cwd=folder, env=surroundings, input=self.script, capture_output=True, timeout=60)
-            with open(counted) as file:
-                self.count = int(file.read())
+            script = ''.join(line + '\n' for line in self.script[:records]).encode()
+            found = subprocess.run(self.command, cwd=folder, env=surroundings, input=script, capture_output=True, timeout=60)
+            self.count = int(read(counted))
             os.unlink(counted)
             return found.stdout, found.returncode, {name: read(os.path.join(folder, name)) for name in os.listdir(folder)}
 
     def kind(self, found):
         """What kind of end a run with refused memory has."""
         printed, status, files = found
-        if found == self.ample:
+        if found == self.ends[-1]:
             return 'the same'
-        if status != 5 or not self.is_beginning(printed) or set(files) != set(self.files):
+        place = next((place for place, end in enumerate(self.ends) if end[0] == printed), None)
+        if status != 5 or place is None:
             return 'wrong: status %d, printed %r' % (status, printed)
-        odd = [name for name in files if files[name] not in (self.files[name].encode(), self.ample[2][name])]
-        if len(odd) > 1:
-            return 'wrong: files %s' % odd
-        return 'status 5, nothing written' if all(files[name] == self.files[name].encode() for name in files) else (
-            'status 5, a file half written' if odd else 'status 5, files written')
+        before, after = self.ends[place][2], self.ends[min(place + 1, len(self.script))][2]
+        if files == before:
+            return 'status 5'
+        return self.kind_of_save(files, before, after)
 
-    def is_beginning(self, printed):
-        ends = {place + 1 for place, byte in enumerate(self.ample[0]) if byte == 10} | {0}
-        return len(printed) in ends and self.ample[0].startswith(printed)
+    def kind_of_save(self, files, before, after):
+        """The same of a run whose files aren't those behind the last record that was answered: the next one is a save, begun."""
+        signs = ''
+        for name in self.written:
+            if before[name] != after[name]:
+                signs += 'n' if files[name] == after[name] else ('o' if files[name] == before[name] else '?')
+        is_save = set(files) == set(before) and all(files[name] == before[name] for name in files if before[name] == after[name])
+        if not is_save or not re.fullmatch('n*[?]?o*', signs):
+            return 'wrong: files %s' % sorted(files)
+        return 'status 5 within a save' + (', one file half written' if '?' in signs else '')
 
 
 def read(path):
@@ -106,6 +115,7 @@ def main():
     parser = argparse.ArgumentParser()
     parser.add_argument('program')
     parser.add_argument('--step', type=int, default=1)
+    parser.add_argument('--only', default='', help='the runs whose names begin so')
     options = parser.parse_args()
     is_wrong = False
     with tempfile.TemporaryDirectory() as folder:
@@ -113,9 +123,11 @@ def main():
         source = os.path.join(os.path.dirname(os.path.abspath(__file__)), 'refused_memory.c')
         subprocess.run(['cc', '-shared', '-fPIC', '-O1', '-o', library, source, '-ldl'], check=True)
         for name, run in RUNS.items():
+            if not name.startswith(options.only):
+                continue
             tries = Tries(os.path.abspath(options.program), library, run)
-            count = tries.count
-            print('%s: %d requests, status %d' % (name, count, tries.ample[1]))
+            count = tries.count    # of the run that was made last, with all records
+            print('%s: %d requests, status %d' % (name, count, tries.ends[-1][1]))
             for setting in ('REFUSE', 'REFUSE_FROM'):
                 kinds = Counter(tries.kind(tries.made({setting: str(number)})) for number in range(0, count, options.step))
                 is_wrong |= any(kind.startswith('wrong') for kind in kinds)

@@ -1,5 +1,6 @@
 // How cases are read, line by line.
 
+use crate::damage::Damage;
 use crate::lines::Line;
 use crate::spelling::{Fails, fails_of, push_numbered, push_spelled, push_times, words_of};
 use std::alloc::{AllocError, Global};
@@ -7,7 +8,8 @@ use std::alloc::{AllocError, Global};
 /// Files, each a name and its bytes.
 pub(crate) type Files = Vec<(String, Vec<u8>)>;
 
-/// A run: what it shows, the words of its command line, its files and its script, and which calls fail.
+/// A run: what it shows, the words of its command line, its files and its script, which calls fail, and whether it is many runs, of
+/// damaged files and scripts.
 #[derive(Drop)]
 pub(crate) struct Case {
     pub(crate) name: String,
@@ -15,6 +17,7 @@ pub(crate) struct Case {
     pub(crate) files: Files,
     pub(crate) script: Vec<u8>,
     pub(crate) fails: Fails,
+    pub(crate) damage: Option<Damage>,
 }
 
 // Files that cases may share.
@@ -63,6 +66,7 @@ impl Cases {
             Line::Words(words) => self.add_words(words),
             Line::With(name) => self.add_shared(name),
             Line::Fails(calls) => Ok(self.set_fails(calls)),
+            Line::Damage(kind) => Ok(self.set_damage(kind)),
             Line::File(name) => self.begin_file(name),
             Line::Script => Ok(self.begin_script()),
             Line::Shared(name) => self.begin_shared(name),
@@ -82,6 +86,7 @@ impl Cases {
             files: Vec::new(self.alloc),
             script: Vec::new(self.alloc),
             fails: Fails::NEVER,
+            damage: None,
         });
         Ok(true)
     }
@@ -127,6 +132,14 @@ impl Cases {
         };
         case.fails = fails;
         true
+    }
+
+    fn set_damage(&mut self, kind: &str) -> bool {
+        let Some(case) = &mut self.case else {
+            return false;
+        };
+        case.damage = Damage::of(kind);
+        case.damage.is_some()
     }
 
     // Adds the shared files of this name.

@@ -6,6 +6,8 @@
 //     words WORD ..     the words of its command line, with blanks between; one with blanks, or of no letters, stands in quotes, as ''
 //     with NAME         the shared files of this name are files of the case
 //     fails F S P       the calls of the folder, of the script's source and of the printer that fail, each counted from 0
+//     damage cuts       the case is many runs: each of its files, and its script, is cut behind each of its bytes
+//     damage bytes      so it is, and each byte is in turn each of 0, 10, 13, 34, 44, 61, 128 and 255
 //     file NAME         begins a file
 //     script            begins the script
 //     shared NAME       begins files that cases may share, by `file` lines behind it
@@ -22,6 +24,13 @@
 //     status NUMBER     how the run ends
 //     file NAME         a file that isn't what it was, with its lines behind it
 //
+// For a case of many runs the lines behind `case` are these, once for each way in which some of the runs come out:
+//
+//     N runs, first NAME PLACE     how many these are; the file, or `script`, and the place of the first damage, from 0
+//     changed NAME DIGEST          a file that isn't what it was, and a digest of what it holds behind each of these runs
+//     status NUMBER
+//     >TEXT                        what each prints, spelled
+//
 // A line of standard input of another form is printed behind `can't be read:`.
 //
 // Behind the cases comes a run over the real thing, with the words of this program's own command line. One of them is no UTF-8, as no
@@ -29,7 +38,9 @@
 #![tactic(auto)]
 
 mod cases;
+mod damage;
 mod lines;
+mod outcomes;
 mod running;
 mod spelling;
 
@@ -70,6 +81,9 @@ fn print_answer(rt: &HostRuntime, cases: &mut Cases) -> io::Result<()> {
         return Ok(());
     };
     let mut answer = String::new(rt.alloc());
-    running::show_run(rt.alloc(), &case, &mut answer)?;
+    match case.damage {
+        None => running::show_run(rt.alloc(), &case, &mut answer)?,
+        Some(damage) => damage::show_runs(rt.alloc(), &case, damage, &mut answer)?,
+    }
     print!(rt; "{answer}")
 }

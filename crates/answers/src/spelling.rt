@@ -142,8 +142,8 @@ fn plain(line: &[u8]) -> Option<&str> {
     Some(text)
 }
 
-// Adds bytes as they are spelled.
-fn push_spelling(bytes: &[u8], to: &mut String) -> Result<(), AllocError> {
+/// Adds bytes as they are spelled.
+pub(crate) fn push_spelling(bytes: &[u8], to: &mut String) -> Result<(), AllocError> {
     to.push('>')?;
     for byte in bytes {
         match byte {
