@@ -83,6 +83,13 @@ def minus(left, right):
     return plus(left, scaled(right, -ONE))
 
 
+def total_of(values):
+    total = ZERO
+    for value in values:
+        total = plus(total, value)
+    return total
+
+
 def times(left, right):
     if isinstance(left, Form) and isinstance(right, Form):
         raise Break

@@ -1,5 +1,5 @@
 """What a formula is worth, and at which cells it looks, where a call tells what stands in a cell."""
-from . import form_functions, functions, lookups
+from . import form_functions, form_lookups, functions, lookups
 from .forms import Break, Form, Test, Undecided, has_open, hundredth, infix, is_open, minus, negated, is_multiple
 from .fraction import Wide
 from .values import EMPTY, VALUE, ZERO, Fault, Grid, grid, is_number, meets, shrunk, single, to_logical
@@ -171,7 +171,7 @@ class Evaluation:
         if of is None:
             return self.apply(node, self.parts(node.parts))
         args = self.parts(node.parts[1:])
-        part = self.called(node, lambda places: form_functions.index_part(*shape(of), places), args)
+        part = self.called(node, lambda places: form_lookups.index_part(*shape(of), places), args)
         if part is POISON or isinstance(part, Fault):
             return part
         value = self.picked(of, part)
@@ -198,7 +198,7 @@ class Evaluation:
         first = (0, 0, 0, columns - 1) if is_turned else (0, 0, rows - 1, 0)
         args = [self.part(node.parts[0]), self.picked(of, first)] + self.parts(node.parts[2:])
         size = rows if is_turned else columns
-        part = self.called(node, lambda args: form_functions.lookup_part(size, args[1].items, args), args)
+        part = self.called(node, lambda args: form_lookups.lookup_part(size, args[1].items, args), args)
         if part is POISON or isinstance(part, Fault):
             return part
         row, column = reversed(part) if is_turned else part
