@@ -1,0 +1,12 @@
+pub mod Same
+pub mod Faults
+pub mod Models
+pub mod Valid
+pub mod Trails
+pub mod Tasks
+pub mod Ends
+pub mod Cuts
+pub mod Shown
+pub mod Named
+pub mod Kept
+pub mod Steps

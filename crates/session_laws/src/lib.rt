@@ -1,0 +1,19 @@
+//! What is true of every step of a session, and of every list of commands, where the rule of the picker names a node.
+#![tactic(auto)]
+
+ghost use Rattle.session_laws.specs.Laws.{CommandsAreDetermined, StepIsDetermined, TrailsAreKept};
+
+/// Every open search stands where a trail of its model has led.
+pub fn searches_have_trails()
+    ensures { TrailsAreKept }
+{}
+
+/// Where the rule names a node, a command has one answer and one session after it.
+pub fn step_is_determined()
+    ensures { StepIsDetermined }
+{}
+
+/// Where the rule names a node, the same commands over the same workbook have the same answers, and lead to one session.
+pub fn commands_are_determined()
+    ensures { CommandsAreDetermined }
+{}
