@@ -18,7 +18,8 @@ use Rattle.session.specs.Solves.{SearchEnds, WithModel, with_written}
 use Rattle.session.specs.States.{SessionState, with_book, with_search, without_search}
 use Rattle.session_laws.specs.Answers.{SameAnswer}
 use Rattle.session_laws.proofs.Ends.{not_more, one_end}
-use Rattle.session_laws.proofs.Models.{has_model, one_model, one_without_model}
+use Rattle.sheet_linear_model.proofs.Single.{never_both, prepared_is_one}
+use Rattle.session_laws.proofs.Models.{one_without_model}
 use Rattle.session_laws.proofs.Same.{equal_are_same}
 use Rattle.session_laws.proofs.Tasks.{Follows, asked_last, last_is_one}
 use Rattle.session_laws.proofs.Valid.{model_is_valid}
@@ -113,10 +114,10 @@ module _ (Act : Prepared → Answer → SessionState → Type 0) (before m n : S
     (once : (p : Prepared) → IsPrepared before.book sheet p → Act p a m → Act p b n → SameAnswer a b × (m ≡ n)) where
   act_once : Modelled Act before sheet a m → Modelled Act before sheet b n → SameAnswer a b × (m ≡ n)
   act_once (without h e) (without k f) = (one_without_model before.book sheet a b h k, e ∙ sym f)
-  act_once (without h e) (with_one p is k) = absurd (has_model before.book sheet p a is h)
-  act_once (with_one p is h) (without k f) = absurd (has_model before.book sheet p b is k)
+  act_once (without h e) (with_one p is k) = absurd (never_both before.book sheet p a is h)
+  act_once (with_one p is h) (without k f) = absurd (never_both before.book sheet p b is k)
   act_once (with_one p is h) (with_one q so k) =
-      let same : q ≡ p = one_model before.book sheet q p so is in once p is h (subst (λ (r : Prepared). Act r b n) same k)
+      let same : q ≡ p = prepared_is_one before.book sheet q p so is in once p is h (subst (λ (r : Prepared). Act r b n) same k)
 
   pub with_model_once : WithModel Act before sheet a m → WithModel Act before sheet b n → SameAnswer a b × (m ≡ n)
   with_model_once h k = act_once (modelled Act before sheet a m h) (modelled Act before sheet b n k)

@@ -1,11 +1,10 @@
--- A sheet has one linear model, or one first cause why it has none.
+-- A sheet without a linear model has one first cause why it has none.
 use Rattle.std.proofs.Common.{◌≡◌, ◌∙◌, ℕ, List, [], ◌∷◌, Option, Some, None, Result, Ok, refl, sym, ap, ap₂, subst}
 use Rattle.std.specs.List.{AllZip}
 use Rattle.fractions.specs.Rational.{zero_ℚ}
 use Rattle.affine_forms.specs.Forms.{AffineForm, constant_form}
 use Rattle.cell_refs.specs.declared.cell.Cell.{Cell}
-use Rattle.linear_models.specs.Linear.{linear, wide_row}
-use Rattle.linear_models.specs.Model.{Model}
+use Rattle.linear_models.specs.Linear.{wide_row}
 use Rattle.recalculation.specs.Entries.{Book}
 use Rattle.workbook.specs.Kinds.{book_of}
 use Rattle.workbook.specs.State.{State}
@@ -24,7 +23,7 @@ use Rattle.form_needs.proofs.One.{one_refusal}
 use Rattle.commands.specs.declared.answer.Answer.{Answer}
 use Rattle.commands.specs.declared.answer.Answer.TheVariants as answer
 use Rattle.sheet_linear_model.specs.Answers.{HasFault, HasNoModel}
-use Rattle.sheet_linear_model.specs.Prepared.{HasWideRow, HaveForms, IsPrepared, IsRefusedBy, Prepared, rows_of}
+use Rattle.sheet_linear_model.specs.Prepared.{HasWideRow, HaveForms, IsRefusedBy, rows_of}
 use Rattle.session_laws.specs.Answers.{SameAnswer}
 use Rattle.session_laws.proofs.Faults.{no_fault, one_fault}
 use Rattle.session_laws.proofs.Same.{equal_are_same, same_by}
@@ -77,20 +76,6 @@ one_forms book sheet s t f g xs ys h k =
     let one = forms_of_one book sheet t f g xs ys (subst (λ (u : Statement). HaveForms book sheet u f xs) same h) k in
     record { statement = same; objective = one.0; sides = one.1 }
 
--- ---- models
-abbrev made : Statement → AffineForm → List (AffineForm × AffineForm) → Prepared
-made s f xs = record { statement = s; objective = f; sides = xs; model = linear (rows_of s f xs) }
-
-is_made : (p : Prepared) → p.model ≡ linear (rows_of p.statement p.objective p.sides) → p ≡ made p.statement p.objective p.sides
-is_made p e = ap (λ (m : Model). record p { model = m }) e
-
-pub one_model : (book : State) (sheet : ℕ) (p q : Prepared) → IsPrepared book sheet p → IsPrepared book sheet q → p ≡ q
-one_model book sheet p q h k =
-    let same = one_forms book sheet p.statement q.statement p.objective q.objective p.sides q.sides h.forms k.forms in
-    is_made p h.model
-    ∙ (ap (λ (s : Statement). made s p.objective p.sides) same.statement
-    ∙ (ap (λ (f : AffineForm). made q.statement f p.sides) same.objective ∙ (ap (made q.statement q.objective) same.sides ∙ sym (is_made q k.model))))
-
 -- ---- causes
 -- why a sheet has no model, and that it is answered
 data Cause (book : State) (sheet : ℕ) (a : Answer) : Type 0 where
@@ -126,9 +111,6 @@ one_row book sheet s t f g xs ys o p h k i j =
     ∙ (ap (λ (u : Statement). wide_row (rows_of u f xs)) same.statement
     ∙ (ap (λ (v : AffineForm). wide_row (rows_of t v xs)) same.objective ∙ (ap (λ (l : List (AffineForm × AffineForm)). wide_row (rows_of t g l)) same.sides ∙ j)))
 
-none_or_some : {k : ℕ} → None ≡ Some k → ⊥
-none_or_some e = absurd cc
-
 one_cause : (book : State) (sheet : ℕ) (a b : Answer) → Cause book sheet a → Cause book sheet b → SameAnswer a b
 one_cause book sheet a b (names d h e) (names f k i) = same_by a b (answer.Names d) (answer.Names f) e i (one_fault book sheet d f h k)
 one_cause book sheet a b (names d h e) (form r k i) = absurd (no_fault book sheet k.statement d k.stated h)
@@ -146,12 +128,3 @@ one_cause book sheet a b (row n h e) (row l k i) =
 
 pub one_without_model : (book : State) (sheet : ℕ) (a b : Answer) → HasNoModel book sheet a → HasNoModel book sheet b → SameAnswer a b
 one_without_model book sheet a b h k = one_cause book sheet a b (cause book sheet a h) (cause book sheet b k)
-
--- a sheet that has a model has no cause why it has none
-no_cause : (book : State) (sheet : ℕ) (p : Prepared) (a : Answer) → IsPrepared book sheet p → Cause book sheet a → ⊥
-no_cause book sheet p a h (names d k e) = no_fault book sheet p.statement d h.forms.stated k
-no_cause book sheet p a h (form r k e) = form_is_numbers book sheet p.statement p.objective p.sides r h.forms k
-no_cause book sheet p a h (row n k e) = none_or_some (one_row book sheet p.statement k.statement p.objective k.objective p.sides k.sides None (Some n) h.forms k.forms h.narrow k.wide)
-
-pub has_model : (book : State) (sheet : ℕ) (p : Prepared) (a : Answer) → IsPrepared book sheet p → HasNoModel book sheet a → ⊥
-has_model book sheet p a h k = no_cause book sheet p a h (cause book sheet a k)

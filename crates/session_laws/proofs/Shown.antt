@@ -27,7 +27,8 @@ use Rattle.session.specs.Saves.{Saves, files_to_save}
 use Rattle.session.specs.States.{SessionState}
 use Rattle.session.specs.Steps.{Shows}
 use Rattle.session_laws.specs.Answers.{SameAnswer}
-use Rattle.session_laws.proofs.Models.{has_model, one_model, one_without_model}
+use Rattle.sheet_linear_model.proofs.Single.{never_both, prepared_is_one}
+use Rattle.session_laws.proofs.Models.{one_without_model}
 use Rattle.session_laws.proofs.Same.{equal_are_same, same_by}
 
 -- ---- cells
@@ -78,9 +79,9 @@ telling book sheet a h = none h
 
 one_telling : (book : State) (sheet : ℕ) (a b : Answer) → Telling book sheet a → Telling book sheet b → SameAnswer a b
 one_telling book sheet a b (model lines p e h l) (model others q f k r) =
-    equal_are_same a b (e ∙ (ap answer.Model (l ∙ (ap lines_of (one_model book sheet p q h k) ∙ sym r)) ∙ sym f))
-one_telling book sheet a b (model lines p e h l) (none k) = absurd (has_model book sheet p b h k)
-one_telling book sheet a b (none h) (model others q f k r) = absurd (has_model book sheet q a k h)
+    equal_are_same a b (e ∙ (ap answer.Model (l ∙ (ap lines_of (prepared_is_one book sheet p q h k) ∙ sym r)) ∙ sym f))
+one_telling book sheet a b (model lines p e h l) (none k) = absurd (never_both book sheet p b h k)
+one_telling book sheet a b (none h) (model others q f k r) = absurd (never_both book sheet q a k h)
 one_telling book sheet a b (none h) (none k) = one_without_model book sheet a b h k
 
 pub models_once : (book : State) (sheet : ℕ) (a b : Answer) → Models book sheet a → Models book sheet b → SameAnswer a b
