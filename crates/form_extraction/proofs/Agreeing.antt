@@ -1,6 +1,6 @@
 -- A formula's form depends on the forms of the cells alone to which it refers, and so the form of a cell is its layer's.
 use Rattle.std.specs.Prelude.{◌≡◌, ◌++◌, is_some, not, ◌&&◌, length, ⊤}
-use Rattle.std.proofs.Common.{refl, sym, ap, ap₂, ◌∙◌, Bool, true, if◌then◌else◌, List, [], ◌∷◌, map, Option, Some, None, ℕ, false}
+use Rattle.std.proofs.Common.{refl, sym, ap, ap₂, ◌∙◌, Bool, true, if◌then◌else◌, List, [], ◌∷◌, map, Option, Some, None, ℕ, zero, suc, ◌<◌, false, arith}
 use Rattle.std.specs.List.{AllByRecursion}
 use Rattle.std.specs.FinMap.{keys, contains_key}
 use Rattle.cell_refs.specs.declared.cell.Cell.{Cell}
@@ -17,7 +17,7 @@ use Rattle.recalculation.proofs.Knowing.{call_alike as looks_alike}
 use Rattle.recalculation.specs.Walks.{is_formula, refers, steps_to, is_circular}
 use Rattle.recalculation.proofs.Lists.{each_left, each_right, each_alike}
 use Rattle.recalculation.proofs.Reading.{EachOf, OfReference, exchanged_among, grid_cells}
-use Rattle.recalculation.proofs.Walking.{fixed}
+use Rattle.recalculation.proofs.Walking.{all_enough, fixed}
 use Rattle.recalculation.proofs.Circles.{found_text, no_step}
 use Rattle.recalculation.proofs.WithinAreas.{of_referred}
 use Rattle.form_values.specs.declared.abs.Abs.{Abs}
@@ -145,14 +145,14 @@ module _ (f g : Cell → Option Abs) where
 same_in : (f g : Cell → CellForm) (b : Cell) → f b ≡ g b → form_in (f b) ≡ form_in (g b)
 same_in f g b e = ap form_in e
 
-entry_alike : (f g : Cell → CellForm) (e : Option Entry) → ((b : Cell) → refers e b ≡ true → f b ≡ g b) → entry_form (λ b. form_in (f b)) e ≡ entry_form (λ b. form_in (g b)) e
+pub entry_alike : (f g : Cell → CellForm) (e : Option Entry) → ((b : Cell) → refers e b ≡ true → f b ≡ g b) → entry_form (λ b. form_in (f b)) e ≡ entry_form (λ b. form_in (g b)) e
 entry_alike f g None h = refl
 entry_alike f g (Some (Constant v)) h = refl
 entry_alike f g (Some (Formula t)) h =
     formula_alike (λ b. form_in (f b)) (λ b. form_in (g b)) t (of_referred (λ b. form_in (f b) ≡ form_in (g b)) t (λ b r. same_in f g b (h b r)))
 entry_alike f g (Some Malformed) h = refl
 
-layer_alike : (f g : Cell → CellForm) (d : Option ℕ) (circular : Bool) (e : Option Entry) → ((b : Cell) → (not (is_some d) && refers e b) ≡ true → f b ≡ g b)
+pub layer_alike : (f g : Cell → CellForm) (d : Option ℕ) (circular : Bool) (e : Option Entry) → ((b : Cell) → (not (is_some d) && refers e b) ≡ true → f b ≡ g b)
     → decision_or d (if circular then Circular else entry_form (λ b. form_in (f b)) e) ≡ decision_or d (if circular then Circular else entry_form (λ b. form_in (g b)) e)
 layer_alike f g (Some j) circular e h = refl
 layer_alike f g None circular e h = ap (λ v. if circular then Circular else v) (entry_alike f g e h)
@@ -165,7 +165,7 @@ either_form f g w (Some (Formula t)) h =
     ap (λ b. if b then Circular else entry_form (λ b. form_in (f b)) (Some (Formula t))) h ∙ sym (ap (λ b. if b then Circular else entry_form (λ b. form_in (g b)) (Some (Formula t))) h)
 either_form f g w (Some Malformed) h = refl
 
-layer_looped : (f g : Cell → CellForm) (d : Option ℕ) (w : Bool) (e : Option Entry) → w ≡ true
+pub layer_looped : (f g : Cell → CellForm) (d : Option ℕ) (w : Bool) (e : Option Entry) → w ≡ true
     → decision_or d (if is_formula e && (not (is_some d) && w) then Circular else entry_form (λ b. form_in (f b)) e)
     ≡ decision_or d (if is_formula e && (not (is_some d) && w) then Circular else entry_form (λ b. form_in (g b)) e)
 layer_looped f g (Some j) w e h = refl
@@ -182,3 +182,12 @@ module _ (book : Book) (decisions : Decisions) where
       fixed (keys book.texts) (steps_to book is_leaf) (contains_key book.texts) (found_text book) (no_step book is_leaf) (form_over book decisions)
       (λ f g b s. layer_alike f g (decisions b) (is_circular book is_leaf b) (entry book b) s) Circular
       (λ f g b w. layer_looped f g (decisions b) _ (entry book b) w) a
+
+  -- a bound above the number of texts is enough
+  pub form_enough : (m : ℕ) (a : Cell) → length (keys book.texts) < m → bounded_form book decisions m a ≡ form_of book decisions a
+  unfolding bounded_form form_of
+  form_enough zero a h = absurd (omega arith)
+  form_enough (suc m) a h =
+      all_enough (keys book.texts) (steps_to book is_leaf) (contains_key book.texts) (found_text book) (no_step book is_leaf) (form_over book decisions)
+      (λ f g b s. layer_alike f g (decisions b) (is_circular book is_leaf b) (entry book b) s) Circular
+      (λ f g b w. layer_looped f g (decisions b) _ (entry book b) w) m a (omega arith)

@@ -21,7 +21,7 @@ use Rattle.recalculation.proofs.Circles.{found_text, entry_there, circular_is_en
 use Rattle.recalculation.proofs.Values.{entry_alike, val_enough}
 
 -- an element that passes, in a list of which one does
-passes : (p : Cell → Bool) (xs : List Cell) → list_any p xs ≡ true → (b : Cell) × (p b ≡ true) × (list_any (eq_by_cmp cell_cmp b) xs ≡ true)
+pub passes : (p : Cell → Bool) (xs : List Cell) → list_any p xs ≡ true → (b : Cell) × (p b ≡ true) × (list_any (eq_by_cmp cell_cmp b) xs ≡ true)
 passes p [] h = cc
 passes p (x ∷ xs) h =
     elim (p x) as (λ w. p x ≡ w → (w || list_any p xs) ≡ true → (b : Cell) × (p b ≡ true) × (list_any (eq_by_cmp cell_cmp b) (x ∷ xs) ≡ true)) [

@@ -307,9 +307,17 @@ module _ (sheets : List (List ℕ)) (before after : List Name) (es fs : HeldCell
     λ ne. told q (said_at said q) refl (λ same. ne (after_is q ∙ same ∙ sym (before_is q))),
   )
 
+  others_alike : (q : Cell) → ¬ (Contains (keys_of said) q) → entry (book_of (the_state sheets (contents_of fs) after)) q ≡ entry (book_of (the_state sheets (contents_of es) before)) q
+  others_alike q none = by (said_at said q) refl
+    where
+      by : (r : Option Said) → said_at said q ≡ r → entry (book_of (the_state sheets (contents_of fs) after)) q ≡ entry (book_of (the_state sheets (contents_of es) before)) q
+      by None e = after_is q ∙ entries_alike q (held_at es q) refl e ∙ sym (before_is q)
+      by (Some s) e = absurd (none (among said q (ap is_some e)))
+
   pub say_otherwise : (cells : List Cell) → cells ≡ keys_of said
       → SayOtherwise (the_state sheets (contents_of es) before) (the_state sheets (contents_of fs) after) cells
   say_otherwise cells is = record {
     each = λ q. subst (λ l. Contains l q ↔ (entry (book_of (the_state sheets (contents_of fs) after)) q ≢ entry (book_of (the_state sheets (contents_of es) before)) q)) (sym is) (each_told q);
     sorted = subst (IsStrictlySortedBy cell_cmp) (sym is) are.sorted;
+    others = λ q none. others_alike q (λ there. none (subst (λ l. Contains l q) (sym is) there));
   }

@@ -60,10 +60,11 @@ unname_fault name =
     else None
 
 -- ---- what the edit of a name answers
--- exactly the cells that say something else than before, each once, the least first
+-- exactly the cells that say something else than before, each once, the least first; all others say the same
 pub record SayOtherwise (before after : State) (cells : List Cell) : Type 0 where
   pub each : (cell : Cell) → Contains cells cell ↔ (entry (book_of after) cell ≢ entry (book_of before) cell)
   pub sorted : IsStrictlySortedBy cell_cmp cells
+  pub others : (cell : Cell) → ¬ (Contains cells cell) → entry (book_of after) cell ≡ entry (book_of before) cell
 
 -- the name has the text, and the cells that say something else are told; or the first cause stands, and nothing has changed; memory
 -- is wanted only where no cause stands
