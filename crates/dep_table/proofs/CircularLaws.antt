@@ -12,7 +12,7 @@ use Rattle.recalculation.specs.Walks.{has_walk, is_formula, refers, steps_to, is
 use Rattle.recalculation.proofs.Circles.{and_false, circular_is_endless, formula_text, found_text}
 use Rattle.recalculation.proofs.Lists.{both, first_true, second_true}
 use Rattle.recalculation.proofs.Walking.{no_longer, none_any}
-use Rattle.dep_table.specs.declared.formulas.Formula.{Formula}
+use Rattle.column_strips.specs.declared.formulas.Formula.{Formula}
 use Rattle.dep_table.specs.declared.tour.Mark.{Mark}
 use Rattle.dep_table.specs.declared.tour.Mark.TheVariants.{Circular}
 use Rattle.dep_table.specs.Edges.{edge, refers_to}

@@ -4,7 +4,7 @@ use Rattle.std.specs.Prelude.{Some, slice_get}
 use Rattle.std.proofs.lemmas.Bool.{cases_lt, cases_order}
 use Rattle.std.proofs.lemmas.Option.{slice_get-get_or}
 use Rattle.cell_refs.specs.Areas.{Area}
-use Rattle.dep_table.specs.declared.formulas.Formula.{Formula}
+use Rattle.column_strips.specs.declared.formulas.Formula.{Formula}
 use Rattle.dep_table.specs.Edges.{reaches, reaches_some, slot}
 use Rattle.dep_table.proofs.Numbers.{earlier_area}
 use Rattle.dep_table.proofs.SlotLaws.{slot_area, slot_is, slot_place}

@@ -11,3 +11,4 @@ pub mod Tables
 pub mod CircularLaws
 pub mod OpenLaws
 pub mod Spreading
+pub mod AffectedLaws

@@ -22,7 +22,7 @@ use Rattle.workbook.specs.Kinds.{book_of}
 use Rattle.workbook.specs.State.{State}
 use Rattle.workbook.specs.TextCells.{AreTextCells, IsRead, listed_cells}
 use Rattle.workbook.proofs.TextCells.{IsChain, are_chain}
-use Rattle.dep_table.specs.declared.formulas.Formula.{Formula}
+use Rattle.column_strips.specs.declared.formulas.Formula.{Formula}
 use Rattle.dep_table.specs.Formulas.{AreSorted, pair_of, references_in, with_areas}
 use Rattle.dep_table.proofs.Orderings.{is_less, refused}
 use Rattle.dep_table.specs.References.{AreReferencesOf, areas_said}

@@ -9,7 +9,7 @@ use Rattle.cell_refs.specs.Areas.{Area, within}
 use Rattle.cell_refs.specs.declared.cell.Cell.{Cell}
 use Rattle.cell_refs.specs.Cells.{cell_cmp}
 use Rattle.cell_refs.proofs.Order.{cells_total}
-use Rattle.dep_table.specs.declared.formulas.Formula.{Formula}
+use Rattle.column_strips.specs.declared.formulas.Formula.{Formula}
 use Rattle.dep_table.specs.Edges.{reaches}
 use Rattle.dep_table.specs.Formulas.{AreSorted}
 use Rattle.dep_table.proofs.Orderings.{refused}
@@ -26,15 +26,6 @@ not_itself a h = let e = tied_itself cells_total a in cc
 unreached : (area : Area) (o : Option Formula) → ((f : Formula) → o ≡ Some f → within area f.cell ≡ true → ⊥) → reaches area o ≡ false
 unreached area None h = refl
 unreached area (Some f) h = refused (within area f.cell) (h f refl)
-
--- each formula up to one that comes before a cell comes before it
-pub all_before : (formulas : List Formula) → AreSorted formulas → (i : ℕ) (f : Formula) → slice_get formulas i ≡ Some f → (t : Cell) → cell_cmp f.cell t ≡ Less
-    → (k : ℕ) (g : Formula) → k ≤ i → slice_get formulas k ≡ Some g → cell_cmp g.cell t ≡ Less
-all_before formulas sorted i f at t less k g h is =
-    elim (same_or_not k i) as (λ _. cell_cmp g.cell t ≡ Less) [
-      | inl e ↦ let s : Some g ≡ Some f = sym is ∙ ap (slice_get formulas) e ∙ at in let c : g.cell ≡ f.cell = ap (λ (x : Formula). x.cell) (same_Some g f s) in ap (λ x. cell_cmp x t) c ∙ less
-      | inr n ↦ cells_total.trans g.cell f.cell t (sorted k i g f (omega arith) is at) less
-    ]
 
 module _ (formulas : List Formula) (sorted : AreSorted formulas) (area : Area) (i : ℕ) (f : Formula) (at : slice_get formulas i ≡ Some f) where
   -- where all cells of the area come before a formula, none from it on is within the area

@@ -7,7 +7,7 @@ use Rattle.std.proofs.lemmas.Nat.{mul-add-lt}
 use Rattle.std.proofs.lemmas.Option.{get_or_from_slice_get, slice_get_within}
 use Rattle.cell_refs.specs.Areas.{Area}
 use Rattle.recalculation.proofs.Lists.{both, first_true, second_true}
-use Rattle.dep_table.specs.declared.formulas.Formula.{Formula}
+use Rattle.column_strips.specs.declared.formulas.Formula.{Formula}
 use Rattle.dep_table.specs.Edges.{edge, most_slots, reaches, reaches_by, reaches_some, refers_to, slot}
 
 -- one that passes, at its place

@@ -5,7 +5,7 @@ use Rattle.std.proofs.lemmas.Bool.{cases_lt}
 use Rattle.std.proofs.lemmas.List.{get_or_append_left, get_or_push}
 use Rattle.std.proofs.lemmas.List.Sums.{sum_by-set}
 use Rattle.dep_table.specs.declared.find.Cursor.{Cursor}
-use Rattle.dep_table.specs.declared.formulas.Formula.{Formula}
+use Rattle.column_strips.specs.declared.formulas.Formula.{Formula}
 use Rattle.dep_table.specs.Edges.{edge, number, slot}
 use Rattle.dep_table.specs.Spreading.{IsClosed, IsSpreading, left_to_reach, not_yet}
 use Rattle.dep_table.proofs.Numbers.{same_place}

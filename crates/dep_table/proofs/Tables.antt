@@ -14,7 +14,7 @@ use Rattle.formula_ast.specs.Measures.{references_of}
 use Rattle.formula_ast.specs.Tree.{Tree}
 use Rattle.recalculation.specs.Entries.{Book, Entry, Constant, Formula as FormulaEntry, Malformed, entry}
 use Rattle.recalculation.specs.Walks.{is_formula}
-use Rattle.dep_table.specs.declared.formulas.Formula.{Formula}
+use Rattle.column_strips.specs.declared.formulas.Formula.{Formula}
 use Rattle.dep_table.specs.Formulas.{AreSorted, pair_of, references_in}
 use Rattle.dep_table.specs.References.{AreReferencesOf, areas_said}
 use Rattle.dep_table.proofs.Orderings.{is_equal}

@@ -3,7 +3,7 @@ use Rattle.std.specs.Prelude.{ℕ, ◌+◌, ◌*◌, Bool, false, not, ◌&&◌,
 use Rattle.std.specs.List.{list_any}
 use Rattle.cell_refs.specs.Areas.{Area, within}
 use Rattle.dep_table.specs.declared.find.Cursor.{Cursor}
-use Rattle.dep_table.specs.declared.formulas.Formula.{Formula}
+use Rattle.column_strips.specs.declared.formulas.Formula.{Formula}
 
 -- whether an area has the cell of a formula, where there is one
 abbrev pub reaches : Area → Option Formula → Bool

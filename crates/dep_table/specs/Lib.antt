@@ -1,7 +1,7 @@
 pub mod References
-pub mod Codes
 pub mod Order
 pub mod Formulas
 pub mod Edges
 pub mod Tour
 pub mod Spreading
+pub mod Affected

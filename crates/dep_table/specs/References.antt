@@ -1,15 +1,11 @@
 -- The areas to which the formulas of a workbook refer.
 use Rattle.std.specs.Prelude.{◌≡◌, List, Option, None, Some}
-use Rattle.std.specs.FinMap.{FinMap, get}
+use Rattle.std.specs.FinMap.{get}
 use Rattle.cell_refs.specs.Areas.{Area}
 use Rattle.cell_refs.specs.declared.cell.Cell.{Cell}
-use Rattle.cell_refs.specs.Cells.{cell_cmp}
 use Rattle.formula_ast.specs.Measures.{references_of}
 use Rattle.recalculation.specs.Entries.{Book, Entry, Formula, entry}
-
--- the areas to which each formula cell refers
-abbrev pub References : Type 0
-References = FinMap cell_cmp (List Area)
+pub use Rattle.column_strips.specs.Formulas.{References}
 
 -- those of what a cell says
 abbrev pub areas_said : Option Entry → Option (List Area)

@@ -1,7 +1,7 @@
 -- What a tour of the references keeps.
 use Rattle.std.specs.Prelude.{◌≡◌, ℕ, ◌+◌, ◌-◌, ◌*◌, ◌<◌, ◌≤◌, Bool, true, false, List, [], ◌∷◌, length, slice_index_or, slice_set, sum_by, ◌⊎◌}
 use Rattle.dep_table.specs.declared.find.Cursor.{Cursor}
-use Rattle.dep_table.specs.declared.formulas.Formula.{Formula}
+use Rattle.column_strips.specs.declared.formulas.Formula.{Formula}
 use Rattle.dep_table.specs.declared.tour.Mark.{Mark}
 use Rattle.dep_table.specs.declared.tour.Mark.TheVariants.{New, Open, Done, Circular}
 use Rattle.dep_table.specs.Edges.{edge, most_slots, number, slot}

@@ -1,11 +1,16 @@
 // The references of the formulas of a workbook.
-ghost use Rattle.std.specs.Prelude.{◌≡◌, ◌≢◌, ◌<◌, Bool, IfNone, IfOk, IfSome, Some, false, length, map, option_map, slice_get, slice_index, slice_index_or, true, vec_len, ℕ, ⊤};
+ghost use Rattle.std.specs.Prelude.{◌≡◌, ◌≢◌, ◌<◌, ◌⊎◌, Bool, IfNone, IfOk, IfSome, OnErr, OnOk, Some, false, length, map, option_map, slice_get, slice_index, slice_index_or, true, vec_len, ℕ, ⊤};
+ghost use Rattle.std.specs.FinMap as map;
 ghost use Rattle.std.specs.FinSet as set;
 ghost use Rattle.cell_refs.specs.declared.cell.Cell.{Cell};
+ghost use Rattle.cell_refs.specs.declared.limits.TheConstants.{TEXTS};
+ghost use Rattle.column_strips.specs.Strips.{AreStrips};
+ghost use Rattle.formula_ast.specs.Measures.{references_of};
+ghost use Rattle.dep_table.specs.Affected.{AreAffected};
 ghost use Rattle.recalculation.specs.Entries.{Book};
 ghost use Rattle.recalculation.specs.Walks.{is_circular};
 ghost use Rattle.workbook.specs.Kinds.{book_of};
-ghost use Rattle.dep_table.specs.declared.formulas.Formula.{Formula};
+ghost use Rattle.column_strips.specs.declared.formulas.Formula.{Formula};
 ghost use Rattle.dep_table.specs.Edges.{edge};
 ghost use Rattle.dep_table.specs.Formulas.{AreSorted, IsWanted, references_in};
 ghost use Rattle.dep_table.specs.Order.{HasCircular, HasFree, IsOrder, Reaches};
@@ -14,11 +19,12 @@ ghost use Rattle.dep_table.specs.Spreading.{IsClosed};
 ghost use Rattle.dep_table.specs.Tour.{mark_at};
 
 use crate::CellSet;
-use crate::formulas::Formula;
 use crate::open::formulas_of;
 use crate::reached::reached_from;
 use crate::tour::{Mark, tour_wanted};
-use cell_refs::Cell;
+use cell_refs::{Cell, SheetId};
+use column_strips::{Formula, Marks, ReferenceTable, Strip};
+use formula_ast::Expr;
 use sheet_model::Memory;
 use std::alloc::Global;
 use std::marker::Model;
@@ -27,21 +33,18 @@ use workbook::Workbook;
 /// The areas to which each formula of a workbook refers.
 #[derive(Drop)]
 pub struct Deps {
-    formulas: Vec<Formula>,
+    kept: ReferenceTable,
 }
 
 impl Model for Deps {
-    ghost use Rattle.dep_table.specs.References.{References};
-    ghost use Rattle.dep_table.specs.Codes.{references_code};
-    ghost use Rattle.dep_table.specs.Formulas.{AreSorted, references_in};
+    ghost use Rattle.column_strips.specs.Codes.{references_code};
+    ghost use Rattle.column_strips.specs.Formulas.{References};
 
     ghost Value = { References };
 
     ghost coded = { references_code };
 
-    ghost view = { λ d. references_in d.formulas.items };
-
-    ghost invariant = { λ d. AreSorted d.formulas.items };
+    ghost view = { λ d. d.kept };
 }
 
 /// The circular cells, and the other formula cells, each after those to which it refers.
@@ -57,7 +60,52 @@ impl Deps {
         ensures { IfOk result (λ d. AreReferencesOf d (book_of book.now)) }
     {
         let formulas = formulas_of(alloc, book)?;
-        Ok(Deps { formulas })
+        let kept = ReferenceTable::of(alloc, formulas)?;
+        Ok(Deps { kept })
+    }
+
+    /// For how many cells it keeps areas.
+    pub fn len(&self) -> usize
+        ensures { result ≡ map.len self.now }
+    {
+        self.kept.len()
+    }
+
+    /// Keeps the areas to which a tree refers for a cell, in the place of those that were kept for it.
+    pub fn put(&mut self, cell: Cell, tree: &Expr) -> Result<(), Memory>
+        requires { (map.contains_key self.old cell ≡ true) ⊎ (map.len self.old < TEXTS) }
+        ensures ok { OnOk result (self.new ≡ map.insert self.old cell (references_of tree.now)) }
+        ensures err { OnErr result (self.new ≡ self.old) }
+    {
+        let alloc = self.kept.allocator();
+        let Ok(areas) = tree.references(alloc) else {
+            return Err(Memory);
+        };
+        self.kept.put(cell, areas)
+    }
+
+    /// Drops what is kept for a cell.
+    pub fn take(&mut self, cell: Cell)
+        ensures { self.new ≡ map.remove self.old cell }
+    {
+        self.kept.take(cell);
+    }
+
+    /// The strips of a column: the rows of it to which formulas refer, by the formulas' cells, first rows and last rows.
+    pub fn strips(&self, sheet: SheetId, col: u16) -> &[Strip]
+        ensures { AreStrips self.now sheet.0 col result.now }
+    {
+        self.kept.strips(sheet, col)
+    }
+
+    /// Marks a cell and the cells that reach it: those whose formulas refer to it, those whose formulas refer to these, and so
+    /// on, in each workbook that has these references.
+    pub fn affected(&self, from: Cell, marks: &mut Marks)
+        requires { marks.old ≡ set.empty }
+        ensures { (book : Book) → AreReferencesOf self.now book
+            → AreAffected book from (set.contains marks.new) }
+    {
+        self.kept.affected(from, marks);
     }
 
     /// The circular cells where the leaves refer to nothing, as in each workbook that has these references.
@@ -80,8 +128,8 @@ impl Deps {
         ensures all { IfOk result (λ t. (book : Book) → AreReferencesOf self.now book
             → HasFree book (set.contains leaves.now) (λ a. ⊤) t.order.items) }
     {
-        let alloc = *self.formulas.allocator();
-        let formulas = self.formulas.as_slice();
+        let alloc = self.kept.allocator();
+        let formulas = self.kept.formulas();
         let flags = flags_of(alloc, formulas, leaves)?;
         let wanted = vec![in alloc; true; formulas.len()]?;
         let tour = tour_of(alloc, formulas, &flags, &wanted)?;
@@ -99,8 +147,8 @@ impl Deps {
             → HasFree book (set.contains leaves.now)
             (Reaches book (set.contains leaves.now) from) t.order.items) }
     {
-        let alloc = *self.formulas.allocator();
-        let formulas = self.formulas.as_slice();
+        let alloc = self.kept.allocator();
+        let formulas = self.kept.formulas();
         let flags = flags_of(alloc, formulas, leaves)?;
         let wanted = wanted_from(alloc, formulas, &flags, from)?;
         let tour = tour_of(alloc, formulas, &flags, &wanted)?;

@@ -2,13 +2,13 @@
 ghost use Rattle.std.specs.Prelude.{◌≡◌, ◌≢◌, ◌+◌, ◌*◌, ◌<◌, ◌≤◌, IfNone, IfSome, Some, false, length, slice_get, true, ℕ};
 ghost use Rattle.std.specs.declared.cmp.Ordering.TheVariants.{Less};
 ghost use Rattle.cell_refs.specs.Cells.{cell_cmp};
-ghost use Rattle.dep_table.specs.declared.formulas.Formula.{Formula};
+ghost use Rattle.column_strips.specs.declared.formulas.Formula.{Formula};
 ghost use Rattle.dep_table.specs.Edges.{edge, most_slots, number, reaches, slot};
 ghost use Rattle.dep_table.specs.Formulas.{AreSorted};
 
-use crate::formulas::Formula;
 use crate::reach::first_from;
-use cell_refs::{Area, Cell};
+use cell_refs::Area;
+use column_strips::{Formula, first_not_before};
 
 /// How far the references of a formula have been followed: the area that is next, and the place from which on its cells are
 /// sought.
@@ -78,30 +78,4 @@ fn first_within(formulas: &[Formula], area: &Area, from: usize) -> Option<usize>
         place = first_not_before(formulas, place + 1, target);
     }
     None
-}
-
-// The first place from one on at which no formula before a cell stands. It is often near, so the steps begin small and double.
-fn first_not_before(formulas: &[Formula], from: usize, cell: Cell) -> usize
-    requires sorted { AreSorted formulas.now }
-    requires within { from ≤ length formulas.now }
-    ensures within { (from ≤ result) × (result ≤ length formulas.now) }
-    ensures before { (k : ℕ) (f : Formula) → from ≤ k
-        → k < result → slice_get formulas.now k ≡ Some f
-        → cell_cmp f.cell cell ≡ Less }
-    ensures first { (f : Formula) → slice_get formulas.now result ≡ Some f
-        → cell_cmp f.cell cell ≢ Less }
-{
-    let mut low = from;
-    let mut high = formulas.len();
-    let mut width = 0;
-    while low < high {
-        let step = ((high - low) / 2).min(width);
-        if formulas[low + step].cell.cmp(&cell).is_lt() {
-            low += step + 1;
-            width = 2 * step + 1;
-        } else {
-            high = low + step;
-        }
-    }
-    low
 }

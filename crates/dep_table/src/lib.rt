@@ -5,12 +5,12 @@
 mod cells;
 mod deps;
 mod find;
-mod formulas;
 mod open;
 mod reach;
 mod reached;
 mod tour;
 
 pub use cells::CellSet;
+pub use column_strips::{Marks, Strip};
 pub use deps::{Deps, Tour};
 pub use sheet_model::Memory;

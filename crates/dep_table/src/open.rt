@@ -5,8 +5,8 @@ ghost use Rattle.workbook.specs.Kinds.{book_of};
 ghost use Rattle.dep_table.specs.Formulas.{AreSorted, pair_of, references_in, with_areas};
 ghost use Rattle.dep_table.specs.References.{AreReferencesOf};
 
-use crate::formulas::Formula;
 use cell_refs::Cell;
+use column_strips::Formula;
 use formula_ast::Expr;
 use sheet_model::Memory;
 use std::alloc::Global;

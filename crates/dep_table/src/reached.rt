@@ -5,7 +5,7 @@ ghost use Rattle.dep_table.specs.Formulas.{AreSorted};
 ghost use Rattle.dep_table.specs.Spreading.{IsClosed, IsSpreading, left_to_reach};
 
 use crate::find::{Cursor, next_reference};
-use crate::formulas::Formula;
+use column_strips::Formula;
 use sheet_model::Memory;
 use std::alloc::Global;
 

@@ -1,5 +1,5 @@
 use Rattle.std.proofs.Common.{◌≡◌, ◌<◌, ℕ, option_map, slice_get, slice_index, vec_len}
-use Rattle.dep_table.specs.declared.formulas.Formula.{Formula}
+use Rattle.column_strips.specs.declared.formulas.Formula.{Formula}
 use Rattle.dep_table.proofs.deps.cells_at.Given as goal
 
 abbrev pub invariant-loop-place : goal.invariant-loop-place

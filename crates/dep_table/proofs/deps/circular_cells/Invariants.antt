@@ -1,7 +1,7 @@
 use Rattle.std.proofs.Common.{◌≡◌, ◌<◌, ℕ, Some, slice_get, true}
 use Rattle.std.specs.FinSet as set
 use Rattle.cell_refs.specs.declared.cell.Cell.{Cell}
-use Rattle.dep_table.specs.declared.formulas.Formula.{Formula}
+use Rattle.column_strips.specs.declared.formulas.Formula.{Formula}
 use Rattle.dep_table.specs.declared.tour.Mark.TheVariants.{Circular}
 use Rattle.dep_table.specs.Tour.{mark_at}
 use Rattle.dep_table.proofs.deps.circular_cells.Given as goal

@@ -1,6 +1,6 @@
 use Rattle.std.proofs.Common.{◌≡◌, map, take}
 use Rattle.std.specs.FinSet as set
-use Rattle.dep_table.specs.declared.formulas.Formula.{Formula}
+use Rattle.column_strips.specs.declared.formulas.Formula.{Formula}
 use Rattle.dep_table.proofs.deps.flags_of.Given as goal
 
 abbrev pub invariant-loop-formula : goal.invariant-loop-formula

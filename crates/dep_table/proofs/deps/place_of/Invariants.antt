@@ -1,5 +1,5 @@
 use Rattle.std.proofs.Common.{◌≡◌, ◌≢◌, ◌<◌, Some, slice_get, ℕ}
-use Rattle.dep_table.specs.declared.formulas.Formula.{Formula}
+use Rattle.column_strips.specs.declared.formulas.Formula.{Formula}
 use Rattle.dep_table.proofs.deps.place_of.Given as goal
 
 abbrev pub invariant-loop-place : goal.invariant-loop-place

@@ -1,7 +1,7 @@
 use Rattle.std.proofs.Common.{◌≡◌, ◌∙◌, Some, arith, ap, get_or, inl, inr, slice_get, ℕ, sym, false}
 use Rattle.std.proofs.lemmas.Bool.{cases_lt}
 use Rattle.std.proofs.lemmas.Option.{slice_get-get_or, slice_get_past}
-use Rattle.dep_table.specs.declared.formulas.Formula.{Formula}
+use Rattle.column_strips.specs.declared.formulas.Formula.{Formula}
 use Rattle.dep_table.specs.Edges.{reaches}
 use Rattle.dep_table.proofs.Searching.{none_behind, none_between}
 use Rattle.dep_table.proofs.find.first_within.Goals as goal

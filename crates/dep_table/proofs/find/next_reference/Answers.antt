@@ -1,6 +1,6 @@
 use Rattle.std.proofs.Common.{◌≡◌, ◌∙◌, ◌+◌, ◌*◌, Some, arith, ap, get_or, length, slice_get, sym, ℕ}
 use Rattle.std.proofs.lemmas.Option.{slice_get-get_or}
-use Rattle.dep_table.specs.declared.formulas.Formula.{Formula}
+use Rattle.column_strips.specs.declared.formulas.Formula.{Formula}
 use Rattle.cell_refs.specs.Areas.{Area}
 use Rattle.dep_table.specs.Edges.{number, reaches}
 use Rattle.dep_table.proofs.Following.{none_left, stands, up_to}

@@ -2,9 +2,9 @@ use Rattle.std.proofs.Common.{◌≡◌, ◌∙◌, Some, ap, false, get_or, sli
 use Rattle.std.specs.FinMap.{get}
 use Rattle.std.specs.FinSet as set
 use Rattle.recalculation.proofs.Lists.{first_true}
-use Rattle.dep_table.specs.declared.formulas.Formula.{Formula}
+use Rattle.column_strips.specs.declared.formulas.Formula.{Formula}
 use Rattle.dep_table.specs.Edges.{edge}
-use Rattle.dep_table.specs.Formulas.{AreSorted, references_in}
+use Rattle.dep_table.specs.Formulas.{references_in}
 use Rattle.dep_table.specs.References.{AreReferencesOf}
 use Rattle.dep_table.specs.Spreading.{IsClosed}
 use Rattle.dep_table.proofs.CircularLaws.{reached_wanted}
@@ -13,11 +13,11 @@ use Rattle.dep_table.proofs.deps.Deps.tour_from.Goals as goal
 
 pub returns-clause-circular : goal.returns-clause-circular
 returns-clause-circular c = λ book refs.
-    let formulas = c.as_slice-formulas.result.now in
-    let there : AreReferencesOf (references_in formulas) book = λ a. ap (λ fs. get (references_in fs) a) c.as_slice-formulas.ensures.value ∙ ap (λ r. get r a) c.self.view_is ∙ refs a in
+    let formulas = c.formulas-formulas.result.now in
+    let there : AreReferencesOf (references_in formulas) book = λ a. ap (λ r. get r a) (c.formulas-formulas.ensures.all ∙ c.self.view_is) ∙ refs a in
     let flags = c.deref.ensures.value ∙ c.in_ok-flags.ensures in
     let same = c.deref-2.ensures.value ∙ c.in_ok-flags.ensures in
-    let table = table_of formulas book (subst AreSorted (sym c.as_slice-formulas.ensures.value) c.self.invariant) there in
+    let table = table_of formulas book c.formulas-formulas.ensures.sorted there in
     let reached = reached_wanted formulas book (set.contains c.args.leaves.now) c.deref.result.now c.deref-3.result.now c.args.from table
     (are_flags formulas (set.contains c.args.leaves.now) c.deref.result.now flags)
     (subst (λ ws. (i : ℕ) (f : Formula) → slice_get formulas i ≡ Some f → f.cell ≡ c.args.from → get_or ws i false ≡ true) (sym c.deref-3.ensures.value) c.in_ok-wanted.ensures.from) (subst (IsClosed (edge formulas c.deref.result.now)) (sym c.deref-3.ensures.value) c.in_ok-wanted.ensures.closed) in
@@ -26,11 +26,11 @@ returns-clause-circular c = λ book refs.
 
 pub returns-clause-all : goal.returns-clause-all
 returns-clause-all c = λ book refs a from formula free.
-    let formulas = c.as_slice-formulas.result.now in
-    let there : AreReferencesOf (references_in formulas) book = λ a. ap (λ fs. get (references_in fs) a) c.as_slice-formulas.ensures.value ∙ ap (λ r. get r a) c.self.view_is ∙ refs a in
+    let formulas = c.formulas-formulas.result.now in
+    let there : AreReferencesOf (references_in formulas) book = λ a. ap (λ r. get r a) (c.formulas-formulas.ensures.all ∙ c.self.view_is) ∙ refs a in
     let flags = c.deref.ensures.value ∙ c.in_ok-flags.ensures in
     let same = c.deref-2.ensures.value ∙ c.in_ok-flags.ensures in
-    let table = table_of formulas book (subst AreSorted (sym c.as_slice-formulas.ensures.value) c.self.invariant) there in
+    let table = table_of formulas book c.formulas-formulas.ensures.sorted there in
     let reached = reached_wanted formulas book (set.contains c.args.leaves.now) c.deref.result.now c.deref-3.result.now c.args.from table
     (are_flags formulas (set.contains c.args.leaves.now) c.deref.result.now flags)
     (subst (λ ws. (i : ℕ) (f : Formula) → slice_get formulas i ≡ Some f → f.cell ≡ c.args.from → get_or ws i false ≡ true) (sym c.deref-3.ensures.value) c.in_ok-wanted.ensures.from) (subst (IsClosed (edge formulas c.deref.result.now)) (sym c.deref-3.ensures.value) c.in_ok-wanted.ensures.closed) in

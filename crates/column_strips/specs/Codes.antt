@@ -4,7 +4,7 @@ use Rattle.std.specs.Coded.{Coded, code_by, coded×, coded_list, coded_ℕ}
 use Rattle.std.specs.FinMap.{code}
 use Rattle.cell_refs.specs.Areas.{Area}
 use Rattle.cell_refs.specs.Cells.{coded_cell}
-use Rattle.dep_table.specs.References.{References}
+use Rattle.column_strips.specs.Formulas.{References}
 
 -- an area as its five numbers
 abbrev pub coded_area : Coded Area

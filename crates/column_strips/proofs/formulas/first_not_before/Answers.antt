@@ -3,10 +3,10 @@ use Rattle.std.specs.Ordering.{is_lt}
 use Rattle.std.specs.declared.cmp.Ordering.TheVariants.{Less}
 use Rattle.std.proofs.lemmas.Option.{same_Some, slice_get-get_or}
 use Rattle.cell_refs.specs.Cells.{cell_cmp}
-use Rattle.dep_table.specs.declared.formulas.Formula.{Formula}
-use Rattle.dep_table.proofs.Orderings.{is_less, is_no_less}
-use Rattle.dep_table.proofs.Searching.{all_before}
-use Rattle.dep_table.proofs.find.first_not_before.Goals as goal
+use Rattle.column_strips.specs.declared.formulas.Formula.{Formula}
+use Rattle.column_strips.proofs.Tests.{is_less, is_no_less}
+use Rattle.column_strips.proofs.Before.{all_before}
+use Rattle.column_strips.proofs.formulas.first_not_before.Goals as goal
 
 pub loop-low-preserved-then-is_lt : goal.loop-low-preserved-then-is_lt
 loop-low-preserved-then-is_lt c =

@@ -1,8 +1,8 @@
 use Rattle.std.proofs.Common.{◌-◌, ◌≡◌, ◌≢◌, ◌<◌, ◌≤◌, Some, length, slice_get, ℕ}
 use Rattle.std.specs.declared.cmp.Ordering.TheVariants.{Less}
 use Rattle.cell_refs.specs.Cells.{cell_cmp}
-use Rattle.dep_table.specs.declared.formulas.Formula.{Formula}
-use Rattle.dep_table.proofs.find.first_not_before.Given as goal
+use Rattle.column_strips.specs.declared.formulas.Formula.{Formula}
+use Rattle.column_strips.proofs.formulas.first_not_before.Given as goal
 
 abbrev pub invariant-loop-low : goal.invariant-loop-low
 invariant-loop-low l = record {

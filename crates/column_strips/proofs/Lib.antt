@@ -1,0 +1,15 @@
+pub mod Tests
+pub mod Before
+pub mod Rising
+pub mod Searched
+pub mod Places
+pub mod Parts
+pub mod Finding
+pub mod Making
+pub mod Referring
+pub mod Spreading
+pub mod Marked
+pub mod KeptLaws
+pub mod Following
+pub mod Ahead
+pub mod Gathered

@@ -1,0 +1,9 @@
+//! Tests of `column_strips`.
+#![tactic(auto)]
+
+#[cfg(test)]
+mod edits;
+#[cfg(test)]
+mod reach;
+#[cfg(test)]
+mod written;
