@@ -84,19 +84,12 @@ def match(args):
     for value in (key, kind):
         if isinstance(value, Fault):
             return value
-    kinds = kinds_of(kind)
+    kinds = (0, 1, -1) if is_open(kind) else (lookups.sign(kind),)
     if 1 not in (keys.rows, keys.columns) or all(may_find(key, keys.items, one) == {None} for one in kinds):
         return NOT_AVAILABLE
     first_open([(2, kind)], [(0, key), (1, keys), (2, kind)])
     found = lookups.search(key, keys.items, kinds[0])
     return NOT_AVAILABLE if found is None else Fraction(found + 1)
-
-
-def kinds_of(kind):
-    """The kinds of search that an open kind may ask for: a test is 1 or 0."""
-    if isinstance(kind, Test):
-        return 0, 1
-    return (0, 1, -1) if isinstance(kind, Form) else (lookups.sign(kind),)
 
 
 def first_open(numbers, parts):

@@ -4,7 +4,7 @@ ghost use Rattle.std.specs.List.{list_any};
 ghost use Rattle.form_areas.specs.Truths.{IsTrueLookup};
 ghost use Rattle.form_areas.specs.Undecided.{IsUndecidedOrMemory};
 ghost use Rattle.form_ops.specs.Operands.{wanted_in};
-ghost use Rattle.form_table.specs.Lookups.{by_keys, by_places, error_of, has_no_place, has_no_place_by, known_keys, known_value, lookup_form, lookup_pick_form, may_be_key, pick_in};
+ghost use Rattle.form_table.specs.Lookups.{by_keys, by_places, error_of, has_no_place, known_keys, known_value, lookup_form, lookup_pick_form, may_be_key, pick_in};
 ghost use Rattle.form_table.specs.Wanted.{grid_of, number_of, value_of};
 ghost use Rattle.form_values.specs.Known.{all_known, value_in};
 ghost use Rattle.form_values.specs.Trials.{Answers};
@@ -92,36 +92,21 @@ fn by_places(alloc: Global, key: &Abs, keys: &AbsArg, kind: &Operand) -> Result<
     ensures within { IfOk result (IsWithin (grid_of keys.now).rows (grid_of keys.now).columns) }
     ensures refused { IfErr result IsUndecidedOrMemory }
 {
-    if has_no_place(kind, key, keys.elements()) {
+    if has_no_place(known_number(kind), key, keys.elements()) {
         return Ok(Pick::Fault(ErrorKind::NotAvailable));
     }
     by_keys(alloc, key, keys, kind)
 }
 
-// Whether a known key is never found, by a known kind or by an open logical, which asks for an equal key or for rising ones.
-fn has_no_place(kind: &Operand, key: &Abs, keys: &[Abs]) -> bool
+// Whether a known key is never found by a known kind.
+fn has_no_place(kind: Option<Frac>, key: &Abs, keys: &[Abs]) -> bool
     requires { error_of key.now ≡ None }
-    ensures { result ≡ has_no_place_by (wanted_in kind.now) (known_value key.now) keys.now }
+    ensures { result ≡ has_no_place kind (known_value key.now) keys.now }
 {
-    let Abs::Known(key) = key else {
+    let (Some(number), Abs::Known(key)) = (kind, key) else {
         return false;
     };
-    if let Operand::Test = kind {
-        return is_never_found(MatchKind::Equal, key, keys)
-            && is_never_found(MatchKind::Rising, key, keys);
-    }
-    is_never_found_by(known_number(kind), key, keys)
-}
-
-// Whether a known key is never found by a known kind.
-fn is_never_found_by(kind: Option<Frac>, key: &Value, keys: &[Abs]) -> bool
-    requires { error_of (Known key.now) ≡ None }
-    ensures { result ≡ has_no_place kind (Some key.now) keys.now }
-{
-    match kind {
-        Some(number) => is_never_found(kind_of(number), key, keys),
-        None => false,
-    }
+    is_never_found(kind_of(number), key, keys)
 }
 
 // The kind of search that a number asks for.

@@ -401,7 +401,7 @@ functions =
     -- MATCH(0;{1;x};y)
     (form_called func.Match (number zero_ℚ ∷ column (one_is ∷ x_is ∷ []) ∷ y ∷ []), open_at 1) ∷
     -- MATCH(0;{1;2};t)
-    (form_called func.Match (number zero_ℚ ∷ column (one_is ∷ two_is ∷ []) ∷ t ∷ []), is (fails kind.NotAvailable)) ∷
+    (form_called func.Match (number zero_ℚ ∷ column (one_is ∷ two_is ∷ []) ∷ t ∷ []), open_at 2) ∷
     -- MATCH(5;{1;2};t)
     (form_called func.Match (number (whole_ℚ (pos 5)) ∷ column (one_is ∷ two_is ∷ []) ∷ t ∷ []), open_at 2) ∷
     -- MATCH(0;{1;x};t)

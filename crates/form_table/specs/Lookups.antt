@@ -78,18 +78,13 @@ by_keys g None keys x = undecided 0
 by_keys g key None x = undecided 1
 by_keys g (Some key) (Some keys) x = by_kind g key keys (known_number x)
 
--- whether a known key is never found, by a known kind
+-- whether a known key is never found by a known kind; of three kinds one finds it, so by an open kind it may be found
 abbrev pub has_no_place : Option ℚ → Option Value → List Abs → Bool
 has_no_place (Some x) (Some key) items = is_never_found (kind_of x) key items
 has_no_place _ _ items = false
 
--- and by an open logical, which asks for an equal key or for rising ones
-abbrev pub has_no_place_by : Wanted → Option Value → List Abs → Bool
-has_no_place_by open_test (Some key) items = is_never_found Equal key items && is_never_found Rising key items
-has_no_place_by w key items = has_no_place (known_number w) key items
-
 abbrev pub by_places : Raster → Option Value → Wanted → Trial Pick
-by_places g key x = if has_no_place_by x key g.items then given (Fault kind.NotAvailable) else by_keys g key (known_keys g.items) x
+by_places g key x = if has_no_place (known_number x) key g.items then given (Fault kind.NotAvailable) else by_keys g key (known_keys g.items) x
 
 -- errors of the key and of the kind; a grid of several rows and columns, and one without a key, have no place for any key
 abbrev pub lookup_form : Raster → Abs → Wanted → Trial Pick

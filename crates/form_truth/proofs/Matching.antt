@@ -1,10 +1,9 @@
 -- MATCH of open arguments.
-use Rattle.std.specs.Prelude.{slice_get, length, take, ◌&&◌, ◌||◌, ◌==◌, ◌+◌, not, cond, nat_lt, suc, pos, ⊤}
+use Rattle.std.specs.Prelude.{slice_get, length, take, ◌&&◌, ◌||◌, ◌==◌, ◌+◌, not, cond, nat_lt, suc, pos}
 use Rattle.std.specs.List.{AllByRecursion, list_any, before_first, position, position_or_len}
-use Rattle.std.proofs.Common.{◌≡◌, refl, sym, ap, ap₂, ◌∙◌, subst, Bool, true, false, true≢false, if◌then◌else◌, List, [], ◌∷◌, map, Option, Some, None, Result, Ok, Err, ℕ, zero, arith, ◌⊎◌, inl, inr}
+use Rattle.std.proofs.Common.{◌≡◌, refl, sym, ap, ap₂, ◌∙◌, subst, Bool, true, false, true≢false, if◌then◌else◌, List, [], ◌∷◌, map, Option, Some, None, Result, Ok, Err, ℕ, zero, arith}
 use Rattle.std.proofs.lemmas.Bool.Decides.{nat_tests}
-use Rattle.std.proofs.lemmas.Bool.{and_parts}
-use Rattle.fractions.specs.Rational.{ℚ, computed, zero_ℚ, one_ℚ}
+use Rattle.fractions.specs.Rational.{ℚ, zero_ℚ, one_ℚ}
 use Rattle.fractions.specs.Whole.{whole_ℚ}
 use Rattle.calculations.specs.Calculation.{exact}
 use Rattle.cell_refs.specs.declared.error_kind.ErrorKind.{ErrorKind}
@@ -24,7 +23,6 @@ use Rattle.sheet_funcs.specs.declared.pick.Pick.TheVariants.{Fault}
 use Rattle.sheet_funcs.specs.declared.lookups.MatchKind.{MatchKind}
 use Rattle.sheet_funcs.specs.declared.lookups.MatchKind.TheVariants.{Equal, Rising, Falling}
 use Rattle.affine_forms.specs.Forms.{Assignment, AffineForm, IsForm, worth, constant_form}
-use Rattle.affine_forms.specs.Relations.{holds}
 use Rattle.form_values.specs.Grids.{Raster}
 use Rattle.form_values.specs.Meaning.{abs_at, arg_at}
 use Rattle.form_values.proofs.Opening.{IsOpen, abs_sound, arg_sound, IsSound}
@@ -36,7 +34,7 @@ use Rattle.form_values.specs.declared.abs.AbsArg.{AbsArg}
 use Rattle.form_values.specs.declared.abs.AbsArg.TheVariants.{One, Area}
 use Rattle.form_table.specs.Wanted as wanted
 use Rattle.form_table.specs.Wanted.{Wanted, form, open_test, none, grid_of, number_of, constant_of, known_number}
-use Rattle.form_table.specs.Lookups.{may_be_key, known_value, known_keys, pick_in, is_never_found, by_kind, by_keys, has_no_place, has_no_place_by, by_places, lookup_form, lookup_pick_form, match_pick, match_form}
+use Rattle.form_table.specs.Lookups.{may_be_key, known_value, known_keys, pick_in, by_kind, by_keys, has_no_place, by_places, lookup_form, lookup_pick_form, match_pick, match_form}
 use Rattle.form_truth.specs.Picks.{IsPick, FoundIsRight}
 use Rattle.form_truth.proofs.Right.{IsRightArg, ArgumentVaries}
 use Rattle.form_truth.proofs.Exact.{exact-and_then}
@@ -122,35 +120,6 @@ asked_there args i a e number (none k) (asks_none l d) = asks_none l d
 asked_there args i a e number (form f) (asks_form g d v) = asks_form g d (λ n. record { argument = a; is_there = e; varies = v n })
 asked_there args i a e number open_test (asks_test d v) = asks_test d (record { argument = a; is_there = e; varies = v })
 
--- an open logical asks for an equal key or for rising ones
-abbrev pub IsLogical : (Assignment → Result ℚ ErrorKind) → Wanted → Type 0
-IsLogical number open_test = (x : Assignment) → (q : ℚ) × (number x ≡ Ok q) × ((kind_of q ≡ Equal) ⊎ (kind_of q ≡ Rising))
-IsLogical number w = ⊤
-
-equal_asked : kind_of zero_ℚ ≡ Equal
-unfolding computed
-equal_asked = refl
-
-rising_asked : kind_of one_ℚ ≡ Rising
-unfolding computed
-rising_asked = refl
-
-asked_by : (b : Bool) → (kind_of (if b then one_ℚ else zero_ℚ) ≡ Equal) ⊎ (kind_of (if b then one_ℚ else zero_ℚ) ≡ Rising)
-asked_by true = inr rising_asked
-asked_by false = inl equal_asked
-
-logical_asked : (a : AbsArg) → IsLogical (λ x. functions_numbers.number_of (arg_at x a)) (number_of a)
-logical_asked a = by (wanted.value_of a) refl
-  where
-    by_number : (r : Result ℚ ErrorKind) → IsLogical (λ x. functions_numbers.number_of (arg_at x a)) (wanted.of_number r)
-    by_number (Ok y) = tt
-    by_number (Err k) = tt
-
-    by : (v : Abs) → wanted.value_of a ≡ v → IsLogical (λ x. functions_numbers.number_of (arg_at x a)) (wanted.wanted v)
-    by (Known v) e = by_number (number_in v)
-    by (Affine f) e = tt
-    by (Test o r) e = λ x. (if holds r (worth x o.form) then one_ℚ else zero_ℚ, ap number_in (value_at x a ∙ ap (abs_at x) e), asked_by (holds r (worth x o.form)))
-
 -- ---- the pick in a grid
 abbrev grid_at : Assignment → Raster → Rectangle
 grid_at x g = record { rows = g.rows; columns = g.columns; items = map (abs_at x) g.items }
@@ -220,50 +189,25 @@ module _ (args : List AbsArg) (g : Raster) (number : Assignment → Result ℚ E
         by_place true e = never_there f n d (constant_of f) refl (known_value b) refl e
         by_place false e = form_right f n v d (known_value b) refl (known_keys g.items) refl
 
-    -- nor by either of the kinds that an open logical asks for
-    kind_never : (key : Value) → known_value b ≡ Some key → (s : MatchKind) → is_never_found s key g.items ≡ true → ((g.rows == 1) || (g.columns == 1)) ≡ true → (x : Assignment) (q : ℚ) → number x ≡ Ok q → kind_of q ≡ s
-        → value x ≡ Fault kind.NotAvailable
-    kind_never key k s h d x q n e =
-        value_is x q n ∙ ap (λ l. if l then functions_lookups.pick_in (grid_at x g) (found (kind_of q) (abs_at x b) (map (abs_at x) g.items)) else Fault kind.NotAvailable) d
-        ∙ ap₂ (λ s v. functions_lookups.pick_in (grid_at x g) (found s v (map (abs_at x) g.items))) e (value_known b key k x)
-        ∙ ap (functions_lookups.pick_in (grid_at x g)) (never_found_right x s key g.items h)
-
-    logical_never : IsLogical number open_test → ((g.rows == 1) || (g.columns == 1)) ≡ true → (key : Option Value) → known_value b ≡ key → has_no_place_by open_test key g.items ≡ true → (x : Assignment)
-        → value x ≡ Fault kind.NotAvailable
-    logical_never l d None k h x = absurd (true≢false (sym h))
-    logical_never l d (Some key) k h x = by (l x).2
-      where
-        by : (kind_of (l x).0 ≡ Equal) ⊎ (kind_of (l x).0 ≡ Rising) → value x ≡ Fault kind.NotAvailable
-        by (inl e) = kind_never key k Equal (and_parts (is_never_found Equal key g.items) (is_never_found Rising key g.items) h).0 d x (l x).0 (l x).1 e
-        by (inr e) = kind_never key k Rising (and_parts (is_never_found Equal key g.items) (is_never_found Rising key g.items) h).1 d x (l x).0 (l x).1 e
-
-    logical_right : IsLogical number open_test → ArgumentVaries arg_at args 2 → ((g.rows == 1) || (g.columns == 1)) ≡ true → IsPick value args (exact (by_places g (known_value b) open_test))
-    logical_right l v d = by_place (has_no_place_by open_test (known_value b) g.items) refl
-      where
-        by_place : (c : Bool) → has_no_place_by open_test (known_value b) g.items ≡ c
-            → IsPick value args (exact (if c then given (Fault kind.NotAvailable) else by_keys g (known_value b) (known_keys g.items) open_test))
-        by_place true e = logical_never l d (known_value b) refl e
-        by_place false e = v
-
-    by_test : (w : Wanted) → Asked (ArgumentVaries arg_at args 2) number w → IsLogical number w → ((k : ErrorKind) → w ≡ none k → ⊥) → (c : Bool) → (((g.rows == 1) || (g.columns == 1)) && list_any may_be_key g.items) ≡ c
+    by_test : (w : Wanted) → Asked (ArgumentVaries arg_at args 2) number w → ((k : ErrorKind) → w ≡ none k → ⊥) → (c : Bool) → (((g.rows == 1) || (g.columns == 1)) && list_any may_be_key g.items) ≡ c
         → IsPick value args (exact (if c then by_places g (known_value b) w else given (Fault kind.NotAvailable)))
-    by_test (none k) a l n c h = absurd (n k refl)
-    by_test (form f) (asks_form g' d v) l n false h = λ x. without_keys x (worth x g') (d x) ((g.rows == 1) || (g.columns == 1)) refl h
-    by_test (form f) (asks_form g' d v) l n true h = places_right g' d v (in_line _ _ h)
-    by_test open_test (asks_test d v) l n false h = λ x. without_keys x (d x).0 (d x).1 ((g.rows == 1) || (g.columns == 1)) refl h
-    by_test open_test (asks_test d v) l n true h = logical_right l v (in_line _ _ h)
+    by_test (none k) a n c h = absurd (n k refl)
+    by_test (form f) (asks_form g' d v) n false h = λ x. without_keys x (worth x g') (d x) ((g.rows == 1) || (g.columns == 1)) refl h
+    by_test (form f) (asks_form g' d v) n true h = places_right g' d v (in_line _ _ h)
+    by_test open_test (asks_test d v) n false h = λ x. without_keys x (d x).0 (d x).1 ((g.rows == 1) || (g.columns == 1)) refl h
+    by_test open_test (asks_test d v) n true h = v
 
     abbrev beyond : Wanted → Trial Pick
     beyond w = if ((g.rows == 1) || (g.columns == 1)) && list_any may_be_key g.items then by_places g (known_value b) w else given (Fault kind.NotAvailable)
 
     form_beyond : (f : AffineForm) → Asked (ArgumentVaries arg_at args 2) number (form f) → IsPick value args (exact (beyond (form f)))
-    form_beyond f a = by_test (form f) a tt (λ k e. no_form f k e) (((g.rows == 1) || (g.columns == 1)) && list_any may_be_key g.items) refl
+    form_beyond f a = by_test (form f) a (λ k e. no_form f k e) (((g.rows == 1) || (g.columns == 1)) && list_any may_be_key g.items) refl
       where
         no_form : (f : AffineForm) (k : ErrorKind) → form f ≡ none k → ⊥
         no_form f k e = cc
 
-    test_beyond : Asked (ArgumentVaries arg_at args 2) number open_test → IsLogical number open_test → IsPick value args (exact (beyond open_test))
-    test_beyond a l = by_test open_test a l (λ k e. no_test k e) (((g.rows == 1) || (g.columns == 1)) && list_any may_be_key g.items) refl
+    test_beyond : Asked (ArgumentVaries arg_at args 2) number open_test → IsPick value args (exact (beyond open_test))
+    test_beyond a = by_test open_test a (λ k e. no_test k e) (((g.rows == 1) || (g.columns == 1)) && list_any may_be_key g.items) refl
       where
         no_test : (k : ErrorKind) → open_test ≡ none k → ⊥
         no_test k e = cc
@@ -272,27 +216,27 @@ module _ (args : List AbsArg) (g : Raster) (number : Assignment → Result ℚ E
     none_beyond k (asks_none l d) = λ x. value_none x l (d x)
 
 module _ (args : List AbsArg) (g : Raster) (number : Assignment → Result ℚ ErrorKind) (open_keys : known_keys g.items ≡ None → ArgumentVaries arg_at args 1) where
-  pub lookup_right : (b : Abs) → (known_value b ≡ None → ArgumentVaries arg_at args 0) → (w : Wanted) → Asked (ArgumentVaries arg_at args 2) number w → IsLogical number w
+  pub lookup_right : (b : Abs) → (known_value b ≡ None → ArgumentVaries arg_at args 0) → (w : Wanted) → Asked (ArgumentVaries arg_at args 2) number w
       → IsPick (λ x. pick_by (grid_at x g) (no_error (abs_at x b)) (number x)) args (exact (lookup_form g b w))
-  lookup_right (Known (Error k)) o w a l = λ x. refl
-  lookup_right (Known (Number y)) o (none k) a l = none_beyond args g number (Known (Number y)) o open_keys (λ x. refl) k a
-  lookup_right (Known (Number y)) o (form f) a l = form_beyond args g number (Known (Number y)) o open_keys (λ x. refl) f a
-  lookup_right (Known (Number y)) o open_test a l = test_beyond args g number (Known (Number y)) o open_keys (λ x. refl) a l
-  lookup_right (Known (Text y)) o (none k) a l = none_beyond args g number (Known (Text y)) o open_keys (λ x. refl) k a
-  lookup_right (Known (Text y)) o (form f) a l = form_beyond args g number (Known (Text y)) o open_keys (λ x. refl) f a
-  lookup_right (Known (Text y)) o open_test a l = test_beyond args g number (Known (Text y)) o open_keys (λ x. refl) a l
-  lookup_right (Known (Logical y)) o (none k) a l = none_beyond args g number (Known (Logical y)) o open_keys (λ x. refl) k a
-  lookup_right (Known (Logical y)) o (form f) a l = form_beyond args g number (Known (Logical y)) o open_keys (λ x. refl) f a
-  lookup_right (Known (Logical y)) o open_test a l = test_beyond args g number (Known (Logical y)) o open_keys (λ x. refl) a l
-  lookup_right (Known Empty) o (none k) a l = none_beyond args g number (Known Empty) o open_keys (λ x. refl) k a
-  lookup_right (Known Empty) o (form f) a l = form_beyond args g number (Known Empty) o open_keys (λ x. refl) f a
-  lookup_right (Known Empty) o open_test a l = test_beyond args g number (Known Empty) o open_keys (λ x. refl) a l
-  lookup_right (Affine h) o (none k) a l = none_beyond args g number (Affine h) o open_keys (λ x. refl) k a
-  lookup_right (Affine h) o (form f) a l = form_beyond args g number (Affine h) o open_keys (λ x. refl) f a
-  lookup_right (Affine h) o open_test a l = test_beyond args g number (Affine h) o open_keys (λ x. refl) a l
-  lookup_right (Test h r) o (none k) a l = none_beyond args g number (Test h r) o open_keys (λ x. refl) k a
-  lookup_right (Test h r) o (form f) a l = form_beyond args g number (Test h r) o open_keys (λ x. refl) f a
-  lookup_right (Test h r) o open_test a l = test_beyond args g number (Test h r) o open_keys (λ x. refl) a l
+  lookup_right (Known (Error k)) o w a = λ x. refl
+  lookup_right (Known (Number y)) o (none k) a = none_beyond args g number (Known (Number y)) o open_keys (λ x. refl) k a
+  lookup_right (Known (Number y)) o (form f) a = form_beyond args g number (Known (Number y)) o open_keys (λ x. refl) f a
+  lookup_right (Known (Number y)) o open_test a = test_beyond args g number (Known (Number y)) o open_keys (λ x. refl) a
+  lookup_right (Known (Text y)) o (none k) a = none_beyond args g number (Known (Text y)) o open_keys (λ x. refl) k a
+  lookup_right (Known (Text y)) o (form f) a = form_beyond args g number (Known (Text y)) o open_keys (λ x. refl) f a
+  lookup_right (Known (Text y)) o open_test a = test_beyond args g number (Known (Text y)) o open_keys (λ x. refl) a
+  lookup_right (Known (Logical y)) o (none k) a = none_beyond args g number (Known (Logical y)) o open_keys (λ x. refl) k a
+  lookup_right (Known (Logical y)) o (form f) a = form_beyond args g number (Known (Logical y)) o open_keys (λ x. refl) f a
+  lookup_right (Known (Logical y)) o open_test a = test_beyond args g number (Known (Logical y)) o open_keys (λ x. refl) a
+  lookup_right (Known Empty) o (none k) a = none_beyond args g number (Known Empty) o open_keys (λ x. refl) k a
+  lookup_right (Known Empty) o (form f) a = form_beyond args g number (Known Empty) o open_keys (λ x. refl) f a
+  lookup_right (Known Empty) o open_test a = test_beyond args g number (Known Empty) o open_keys (λ x. refl) a
+  lookup_right (Affine h) o (none k) a = none_beyond args g number (Affine h) o open_keys (λ x. refl) k a
+  lookup_right (Affine h) o (form f) a = form_beyond args g number (Affine h) o open_keys (λ x. refl) f a
+  lookup_right (Affine h) o open_test a = test_beyond args g number (Affine h) o open_keys (λ x. refl) a
+  lookup_right (Test h r) o (none k) a = none_beyond args g number (Test h r) o open_keys (λ x. refl) k a
+  lookup_right (Test h r) o (form f) a = form_beyond args g number (Test h r) o open_keys (λ x. refl) f a
+  lookup_right (Test h r) o open_test a = test_beyond args g number (Test h r) o open_keys (λ x. refl) a
 
 -- ---- the arguments
 same_grid : (x : Assignment) (a : AbsArg) → functions.grid_of (arg_at x a) ≡ grid_at x (grid_of a)
@@ -312,12 +256,12 @@ module _ (key keys : AbsArg) (rest : List AbsArg) (sound : IsSound key) (fine : 
   same_pick : (value : Assignment → Pick) (other : Assignment → Pick) → ((x : Assignment) → value x ≡ other x) → (r : Result Pick Refusal) → IsPick other args r → IsPick value args r
   same_pick value other e r h = subst (λ (v : Assignment → Pick). IsPick v args r) (λ i x. sym (e x) i) h
 
-  picks_right : (number : Assignment → Result ℚ ErrorKind) (w : Wanted) → Asked (ArgumentVaries arg_at args 2) number w → IsLogical number w
+  picks_right : (number : Assignment → Result ℚ ErrorKind) (w : Wanted) → Asked (ArgumentVaries arg_at args 2) number w
       → IsPick (λ x. lookup_pick (arg_at x key) (arg_at x keys) (number x)) args (exact (lookup_pick_form key keys w))
-  picks_right number w a l =
+  picks_right number w a =
       same_pick (λ x. lookup_pick (arg_at x key) (arg_at x keys) (number x)) (λ x. pick_by (grid_at x (grid_of keys)) (no_error (abs_at x (wanted.value_of key))) (number x))
       (λ x. ap₂ (λ g v. pick_by g (no_error v) (number x)) (same_grid x keys) (value_at x key)) (exact (lookup_pick_form key keys w))
-      (lookup_right args (grid_of keys) number keys_open (wanted.value_of key) key_open w a l)
+      (lookup_right args (grid_of keys) number keys_open (wanted.value_of key) key_open w a)
 
   by_pick : (value : Assignment → Pick) (c : Trial Pick) → IsPick value args (exact c) → IsRightArg (λ x. arg.One (place_value (value x))) args (exact (and_then c (λ p. given (One (Known (place_value p))))))
   by_pick value c h = subst (IsRightArg (λ x. arg.One (place_value (value x))) args) (sym (exact-and_then c (λ p. given (One (Known (place_value p)))))) (by_result (exact c) h)
@@ -332,17 +276,17 @@ match_right [] h = λ x. refl
 match_right (a ∷ []) h = λ x. refl
 match_right (key ∷ keys ∷ []) h =
     by_pick key keys [] h.0 h.1.0 (λ x. lookup_pick (arg_at x key) (arg_at x keys) (Ok (whole_ℚ (pos 1)))) (match_pick (key ∷ keys ∷ []))
-    (picks_right key keys [] h.0 h.1.0 (λ x. Ok (whole_ℚ (pos 1))) (form (constant_form (whole_ℚ (pos 1)))) (asks_form (constant_form (whole_ℚ (pos 1))) (λ x. ap Ok (sym (constant_worth x (whole_ℚ (pos 1))))) (λ e. no_none e)) tt)
+    (picks_right key keys [] h.0 h.1.0 (λ x. Ok (whole_ℚ (pos 1))) (form (constant_form (whole_ℚ (pos 1)))) (asks_form (constant_form (whole_ℚ (pos 1))) (λ x. ap Ok (sym (constant_worth x (whole_ℚ (pos 1))))) (λ e. no_none e)))
   where
     no_none : {B : Type 0} → Some (whole_ℚ (pos 1)) ≡ None → B
     no_none e = cc
 match_right (key ∷ keys ∷ a ∷ []) h =
     by_pick key keys (a ∷ []) h.0 h.1.0 (λ x. lookup_pick (arg_at x key) (arg_at x keys) (functions_numbers.number_of (arg_at x a))) (match_pick (key ∷ keys ∷ a ∷ []))
     (picks_right key keys (a ∷ []) h.0 h.1.0 (λ x. functions_numbers.number_of (arg_at x a)) (number_of a)
-    (asked_there (key ∷ keys ∷ a ∷ []) 2 a refl (λ x. functions_numbers.number_of (arg_at x a)) (number_of a) (asked a (number_of a) (fits (wanted.value_of a) (value_sound a h.1.1.0)))) (logical_asked a))
+    (asked_there (key ∷ keys ∷ a ∷ []) 2 a refl (λ x. functions_numbers.number_of (arg_at x a)) (number_of a) (asked a (number_of a) (fits (wanted.value_of a) (value_sound a h.1.1.0)))))
 match_right (key ∷ keys ∷ a ∷ b ∷ others) h = λ x. refl
 
 pub found_is_right : FoundIsRight
 found_is_right key keys kind =
     picks_right key keys (kind ∷ []) (arg_sound key) (arg_sound keys) (λ x. functions_numbers.number_of (arg_at x kind)) (number_of kind)
-    (asked_there (key ∷ keys ∷ kind ∷ []) 2 kind refl (λ x. functions_numbers.number_of (arg_at x kind)) (number_of kind) (asked kind (number_of kind) (fits (wanted.value_of kind) (abs_sound (wanted.value_of kind))))) (logical_asked kind)
+    (asked_there (key ∷ keys ∷ kind ∷ []) 2 kind refl (λ x. functions_numbers.number_of (arg_at x kind)) (number_of kind) (asked kind (number_of kind) (fits (wanted.value_of kind) (abs_sound (wanted.value_of kind)))))
