@@ -1,0 +1,4 @@
+pub mod Reached
+pub mod Edited
+pub mod Tested
+mod ByExample
