@@ -4,7 +4,7 @@
 pub const ROWS: u16 = 4096;
 
 /// How many columns a sheet has.
-pub const COLUMNS: u16 = 256;
+pub const COLUMNS: u16 = 1024;
 
 /// How many sheets there may be.
 pub const SHEETS: usize = 32;

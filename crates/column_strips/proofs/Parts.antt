@@ -33,7 +33,7 @@ covered area sheet column h =
 in_range : (area : Area) (sheet column : ℕ) → IsOnSheet area → column < COLUMNS → place_in area.sheet.0 area.left ≤ place_in sheet column → place_in sheet column ≤ place_in area.sheet.0 (right area)
     → covers area sheet column ≡ true
 in_range area sheet column on small first last =
-    let last_column : area.left + area.further_columns < 256 = on.last_column in
+    let last_column : area.left + area.further_columns < 1024 = on.last_column in
     let own : area.sheet.0 ≡ sheet = omega (arith, first, last, small, last_column) in
     covering area sheet column own (omega (arith, first, own)) (omega (arith, last, own))
 
@@ -111,7 +111,7 @@ module _ (change : Bool → Bool → Bool) (unchanged : (b : Bool) → change fa
       ] refl
     where
       beyond : COLUMNS ≤ column → covers area sheet column ≡ false
-      beyond h = refused _ (λ e. let w = covered area sheet column e in let last_column : area.left + area.further_columns < 256 = on.last_column in omega (arith, w.2, h, last_column))
+      beyond h = refused _ (λ e. let w = covered area sheet column e in let last_column : area.left + area.further_columns < 1024 = on.last_column in omega (arith, w.2, h, last_column))
 
 -- ---- one area after another
 pub one_more_added : (e p q h : Bool) → ((e && p) || ((e && q) || h)) ≡ ((e && (q || p)) || h)

@@ -95,7 +95,7 @@ of_the_second : named (codes "'my plan'!C4096") ≡ Ok (record { sheet = record 
 unfolding named sheets
 of_the_second = refl
 
-past_the_last_column : named (codes "plan!IW1") ≡ Err answer.OutOfSheet
+past_the_last_column : named (codes "plan!AMK1") ≡ Err answer.OutOfSheet
 unfolding named sheets
 past_the_last_column = refl
 

@@ -15,7 +15,7 @@ const SMALL: CsvLimits = CsvLimits {
 
 const LIMITS: CsvLimits = CsvLimits {
     rows: 4096,
-    columns: 256,
+    columns: 1024,
     field: 8192,
 };
 

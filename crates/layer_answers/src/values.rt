@@ -155,7 +155,7 @@ fn show_area(area: Area, to: &mut String) -> Result<(), Memory> {
 
 // Appends the area between two cells, or none beyond a sheet.
 fn show_between(first: Cell, second: Cell, to: &mut String) -> Result<(), Memory> {
-    if first.row >= 4096 || first.col >= 256 || second.row >= 4096 || second.col >= 256 {
+    if first.row >= 4096 || first.col >= 1024 || second.row >= 4096 || second.col >= 1024 {
         return Ok(to.push_str("none")?);
     }
     show_area(Area::between(first, second), to)

@@ -104,7 +104,7 @@ fits book sides sheet r objective rows none h =
     let cs = constraints (map (condition_of s.decisions) s.rows) rows in (
       zip_length (HasSides book sides s.decisions) (condition_of s.decisions) s.rows rows h.rows,
       record {
-        few = let few : length (decisions_of r) ≤ 256 = few_decisions r none in omega (arith, few);
+        few = let few : length (decisions_of r) ≤ 512 = few_decisions r none in omega (arith, few);
         few_rows = omega (arith, few_rows r none, rows_length book sides s.decisions s.rows rows h.rows, numbered_length 1 (all_rows r.constraints));
         own = All-from_recursion (IsOwn (length s.decisions)) cs (all_own book sides s.decisions s.rows rows h.rows);
         sides = All-from_recursion (SidesReach (length s.decisions)) cs (all_reach book sides s.decisions s.rows rows h.rows);

@@ -71,14 +71,14 @@ area_in_turn areas by_top a i are placed within before behind =
     }
 
 -- ---- how many they are
-below_if : (cells : List Cell) → ((c : Cell) → is_among cells c ≡ true → IsBelow 256 256 4096 c) → AreBelow 256 256 4096 cells
+below_if : (cells : List Cell) → ((c : Cell) → is_among cells c ≡ true → IsBelow 256 1024 4096 c) → AreBelow 256 1024 4096 cells
 below_if [] h = tt
 below_if (c ∷ cells) h = (
   h c (ap (λ p. p || is_among cells c) (same_itself c)),
   below_if cells (λ d there. h d (ap (λ q. is_same_cell d c || q) there ∙ or-true (is_same_cell d c))),
 )
 
-area_below : (a : Area) (c : Cell) → IsPlaced a → within a c ≡ true → IsBelow 256 256 4096 c
+area_below : (a : Area) (c : Cell) → IsPlaced a → within a c ≡ true → IsBelow 256 1024 4096 c
 area_below a c placed h =
     let sheet = and_parts (a.sheet.0 == c.sheet.0) _ h in
     let top = and_parts (nat_le a.top c.row) _ sheet.1 in
@@ -88,11 +88,11 @@ area_below a c placed h =
     let row : c.row ≤ bottom a = leb-true c.row (bottom a) low.0 in
     let col : c.col ≤ right a = leb-true c.col (right a) left.1 in
     let last_row : bottom a < 4096 = placed.on_sheet.last_row in
-    let last_column : right a < 256 = placed.on_sheet.last_column in
+    let last_column : right a < 1024 = placed.on_sheet.last_column in
     let few : a.sheet.0 < 256 = placed.sheet in
     record { sheet = omega (arith, same, few); column = omega (arith, col, last_column); row = omega (arith, row, last_row) }
 
-covered_below : (areas : List Area) (c : Cell) → All IsPlaced areas → is_covered areas c ≡ true → IsBelow 256 256 4096 c
+covered_below : (areas : List Area) (c : Cell) → All IsPlaced areas → is_covered areas c ≡ true → IsBelow 256 1024 4096 c
 covered_below [] c placed h = absurd cc
 covered_below (a ∷ areas) c placed h = elim (or_cases (within a c) (is_covered areas c) h) [
   | inl here ↦ area_below a c (All-head IsPlaced a areas placed) here
@@ -102,10 +102,10 @@ covered_below (a ∷ areas) c placed h = elim (or_cases (within a c) (is_covered
 pub cells_counted : (areas by_top : List Area) → AreByTop areas by_top → on_all_sheets by_top ≡ length (all_cells areas)
 cells_counted areas by_top are =
     let placed : All IsPlaced areas = All-permutation IsPlaced by_top areas (IsPermutation-sym areas by_top are.same) are.placed in
-    let below : AreBelow 256 256 4096 (flat_map cells_of areas) =
+    let below : AreBelow 256 1024 4096 (flat_map cells_of areas) =
     below_if (flat_map cells_of areas) (λ c there. covered_below areas c placed (sym (among_areas areas c) ∙ there)) in
-    passing_same 256 256 4096 (is_covered by_top) (is_among (all_cells areas)) (λ c. sym (among_by_top areas by_top are c))
-    ∙ all_counted 256 256 4096 (flat_map cells_of areas) below
+    passing_same 256 1024 4096 (is_covered by_top) (is_among (all_cells areas)) (λ c. sym (among_by_top areas by_top are c))
+    ∙ all_counted 256 1024 4096 (flat_map cells_of areas) below
 
 -- a sheet on which no area lies
 none_there : (areas : List Area) (sheet col row : ℕ) → list_any (λ (a : Area). a.sheet.0 == sheet) areas ≡ false → is_covered areas (cell_of sheet col row) ≡ false
@@ -120,7 +120,7 @@ none_there (a ∷ areas) sheet col row h =
 
 pub unused_sheet : (areas : List Area) (sheet : ℕ) → list_any (λ (a : Area). a.sheet.0 == sheet) areas ≡ false → 0 ≡ on_sheet areas sheet
 unused_sheet areas sheet none =
-    sym (sum_zero (λ col. in_column areas sheet col) 256 (λ col _. sum_zero (λ row. bit (is_covered areas (cell_of sheet col row))) 4096 (λ row _. ap bit (none_there areas sheet col row none))))
+    sym (sum_zero (λ col. in_column areas sheet col) 1024 (λ col _. sum_zero (λ row. bit (is_covered areas (cell_of sheet col row))) 4096 (λ row _. ap bit (none_there areas sheet col row none))))
 
 -- ---- cells of another area
 -- where the rows above one are covered, the first cell that isn't stands in it or below

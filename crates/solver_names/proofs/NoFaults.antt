@@ -15,10 +15,10 @@ none_at g [] k d h e = absurd (omega (arith, h))
 none_at g (x ∷ xs) zero d h e = none_empty (g x) (none_first (g x) (flat_map g xs) e)
 none_at g (x ∷ xs) (suc k) d h e = none_at g xs k d (omega (arith, h)) (none_later (g x) (flat_map g xs) e)
 
-within : (n : ℕ) (f : Fault) → first (where_so (nat_lt 256 n) f) ≡ None → n ≤ 256
-within n f e = elim (cases_Bool (nat_lt 256 n)) [
+within : (most n : ℕ) (f : Fault) → first (where_so (nat_lt most n) f) ≡ None → n ≤ most
+within most n f e = elim (cases_Bool (nat_lt most n)) [
   | inl more ↦ absurd (cc (e, more))
-  | inr few ↦ ltb-false 256 n few
+  | inr few ↦ ltb-false most n few
 ]
 
 module _ (r : Read) (none : first (faults r) ≡ None) where
@@ -32,14 +32,14 @@ module _ (r : Read) (none : first (faults r) ≡ None) where
       none_later (bad_options r) (too_many (decisions_of r) r.constraints)
       (none_later (of_constraints (decisions_of r) r.constraints) (bad_options r ++ too_many (decisions_of r) r.constraints) behind)
 
-  pub few_decisions : length (decisions_of r) ≤ 256
+  pub few_decisions : length (decisions_of r) ≤ 512
   few_decisions =
-      within (length (decisions_of r)) (fault.TooManyDecisions (length (decisions_of r)))
+      within 512 (length (decisions_of r)) (fault.TooManyDecisions (length (decisions_of r)))
       (none_first (too_many_decisions (decisions_of r)) (too_many_rows r.constraints) counts)
 
   pub few_rows : length (all_rows r.constraints) ≤ 256
   few_rows =
-      within (length (all_rows r.constraints)) (fault.TooManyRows (length (all_rows r.constraints)))
+      within 256 (length (all_rows r.constraints)) (fault.TooManyRows (length (all_rows r.constraints)))
       (none_later (too_many_decisions (decisions_of r)) (too_many_rows r.constraints) counts)
 
   pub all_fit : (k : ℕ) (d : Constraint) → k < length r.constraints → mismatch (get_or r.constraints k d) ≡ []

@@ -17,11 +17,11 @@ pub rows_counted : (c : Constraint) (r : Relation) (a : Area) → c.code ≡ Say
 rows_counted c r a e f = ap₂ (λ x y. length (rows_by c x y)) e f ∙ length-map-range_with_len (row_at c r a) 0 (area_len a)
 
 -- an area has at most the cells of a sheet
-pub few_cells : (a : Area) → IsOnSheet a → area_len a ≤ 1048576
+pub few_cells : (a : Area) → IsOnSheet a → area_len a ≤ 4194304
 few_cells a on =
     let rows : area_height a ≤ 4096 = omega (arith, on.last_row) in
-    let columns : area_width a ≤ 256 = omega (arith, on.last_column) in
-    mul-le (area_height a) (area_width a) 4096 256 rows columns
+    let columns : area_width a ≤ 1024 = omega (arith, on.last_column) in
+    mul-le (area_height a) (area_width a) 4096 1024 rows columns
 
 -- one row more
 pub one_row : (c : Constraint) (r : Relation) (a : Area) (start old new : List (Relation × Cell × Place)) (i : ℕ) → old ≡ start ++ map (row_at c r a) (range_with_len 0 i)

@@ -50,7 +50,7 @@ fn has_sheet(areas: &[Area], sheet: SheetId) -> bool
 fn cells_on(areas: &[Area], sheet: SheetId) -> u32
     requires rising { IsRising areas.now }
     ensures cells { result ≡ on_sheet areas.now sheet.0 }
-    ensures within { result ≤ 1048576 }
+    ensures within { result ≤ 4194304 }
 {
     let mut count = 0;
     if !has_sheet(areas, sheet) {

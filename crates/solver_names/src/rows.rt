@@ -22,7 +22,7 @@ use workbook::Place;
 #[tactic(auto, using(crate::proofs::RowLists::rows_counted, crate::proofs::RowLists::few_cells))]
 fn rows_in(constraint: &Constraint) -> u32
     ensures rows { result ≡ length (found.rows_of constraint.now) }
-    ensures within { result ≤ 1048576 }
+    ensures within { result ≤ 4194304 }
 {
     let Said::Says(Code::Related(_)) = constraint.code else {
         return 0;

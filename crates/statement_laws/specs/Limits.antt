@@ -5,5 +5,5 @@ use Rattle.solver_names.specs.declared.limits.TheConstants.{MOST_CONSTRAINTS, MO
 -- the limits that definitions, code and answers share
 pub record LimitsOfNamesAre : Type 0 where
   pub constraints : MOST_CONSTRAINTS ≡ 256
-  pub decisions : MOST_DECISIONS ≡ 256
+  pub decisions : MOST_DECISIONS ≡ 512
   pub rows : MOST_ROWS ≡ 256

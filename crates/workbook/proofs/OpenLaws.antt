@@ -63,7 +63,7 @@ narrow columns (row ∷ rows) e =
     All-cons (λ (row : Record). length row ≤ columns) row rows (not_more columns (length row) k.0) (narrow columns rows k.1)
 
 pub fit_of : (file : SheetFile) → IsRead sheet_limits file.bytes → FitsSheet (sheet_records file.bytes)
-fit_of file h = record { few = h.2; narrow = narrow 256 (sheet_records file.bytes) h.3 }
+fit_of file h = record { few = h.2; narrow = narrow 1024 (sheet_records file.bytes) h.3 }
 
 pub all_fit : (files : List SheetFile) → All (λ (f : SheetFile). IsRead sheet_limits f.bytes) files → All FitsSheet (records_of files)
 all_fit [] h = All-nil FitsSheet
@@ -84,7 +84,7 @@ module _ (sheets : List (List ℕ)) where
   abbrev pub AreFieldTexts : Texts → Type 0
   AreFieldTexts texts = All (IsFieldText sheets) texts
 
-  field_texts : (sheet row column : ℕ) (fields : Record) → sheet < length sheets → row < 4096 → column + length fields ≤ 256 → is_long 8192 fields ≡ false
+  field_texts : (sheet row column : ℕ) (fields : Record) → sheet < length sheets → row < 4096 → column + length fields ≤ 1024 → is_long 8192 fields ≡ false
       → AreFieldTexts (texts_in_record sheet row column fields)
   field_texts sheet row column [] lt low fits h = All-nil (IsFieldText sheets)
   field_texts sheet row column ([] ∷ fields) lt low fits h =
@@ -95,13 +95,13 @@ module _ (sheets : List (List ℕ)) where
       (record { some = λ e. cc; short = not_more 8192 (length (b ∷ text)) k.0; listed = record { sheet = lt; row = low; column = omega arith } })
       (field_texts sheet row (suc column) fields lt low (omega arith) k.1)
 
-  record_texts : (sheet row : ℕ) (rows : List Record) → sheet < length sheets → row + length rows ≤ 4096 → first_wide 256 rows ≡ None → first_long 8192 rows ≡ None
+  record_texts : (sheet row : ℕ) (rows : List Record) → sheet < length sheets → row + length rows ≤ 4096 → first_wide 1024 rows ≡ None → first_long 8192 rows ≡ None
       → AreFieldTexts (texts_in_records sheet row rows)
   record_texts sheet row [] lt fits wide h = All-nil (IsFieldText sheets)
   record_texts sheet row (fields ∷ rows) lt fits wide h =
       let k = nowhere (is_long 8192) fields rows h in
-      let w = nowhere (λ (row : Record). nat_lt 256 (length row)) fields rows wide in
-      let few = not_more 256 (length fields) w.0 in
+      let w = nowhere (λ (row : Record). nat_lt 1024 (length row)) fields rows wide in
+      let few = not_more 1024 (length fields) w.0 in
       All-append (IsFieldText sheets) (texts_in_record sheet row 0 fields) (texts_in_records sheet (suc row) rows)
       (field_texts sheet row 0 fields lt (omega arith) (omega arith) k.0) (record_texts sheet (suc row) rows lt (omega arith) w.1 k.1)
 

@@ -10,7 +10,7 @@ use Rattle.sheet_linear_model.proofs.stated.statement_or_stop.Goals as goal
 
 pub returns-in-Ok-clause-statement : goal.returns-in-Ok-clause-statement
 returns-in-Ok-clause-statement c =
-    let few : length c.in-Ok.stated.adj ≤ 256 = c.in-Ok.ensures.few in
+    let few : length c.in-Ok.stated.adj ≤ 512 = c.in-Ok.ensures.few in
     is_statement statements_are_whole c.args.book.now c.args.sheet c.in-Ok.stated c.requires.listed c.in-Ok.ensures.answer c.in-Ok.ensures.sheet (omega arith)
 
 pub returns-in-Err : goal.returns-in-Err

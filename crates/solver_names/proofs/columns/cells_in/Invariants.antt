@@ -6,5 +6,5 @@ use Rattle.solver_names.proofs.columns.cells_in.Given as goal
 abbrev pub invariant-loop-sheet : goal.invariant-loop-sheet
 invariant-loop-sheet l = record {
   all : l.count ≡ sum_below (λ sheet. on_sheet l.areas sheet) l.sheet;
-  few : l.count ≤ l.sheet * 1048576;
+  few : l.count ≤ l.sheet * 4194304;
 }

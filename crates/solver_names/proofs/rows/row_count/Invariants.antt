@@ -6,5 +6,5 @@ use Rattle.solver_names.proofs.rows.row_count.Given as goal
 abbrev pub invariant-loop-constraint : goal.invariant-loop-constraint
 invariant-loop-constraint l = record {
   all : l.count ≡ length (flat_map rows_of (take l.constraint-index l.constraints));
-  few : l.count ≤ l.constraint-index * 1048576;
+  few : l.count ≤ l.constraint-index * 4194304;
 }

@@ -15,5 +15,5 @@ rows_of-requires-clause-few c = rw c.deref.ensures.value (few_rows (read_of c.ar
 
 pub returns-clause-few : goal.returns-clause-few
 returns-clause-few c =
-    let few : length (decisions_of (read_of c.args.names)) ≤ 256 = few_decisions (read_of c.args.names) c.requires in
+    let few : length (decisions_of (read_of c.args.names)) ≤ 512 = few_decisions (read_of c.args.names) c.requires in
     omega (arith, ap length c.in_ok-adj.ensures, ap length c.decisions_of.ensures, few)
