@@ -1,14 +1,14 @@
 //! The run over the real thing: the words of the command line, the working directory, standard input and standard output.
 #![tactic(auto)]
 
-ghost use Rattle.std.specs.Prelude.{◌≡◌, ◌∷◌, [], IfOk, OnErr, ⊤};
+ghost use Rattle.std.specs.Prelude.{◌≡◌, ◌∷◌, [], IfOk, OnErr};
 ghost use Rattle.std.specs.Process.{exit_status};
 ghost use Rattle.node_pick.specs.Rules.{best_first, depth_first, oldest_first};
 ghost use Rattle.opensolver_cli.specs.Completeness.{EndsExactly};
 ghost use Rattle.opensolver_cli.specs.Headline.{IsCounted, RunsAs};
 ghost use Rattle.run_inputs.specs.Numbers.{number_of};
 ghost use Rattle.opensolver_cli.specs.Outside.{seen};
-ghost use Rattle.real_run.specs.Exits.{Tells};
+ghost use Rattle.real_run.specs.Exits.{IsEnd, IsEndOfRun, RunsToEnd, Tells};
 ghost use Rattle.command_line.specs.Words.{asked_of, texts_of};
 
 use node_pick::{Best, Depth, Oldest, Picker};
@@ -20,10 +20,10 @@ use std::io::ErrorKind;
 use std::process::ExitCode;
 use std::rt::Runtime;
 
-/// Runs over the real thing, and gives the number in which the run ends. A contract can't say which one, since none says what the real
-/// thing holds: that it is the one that the run answers is a clause of `run_to_end`.
+/// Runs over the real thing, and gives the number in which the run ends. A contract can't say over which words and files, since none says
+/// what the real thing holds: that it is the number of the run over those that are handed in is a clause of `run_to_end`.
 pub fn run_for_real<R: Runtime + AllocGlobal>(rt: R) -> ExitCode
-    ensures { Tells (λ _. ⊤) result }
+    ensures { Tells IsEnd result }
 {
     match end_of_run(rt) {
         Ok(code) => code,
@@ -33,7 +33,7 @@ pub fn run_for_real<R: Runtime + AllocGlobal>(rt: R) -> ExitCode
 
 // Runs over the words.
 fn end_of_run<R: Runtime + AllocGlobal>(rt: R) -> Result<ExitCode, AllocError>
-    ensures { IfOk result (Tells (λ _. ⊤)) }
+    ensures { IfOk result (Tells IsEndOfRun) }
 {
     let words = words(&rt)?;
     let mut folder = DirFolder::new(rt.clone()?);
@@ -64,23 +64,13 @@ pub fn run_to_end<F: Folder, S: Source, K: Sink>(
     script: &mut S,
     out: &mut K,
 ) -> ExitCode
-    ensures { Tells (λ ends.
-        RunsAs (depth_first ∷ best_first ∷ oldest_first ∷ []) (asked_of (texts_of words.now))
+    ensures { Tells (RunsToEnd (texts_of words.now)
         (seen (F.content folder.old) (F.read_faults folder.old)
         (F.write_faults folder.old) (F.write_wants folder.old) (S.left script.old)
         (S.faults script.old) (K.pieces out.old) (K.faults out.old))
         (seen (F.content folder.new) (F.read_faults folder.new)
         (F.write_faults folder.new) (F.write_wants folder.new) (S.left script.new)
-        (S.faults script.new) (K.pieces out.new) (K.faults out.new)) ends
-        × EndsExactly (asked_of (texts_of words.now)) (F.content folder.old)
-        (S.left script.old) ends
-        × IsCounted
-        (seen (F.content folder.old) (F.read_faults folder.old)
-        (F.write_faults folder.old) (F.write_wants folder.old) (S.left script.old)
-        (S.faults script.old) (K.pieces out.old) (K.faults out.old))
-        (seen (F.content folder.new) (F.read_faults folder.new)
-        (F.write_faults folder.new) (F.write_wants folder.new) (S.left script.new)
-        (S.faults script.new) (K.pieces out.new) (K.faults out.new)) ends) result }
+        (S.faults script.new) (K.pieces out.new) (K.faults out.new))) result }
 {
     match run_with_pickers(alloc, words, folder, script, out) {
         Ok(status) => exit_code(status),
