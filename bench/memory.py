@@ -3,7 +3,7 @@
 
     python3 bench/memory.py PROGRAM [EARLIER]
 
-256 cells that may be negative, 256 equations with a number for each of them, and a value to be reached: that makes 514 rows of 512
+512 cells that may be negative, 256 equations with a number for each of them, and a value to be reached: that makes 514 rows of 1,024
 columns, to which the dictionary adds one for its first phase. The search is cut after its first pivots. The most memory that a run takes is told beside
 that of one that only reads the files and of one that prints the model, and beside the size of the entries of the dictionary's rows.
 """
@@ -12,10 +12,10 @@ import subprocess
 import sys
 import tempfile
 
-CELLS = 256
+CELLS, EQUATIONS = 512, 256
 UNITS = 6
 ENTRY_BYTES = 48
-ROWS, COLUMNS = 2 * (CELLS + 1), 2 * CELLS + 1
+ROWS, COLUMNS = 2 * (EQUATIONS + 1), 2 * CELLS + 1
 
 
 def draws(x):
@@ -26,18 +26,18 @@ def draws(x):
 
 
 def write(folder):
-    """The sheet: cells in A, 511 numbers in B, of which each row has 256, the rows in C and the objective in D."""
-    numbers = [1 + draw % 9 for _, draw in zip(range(2 * CELLS - 1), draws(5))]
+    """The sheet: cells in A, 767 numbers in B, of which each row has 512, the rows in C and the objective in D."""
+    numbers = [1 + draw % 9 for _, draw in zip(range(CELLS + EQUATIONS - 1), draws(5))]
     with open(os.path.join(folder, "full.csv"), "w") as file:
-        for row in range(1, 2 * CELLS):
+        for row in range(1, CELLS + EQUATIONS):
             fields = ["0" if row <= CELLS else "", str(numbers[row - 1])]
-            if row <= CELLS:
+            if row <= EQUATIONS:
                 fields.append(f"=SUMPRODUCT($A$1:$A${CELLS};B{row}:B{row + CELLS - 1})")
             if row == 1:
                 fields.append(f"=SUM(A1:A{CELLS})")
             file.write(",".join(fields) + "\n")
     names = [("adj", f"A1:A{CELLS}"), ("opt", "D1"), ("typ", "3"), ("val", "7"), ("neg", "2"), ("num", "1"),
-             ("lhs1", f"C1:C{CELLS}"), ("rel1", "2"), ("rhs1", "1000")]
+             ("lhs1", f"C1:C{EQUATIONS}"), ("rel1", "2"), ("rhs1", "1000")]
     with open(os.path.join(folder, "full.names.csv"), "w") as file:
         file.writelines(f"full,solver_{name},{text}\n" for name, text in names)
 
