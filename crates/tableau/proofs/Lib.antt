@@ -15,6 +15,7 @@ pub mod Narrowness
 pub mod Merging
 pub mod Walking
 pub mod Below
+pub mod Runs
 pub mod Back
 pub mod TakenBack
 pub mod Changing

@@ -3,3 +3,5 @@ pub mod Rows
 pub mod Changed
 pub mod Table
 pub mod Fields
+pub mod Runs
+pub mod Factors

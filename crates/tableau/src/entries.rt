@@ -1,7 +1,8 @@
 // The entries of a row that aren't 0, each with its column, in order of column.
-ghost use Rattle.std.specs.Prelude.{◌≡◌, ◌≢◌, ◌<◌, ◌≤◌, ◌==◌, ℕ, length, IsTrue, ◌↔◌, vec_capacity, if◌then◌else◌};
+ghost use Rattle.std.specs.Prelude.{◌≡◌, ◌≢◌, ◌<◌, ◌≤◌, ◌==◌, ◌++◌, ℕ, length, IsTrue, ◌↔◌, vec_capacity, if◌then◌else◌};
 ghost use Rattle.fractions.specs.Rational.{zero_ℚ};
 ghost use Rattle.tableau.specs.Entries.{IsGap, IsPlaceOf, IsRising, IsSparse, entry_in, pair_at};
+ghost use Rattle.tableau.specs.Runs.{HasRun};
 
 use frac128::Frac;
 
@@ -179,5 +180,56 @@ pub fn put_last(kept: &mut Vec<(u16, Frac)>, columns: usize, col: u16, number: F
         append(kept, columns, col, number);
     } else {
         put(kept, columns, col, number, end);
+    }
+}
+
+/// Puts entries other than 0 behind all others: their columns rise, and all that are kept stand at earlier ones.
+fn append_run(kept: &mut Vec<(u16, Frac)>, columns: usize, run: &[(u16, Frac)])
+    requires sparse { IsSparse columns kept.old.items }
+    requires run { IsSparse columns run.now }
+    requires behind { (i j : ℕ) → i < length kept.old.items → j < length run.now
+        → (pair_at kept.old.items i).0 < (pair_at run.now j).0 }
+    requires room { columns ≤ vec_capacity kept.old }
+    ensures items { kept.new.items ≡ kept.old.items ++ run.now }
+    ensures sparse { IsSparse columns kept.new.items }
+    ensures room { columns ≤ vec_capacity kept.new }
+{
+    match kept.extend_from_slice(run) {
+        Ok(()) => {}
+        Err(_) => unreachable!(),
+    }
+}
+
+/// Puts entries one after the other.
+fn put_each(kept: &mut Vec<(u16, Frac)>, columns: usize, run: &[(u16, Frac)])
+    requires sparse { IsSparse columns kept.old.items }
+    requires run { IsSparse columns run.now }
+    requires room { columns ≤ vec_capacity kept.old }
+    ensures sparse { IsSparse columns kept.new.items }
+    ensures room { columns ≤ vec_capacity kept.new }
+    ensures entries { HasRun run.now (length run.now) kept.old.items kept.new.items }
+{
+    for i in 0..run.len() {
+        let (col, number) = run[i];
+        put_last(kept, columns, col, number);
+    }
+}
+
+/// Sets the entries of rising columns, none of which is 0. They are put at once where only earlier columns are kept.
+pub fn put_run(kept: &mut Vec<(u16, Frac)>, columns: usize, run: &[(u16, Frac)])
+    requires sparse { IsSparse columns kept.old.items }
+    requires run { IsSparse columns run.now }
+    requires room { columns ≤ vec_capacity kept.old }
+    ensures sparse { IsSparse columns kept.new.items }
+    ensures room { columns ≤ vec_capacity kept.new }
+    ensures entries { HasRun run.now (length run.now) kept.old.items kept.new.items }
+{
+    if run.is_empty() {
+        return;
+    }
+    if is_behind(kept, run[0].0, kept.len()) {
+        append_run(kept, columns, run);
+    } else {
+        put_each(kept, columns, run);
     }
 }

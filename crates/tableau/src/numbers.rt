@@ -8,7 +8,7 @@ ghost use Rattle.dictionaries.specs.Narrow.{IsNarrowAt, IsNarrowQuotient, IsNarr
 ghost use Rattle.tableau.specs.Entries.{AreEntries, IsRising, pair_at};
 ghost use Rattle.tableau.specs.Changed.{IsChanged};
 
-use crate::products::plus_product;
+use crate::products::{Factor, plus_product};
 use crate::row::Row;
 use frac128::{Frac, Wide};
 use std::mem;
@@ -91,6 +91,22 @@ pub fn solve_for(row: &Row, col: u16, into: &mut Row) -> Result<(), Wide>
     }
 }
 
+/// From the place on the first place at which the column or a later one stands.
+fn end_before(kept: &[(u16, Frac)], place: usize, col: usize) -> usize
+    requires rising { IsRising kept.now }
+    requires within { place ≤ length kept.now }
+    ensures first { place ≤ result }
+    ensures within { result ≤ length kept.now }
+    ensures before { (i : ℕ) → i < result → place ≤ i → (pair_at kept.now i).0 < col }
+    ensures after { (i : ℕ) → result ≤ i → i < length kept.now → col ≤ (pair_at kept.now i).0 }
+{
+    let mut next = place;
+    while next < kept.len() && (kept[next].0 as usize) < col {
+        next += 1;
+    }
+    next
+}
+
 /// Puts the entries that stand from the place on before the column behind those of another row, and answers the place of
 /// the first that doesn't.
 fn copy_before(kept: &[(u16, Frac)], place: usize, col: usize, into: &mut Row) -> usize
@@ -98,6 +114,7 @@ fn copy_before(kept: &[(u16, Frac)], place: usize, col: usize, into: &mut Row) -
     requires within { place ≤ length kept.now }
     requires columns { (i : ℕ) → i < length kept.now
         → suc (pair_at kept.now i).0 < length into.old }
+    requires other_than_zero { (i : ℕ) → i < length kept.now → (pair_at kept.now i).1 ≢ zero_ℚ }
     ensures size { length into.new ≡ length into.old }
     ensures rest { at into.new 0 ≡ at into.old 0 }
     ensures first { place ≤ result }
@@ -109,12 +126,8 @@ fn copy_before(kept: &[(u16, Frac)], place: usize, col: usize, into: &mut Row) -
     ensures left { (j : ℕ) → ((i : ℕ) → place ≤ i → i < result → (pair_at kept.now i).0 ≢ j)
         → at into.new (suc j) ≡ at into.old (suc j) }
 {
-    let mut next = place;
-    while next < kept.len() && (kept[next].0 as usize) < col {
-        let (j, entry) = kept[next];
-        into.append(j, entry);
-        next += 1;
-    }
+    let next = end_before(kept, place, col);
+    into.put_run(&kept[place..next]);
     next
 }
 
@@ -148,9 +161,9 @@ fn entry_at(kept: &[(u16, Frac)], place: usize, col: u16, j: u16) -> (Frac, usiz
 
 /// Puts the entries of the row where `by` comes in for the variable of the column, at which the row has the factor, into a
 /// row of zeros.
-fn write_entries(row: &Row, col: u16, factor: Frac, by: &Row, into: &mut Row) -> Result<(), Wide>
+fn write_entries(row: &Row, col: u16, factor: &Factor, by: &Row, into: &mut Row) -> Result<(), Wide>
     requires place { suc col < length row.now }
-    requires factor { factor ≡ at row.now (suc col) }
+    requires factor { factor.now ≡ at row.now (suc col) }
     requires other { length by.now ≡ length row.now }
     requires entry { at by.now (suc col) ≢ zero_ℚ }
     requires room { length into.old ≡ length row.now }
@@ -178,9 +191,9 @@ fn write_entries(row: &Row, col: u16, factor: Frac, by: &Row, into: &mut Row) ->
 }
 
 /// Makes the row, which has the factor at the column, where `by` comes in for the variable of the column.
-fn write(row: &Row, col: u16, factor: Frac, by: &Row, into: &mut Row) -> Result<(), Wide>
+fn write(row: &Row, col: u16, factor: &Factor, by: &Row, into: &mut Row) -> Result<(), Wide>
     requires place { suc col < length row.now }
-    requires factor { factor ≡ at row.now (suc col) }
+    requires factor { factor.now ≡ at row.now (suc col) }
     requires other { length by.now ≡ length row.now }
     requires entry { at by.now (suc col) ≢ zero_ℚ }
     requires room { length into.old ≡ length row.now }
@@ -229,7 +242,7 @@ pub fn change(row: &mut Row, col: u16, by: &Row, spare: &mut Row) -> Result<(), 
     if factor.is_zero() {
         return Ok(());
     }
-    match write(row, col, factor, by, spare) {
+    match write(row, col, &Factor::of(factor), by, spare) {
         Ok(()) => {}
         Err(fault) => return Err(fault),
     }

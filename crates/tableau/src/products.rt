@@ -4,10 +4,50 @@ ghost use Rattle.fractions.specs.Rational.{numerator, denominator, one_ℚ, ◌+
 ghost use Rattle.fractions.specs.Whole.{whole_ℚ};
 ghost use Rattle.frac128.specs.Narrow.{IsNarrow};
 ghost use Rattle.dictionaries.specs.Narrow.{IsNarrowStep};
+ghost use Rattle.tableau.specs.Factors.{IsSmallWhole};
 
 use frac128::{Frac, Wide};
+use std::marker::Model;
 
 const SMALL: i128 = 1 << 20;
+
+/// A number by which the entries of a row are multiplied, and as a whole number where it is a small one.
+#[derive(Drop)]
+pub struct Factor {
+    number: Frac,
+    whole: Option<i64>,
+}
+
+impl Model for Factor {
+    ghost use Rattle.std.specs.Prelude.{IfSome};
+    ghost use Rattle.fractions.specs.Rational.{ℚ};
+    ghost use Rattle.tableau.specs.Factors.{IsSmallWhole};
+
+    ghost Value = { ℚ };
+
+    ghost view = { λ f. f.number };
+
+    ghost invariant = { λ f. IfSome f.whole (IsSmallWhole f.number) };
+}
+
+impl Factor {
+    /// The number as a factor.
+    pub fn of(number: Frac) -> Factor
+        ensures { result ≡ number }
+    {
+        Factor {
+            number,
+            whole: small_whole(number),
+        }
+    }
+
+    // The number, where it is whole and below 2^20 in size.
+    fn whole(&self) -> Option<i64>
+        ensures { IfSome result (IsSmallWhole self.now) }
+    {
+        self.whole
+    }
+}
 
 /// Whether the number is 1.
 fn is_one(number: Frac) -> bool
@@ -60,6 +100,18 @@ fn small_parts(number: Frac) -> Option<(i64, i64)>
     }
 }
 
+/// The number, where it is whole and below 2^20 in size.
+fn small_whole(number: Frac) -> Option<i64>
+    ensures { IfSome result (IsSmallWhole number) }
+{
+    let num = number.num();
+    if number.den() == 1 && -SMALL < num && num < SMALL {
+        Some(num as i64)
+    } else {
+        None
+    }
+}
+
 /// `n / d` in lowest terms.
 fn lowest(n: i64, d: i64) -> Option<Frac>
     requires { d ≢ pos 0 }
@@ -88,9 +140,30 @@ fn small_step(a: Frac, b: Frac, c: Frac) -> Option<Frac>
     )
 }
 
+/// `a + b * c`, where all three are small whole numbers.
+fn whole_step(a: Frac, b: &Factor, c: Frac) -> Option<Frac>
+    ensures { IfSome result (λ f. (f ≡ a +ℚ b.now *ℚ c) × IsNarrowStep a b.now c) }
+{
+    let factor = b.whole()?;
+    let number = small_whole(c)?;
+    let entry = small_whole(a)?;
+    lowest(entry + factor * number, 1)
+}
+
+/// `a + b * c`.
+pub fn plus_product(a: Frac, b: &Factor, c: Frac) -> Result<Frac, Wide>
+    ensures { MatchResult result (λ f. (f ≡ a +ℚ b.now *ℚ c) × IsNarrowStep a b.now c)
+        (λ _. ¬ (IsNarrowStep a b.now c)) }
+{
+    match whole_step(a, b, c) {
+        Some(found) => Ok(found),
+        None => fraction_step(a, b.number, c),
+    }
+}
+
 /// `a + b * c`.
 #[tactic(auto, unfolding(dictionaries::specs::Narrow::IsNarrowStep))]
-pub fn plus_product(a: Frac, b: Frac, c: Frac) -> Result<Frac, Wide>
+fn fraction_step(a: Frac, b: Frac, c: Frac) -> Result<Frac, Wide>
     ensures { MatchResult result (λ f. (f ≡ a +ℚ b *ℚ c) × IsNarrowStep a b c)
         (λ _. ¬ (IsNarrowStep a b c)) }
 {

@@ -2,8 +2,9 @@ ghost use Rattle.std.specs.Prelude.{◌≡◌, ◌≢◌, ◌<◌, ◌≤◌, �
 ghost use Rattle.fractions.specs.Rational.{zero_ℚ};
 ghost use Rattle.fractions.specs.Vectors.{at};
 ghost use Rattle.tableau.specs.Entries.{AreEntries};
+ghost use Rattle.tableau.specs.Runs.{IsRun, IsRunPut};
 
-use crate::entries::{place_of, put, put_last};
+use crate::entries::{place_of, put, put_last, put_run};
 use frac128::Frac;
 use memory::Memory;
 use std::alloc::Global;
@@ -98,6 +99,14 @@ impl Row {
         ensures { self.new ≡ slice_set self.old (suc col) number }
     {
         put_last(&mut self.kept, self.columns, col, number);
+    }
+
+    /// Sets the entries of a run of columns. They are put at once where only earlier columns are kept.
+    pub(crate) fn put_run(&mut self, run: &[(u16, Frac)])
+        requires { IsRun (length self.old) run.now }
+        ensures { IsRunPut run.now self.old self.new }
+    {
+        put_run(&mut self.kept, self.columns, run);
     }
 
     /// Sets the constant.
