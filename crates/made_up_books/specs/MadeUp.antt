@@ -1,5 +1,5 @@
 -- A workbook that is made up: so many suppliers send goods to as many places, at costs that are drawn.
-use Rattle.std.specs.Prelude.{ℕ, zero, suc, ◌+◌, ◌-◌, ◌*◌, ◌/◌, ◌%◌, ◌^◌, ◌==◌, ◌&&◌, if◌then◌else◌, List, [], ◌∷◌, ◌++◌, map, flat_map, drop, slice_index, codes, decimal, Some}
+use Rattle.std.specs.Prelude.{ℕ, zero, suc, ◌+◌, ◌-◌, ◌*◌, ◌/◌, ◌%◌, ◌^◌, ◌==◌, ◌&&◌, if◌then◌else◌, List, [], ◌∷◌, ◌++◌, map, flat_map, drop, slice_index, codes, decimal, Some, None}
 use Rattle.std.specs.FinMap.{empty}
 use Rattle.std.specs.List.{range_with_len}
 use Rattle.cell_refs.specs.declared.cell.Cell.{Cell}
@@ -68,7 +68,7 @@ abbrev pub sheet_name : List ℕ
 sheet_name = codes "gen"
 
 abbrev pub named_as : List ℕ → List ℕ → Name
-named_as name text = record { sheet = Some 0; sheet_text = sheet_name; name = name; text = text }
+named_as name text = record { sheet = Some 0; sheet_text = sheet_name; name = name; text = text; comment = None }
 
 -- an absolute address, with a dollar sign before the column and one before the row
 abbrev pub absolute_address_text : ℕ → ℕ → List ℕ

@@ -9,8 +9,8 @@ use Rattle.sheet_csv.specs.Saved.{IsSaved}
 use Rattle.sheet_csv.specs.Sheet.{Record, saved_text, sheet_records}
 use Rattle.workbook.specs.Files.{texts_in_records}
 use Rattle.workbook.specs.Filled.{TextsAreSome}
-use Rattle.workbook.specs.State.{Name, State}
-use Rattle.workbook.specs.Saving.{saved_names}
+use Rattle.workbook.specs.State.{State}
+use Rattle.workbook.specs.Saving.{saved_name, saved_names}
 use Rattle.recalculation.specs.Entries.{Contents}
 use Rattle.saved_sheets.specs.Laws.{NamesReadBack, ReadsBack}
 use Rattle.saved_sheets.specs.Saving.{columns_used, rows_used, saved_row, saved_rows}
@@ -30,6 +30,6 @@ reads_back book sheet some back unmarked cell on =
 
 pub names_read_back : (book : State) → (IsSaved (saved_names book.names) → sheet_records (saved_text (saved_names book.names)) ≡ saved_names book.names) → NamesReadBack book
 names_read_back book back unmarked = back (record {
-  fields = All-map (λ (row : Record). row ≢ []) (λ (n : Name). n.sheet_text ∷ n.name ∷ n.text ∷ []) book.names (λ k d h. λ e. cc);
+  fields = All-map (λ (row : Record). row ≢ []) saved_name book.names (λ k d h. λ e. cc);
   unmarked = unmarked;
 })

@@ -77,7 +77,7 @@ module _ (s : Option ℕ) (m : List ℕ) where
       by false e ih = ap (λ b. text_if b n (without s m ns)) e ∙ ih
 
   abbrev named_by : Given → Name
-  named_by g = record { sheet = s; sheet_text = string_bytes g.sheet_text; name = m; text = string_bytes g.text }
+  named_by g = record { sheet = s; sheet_text = string_bytes g.sheet_text; name = m; text = string_bytes g.text; comment = None }
 
   text_given : (given : Option Given) (ns : List Name) → text_of (after_given s m given ns) s m ≡ option_map (λ (g : Given). string_bytes g.text) given
   text_given None ns = own_removed ns

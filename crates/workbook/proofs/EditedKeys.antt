@@ -10,7 +10,7 @@ use Rattle.workbook.specs.declared.names.Key.{Key}
 use Rattle.workbook.specs.EditedNames.{retexted, with_named, without}
 use Rattle.workbook.specs.Keyed.{AllAreKeyed, is_key}
 use Rattle.workbook.specs.Naming.{with_new_text}
-use Rattle.workbook.specs.Saving.{saved_names}
+use Rattle.workbook.specs.Saving.{saved_name, saved_names}
 use Rattle.workbook.specs.State.{Name, is_called}
 use Rattle.workbook.proofs.Gathering.{left_from}
 use Rattle.workbook.proofs.NameEdits.{removed_names, retexted_names}
@@ -62,9 +62,9 @@ gone key sheet name es fs ns is small of keyed unique made =
     ap names_of made ∙ removed_names key name small es keyed unique ∙ ap (λ s. without s name (names_of es)) of ∙ ap (without sheet name) is
 
 -- ---- records
-pub row_on : (rows more total : List Record) (ns : List Name) (i : ℕ) (n : Name) → slice_get ns i ≡ Some n → more ≡ rows ++ (n.sheet_text ∷ n.name ∷ n.text ∷ []) ∷ []
+pub row_on : (rows more total : List Record) (ns : List Name) (i : ℕ) (n : Name) → slice_get ns i ≡ Some n → more ≡ rows ++ saved_name n ∷ []
     → rows ++ saved_names (drop i ns) ≡ total → more ++ saved_names (drop (i + 1) ns) ≡ total
 row_on rows more total ns i n at pushed so_far =
     ap (λ l. l ++ saved_names (drop (i + 1) ns)) pushed
-    ∙ append_assoc rows ((n.sheet_text ∷ n.name ∷ n.text ∷ []) ∷ []) (saved_names (drop (i + 1) ns))
+    ∙ append_assoc rows (saved_name n ∷ []) (saved_names (drop (i + 1) ns))
     ∙ sym (ap (λ l. rows ++ saved_names l) (left_from ns i n at)) ∙ so_far

@@ -26,3 +26,4 @@ pub mod Resaid
 pub mod EditedKeys
 pub mod Spelled
 pub mod Meanings
+pub mod AsFound

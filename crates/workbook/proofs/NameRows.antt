@@ -1,5 +1,5 @@
 -- The names of records, and names that are put behind others.
-use Rattle.std.proofs.Common.{◌≡◌, ◌≤◌, ◌+◌, ℕ, zero, suc, Bool, cond, drop, true, false, List, [], ◌∷◌, map, length, Option, Some, None, refl, sym, ap, ◌∙◌, arith}
+use Rattle.std.proofs.Common.{◌≡◌, ◌≢◌, ◌≤◌, ◌+◌, ℕ, zero, suc, Bool, cond, drop, true, false, List, [], ◌∷◌, map, length, Option, Some, None, refl, sym, ap, ◌∙◌, arith}
 use Rattle.std.specs.Prelude.{if◌then◌else◌, is_some, option_map, slice_get}
 use Rattle.std.specs.List.{find, list_any}
 use denote.Ref.{Bor}
@@ -14,34 +14,56 @@ use Rattle.workbook.specs.Keyed.{AllAreKeyed, is_key}
 use Rattle.workbook.specs.State.{Name, is_called, text_of}
 use Rattle.workbook.proofs.NameLaws.{any_found, found, names_of, text_in}
 
-no_name_on : (s b t : List ℕ) (o : Option (Option ℕ)) → is_name b ≡ false → None ≡ name_on s b t o
-no_name_on s b t None e = refl
-no_name_on s b t (Some sheet) e = ap (λ x. if x then Some (record { sheet = sheet; sheet_text = s; name = b; text = t }) else None) (sym e)
-
-one_name_on : (s b t : List ℕ) (sheet : Option ℕ) → is_name b ≡ true → Some (record { sheet = sheet; sheet_text = s; name = b; text = t }) ≡ name_on s b t (Some sheet)
-one_name_on s b t sheet e = ap (λ x. if x then Some (record { sheet = sheet; sheet_text = s; name = b; text = t }) else None) (sym e)
-
 same_text : (a b : List ℕ) → Some a ≡ Some b → a ≡ b
 same_text a b e = cc
 
-pub not_name : (sheets : List (List ℕ)) (fields : Record) (name : List ℕ) → length fields ≡ 3 → slice_get fields 1 ≡ Some name → is_name name ≡ false → None ≡ name_in sheets fields
-not_name sheets [] name n at e = absurd (omega (arith, n))
-not_name sheets (a ∷ []) name n at e = absurd (omega (arith, n))
-not_name sheets (a ∷ b ∷ []) name n at e = absurd (omega (arith, n))
-not_name sheets (a ∷ b ∷ t ∷ []) name n at e = no_name_on a b t (sheet_in sheets a) (ap is_name (same_text b name at) ∙ e)
-not_name sheets (a ∷ b ∷ t ∷ d ∷ fields) name n at e = absurd (omega (arith, n))
+-- ---- records of three or four fields
+abbrev name_if : List ℕ → List ℕ → List ℕ → Option (List ℕ) → Option ℕ → Bool → Option Name
+name_if s b t c sheet is = if is then Some (record { sheet = sheet; sheet_text = s; name = b; text = t; comment = c }) else None
 
-pub is_row : (sheets : List (List ℕ)) (fields : Record) (x y z : List ℕ) (sheet : Option ℕ) → length fields ≡ 3 → slice_get fields 0 ≡ Some x → slice_get fields 1 ≡ Some y → slice_get fields 2 ≡ Some z
-    → is_name y ≡ true → Some sheet ≡ sheet_in sheets x → Some (record { sheet = sheet; sheet_text = x; name = y; text = z }) ≡ name_in sheets fields
-is_row sheets [] x y z sheet n p q r e f = absurd (omega (arith, n))
-is_row sheets (a ∷ []) x y z sheet n p q r e f = absurd (omega (arith, n))
-is_row sheets (a ∷ b ∷ []) x y z sheet n p q r e f = absurd (omega (arith, n))
-is_row sheets (a ∷ b ∷ t ∷ []) x y z sheet n p q r e f =
-    one_name_on x y z sheet e ∙ ap (name_on x y z) f
-    ∙ ap (λ l. name_on l y z (sheet_in sheets l)) (sym (same_text a x p))
-    ∙ ap (λ l. name_on a l z (sheet_in sheets a)) (sym (same_text b y q))
-    ∙ ap (λ l. name_on a b l (sheet_in sheets a)) (sym (same_text t z r))
-is_row sheets (a ∷ b ∷ t ∷ d ∷ fields) x y z sheet n p q r e f = absurd (omega (arith, n))
+no_name_on : (s b t : List ℕ) (c : Option (List ℕ)) (o : Option (Option ℕ)) → is_name b ≡ false → None ≡ name_on s b t c o
+no_name_on s b t c None e = refl
+no_name_on s b t c (Some sheet) e = ap (name_if s b t c sheet) (sym e)
+
+-- a record of another number of fields
+pub not_row : (sheets : List (List ℕ)) (fields : Record) → length fields ≢ 3 → length fields ≢ 4 → None ≡ name_in sheets fields
+not_row sheets [] three four = refl
+not_row sheets (a ∷ []) three four = refl
+not_row sheets (a ∷ b ∷ []) three four = refl
+not_row sheets (a ∷ b ∷ t ∷ []) three four = absurd (three refl)
+not_row sheets (a ∷ b ∷ t ∷ c ∷ []) three four = absurd (four refl)
+not_row sheets (a ∷ b ∷ t ∷ c ∷ d ∷ fields) three four = refl
+
+module _ (sheets : List (List ℕ)) (x y z : List ℕ) where
+  same_fields : (a b t : List ℕ) (c : Option (List ℕ)) → Some a ≡ Some x → Some b ≡ Some y → Some t ≡ Some z
+      → name_on x y z c (sheet_in sheets x) ≡ name_on a b t c (sheet_in sheets a)
+  same_fields a b t c p q r =
+      ap (λ l. name_on l y z c (sheet_in sheets l)) (sym (same_text a x p))
+      ∙ ap (λ l. name_on a l z c (sheet_in sheets a)) (sym (same_text b y q))
+      ∙ ap (λ l. name_on a b l c (sheet_in sheets a)) (sym (same_text t z r))
+
+  -- the fourth field is the comment, where there is one
+  as_named : (fields : Record) → 3 ≤ length fields → length fields ≤ 4 → slice_get fields 0 ≡ Some x → slice_get fields 1 ≡ Some y → slice_get fields 2 ≡ Some z
+      → name_on x y z (slice_get fields 3) (sheet_in sheets x) ≡ name_in sheets fields
+  as_named [] least most p q r = absurd (omega arith)
+  as_named (a ∷ []) least most p q r = absurd (omega arith)
+  as_named (a ∷ b ∷ []) least most p q r = absurd (omega arith)
+  as_named (a ∷ b ∷ t ∷ []) least most p q r = same_fields a b t None p q r
+  as_named (a ∷ b ∷ t ∷ c ∷ []) least most p q r = same_fields a b t (Some c) p q r
+  as_named (a ∷ b ∷ t ∷ c ∷ d ∷ fields) least most p q r = absurd (omega arith)
+
+  module _ (fields : Record) (least : 3 ≤ length fields) (most : length fields ≤ 4) (p : slice_get fields 0 ≡ Some x) (q : slice_get fields 1 ≡ Some y) (r : slice_get fields 2 ≡ Some z) where
+    pub not_sheet : None ≡ sheet_in sheets x → None ≡ name_in sheets fields
+    not_sheet f = ap (name_on x y z (slice_get fields 3)) f ∙ as_named fields least most p q r
+
+    pub not_name : is_name y ≡ false → None ≡ name_in sheets fields
+    not_name e = no_name_on x y z (slice_get fields 3) (sheet_in sheets x) e ∙ as_named fields least most p q r
+
+    pub is_row : (comment : Option (List ℕ)) (sheet : Option ℕ) → comment ≡ slice_get fields 3 → is_name y ≡ true → Some sheet ≡ sheet_in sheets x
+        → Some (record { sheet = sheet; sheet_text = x; name = y; text = z; comment = comment }) ≡ name_in sheets fields
+    is_row comment sheet c e f =
+        ap (name_if x y z comment sheet) (sym e) ∙ ap (name_on x y z comment) f
+        ∙ ap (λ c. name_on x y z c (sheet_in sheets x)) c ∙ as_named fields least most p q r
 
 -- ---- whether a name is there
 seen_some : (r : Option (Bor (List ℕ))) → is_some r ≡ is_some (option_map (λ (t : Bor (List ℕ)). t.now) r)

@@ -114,24 +114,28 @@ module _ (sheets : List (List ℕ)) where
       (file_texts (suc sheet) files (omega arith) (All-tail (λ (f : SheetFile). IsRead sheet_limits f.bytes) f files h))
 
 -- ---- names are short
-short_on : (before : List Name) (s b t : List ℕ) (o : Option (Option ℕ)) → All IsShort before → length t ≤ 8192 → All IsShort (with_name before (name_on s b t o))
-short_on before s b t None all h = all
-short_on before s b t (Some sheet) all h = by_case (is_name b)
+short_on : (before : List Name) (s b t : List ℕ) (c : Option (List ℕ)) (o : Option (Option ℕ)) → All IsShort before → length t ≤ 8192 → All IsShort (with_name before (name_on s b t c o))
+short_on before s b t c None all h = all
+short_on before s b t c (Some sheet) all h = by_case (is_name b)
   where
-    by_case : (is : Bool) → All IsShort (with_name before (if is then Some (record { sheet = sheet; sheet_text = s; name = b; text = t }) else None))
-    by_case true = All-push IsShort before (record { sheet = sheet; sheet_text = s; name = b; text = t }) all h
+    by_case : (is : Bool) → All IsShort (with_name before (if is then Some (record { sheet = sheet; sheet_text = s; name = b; text = t; comment = c }) else None))
+    by_case true = All-push IsShort before (record { sheet = sheet; sheet_text = s; name = b; text = t; comment = c }) all h
     by_case false = all
+
+-- the third field of a record is no longer than a field
+short_third : (s b t : List ℕ) (more : Record) → is_long 8192 (s ∷ b ∷ t ∷ more) ≡ false → length t ≤ 8192
+short_third s b t more h =
+    let k = any_split (nat_lt 8192 (length s)) (is_long 8192 (b ∷ t ∷ more)) h in
+    let m = any_split (nat_lt 8192 (length b)) (is_long 8192 (t ∷ more)) k.1 in
+    not_more 8192 (length t) (any_split (nat_lt 8192 (length t)) (is_long 8192 more) m.1).0
 
 short_row : (sheets : List (List ℕ)) (before : List Name) (row : Record) → All IsShort before → is_long 8192 row ≡ false → All IsShort (with_name before (name_in sheets row))
 short_row sheets before [] all h = all
 short_row sheets before (s ∷ []) all h = all
 short_row sheets before (s ∷ b ∷ []) all h = all
-short_row sheets before (s ∷ b ∷ t ∷ []) all h =
-    let k = any_split (nat_lt 8192 (length s)) (is_long 8192 (b ∷ t ∷ [])) h in
-    let m = any_split (nat_lt 8192 (length b)) (is_long 8192 (t ∷ [])) k.1 in
-    let n = any_split (nat_lt 8192 (length t)) (is_long 8192 []) m.1 in
-    short_on before s b t (sheet_in sheets s) all (not_more 8192 (length t) n.0)
-short_row sheets before (s ∷ b ∷ t ∷ u ∷ row) all h = all
+short_row sheets before (s ∷ b ∷ t ∷ []) all h = short_on before s b t None (sheet_in sheets s) all (short_third s b t [] h)
+short_row sheets before (s ∷ b ∷ t ∷ c ∷ []) all h = short_on before s b t (Some c) (sheet_in sheets s) all (short_third s b t (c ∷ []) h)
+short_row sheets before (s ∷ b ∷ t ∷ c ∷ d ∷ row) all h = all
 
 pub short_names : (sheets : List (List ℕ)) (before : List Name) (rows : List Record) → All IsShort before → first_long 8192 rows ≡ None → All IsShort (names_in sheets before rows)
 short_names sheets before [] all h = all

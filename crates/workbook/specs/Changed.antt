@@ -18,7 +18,7 @@ given_text change = option_map (λ (g : Given). string_bytes g.text) change.give
 abbrev pub after_given : Option ℕ → List ℕ → Option Given → List Name → List Name
 after_given sheet name None names = without sheet name names
 after_given sheet name (Some g) names =
-    with_named names (record { sheet = sheet; sheet_text = string_bytes g.sheet_text; name = name; text = string_bytes g.text })
+    with_named names (record { sheet = sheet; sheet_text = string_bytes g.sheet_text; name = name; text = string_bytes g.text; comment = None })
 
 abbrev pub after_change : List Name → Change → List Name
 after_change names change = after_given (option_map (λ s. s.0) change.sheet) (string_bytes change.name) change.given names

@@ -15,12 +15,13 @@ abbrev pub file_code : Coded SheetFile
 file_code =
     code_by (List ℕ × List ℕ) (coded× coded_text coded_text) (λ f. (f.stem, f.bytes)) (λ p. record { stem = p.0; bytes = p.1 }) (λ _. refl)
 
--- a name as its four parts
+-- a name as its five parts
 abbrev pub name_code : Coded Name
 name_code =
-    code_by (Option ℕ × (List ℕ × (List ℕ × List ℕ))) (coded× (coded_option coded_ℕ) (coded× coded_text (coded× coded_text coded_text)))
-    (λ n. (n.sheet, (n.sheet_text, (n.name, n.text))))
-    (λ p. record { sheet = p.0; sheet_text = p.1.0; name = p.1.1.0; text = p.1.1.1 }) (λ _. refl)
+    code_by (Option ℕ × (List ℕ × (List ℕ × (List ℕ × Option (List ℕ)))))
+    (coded× (coded_option coded_ℕ) (coded× coded_text (coded× coded_text (coded× coded_text (coded_option coded_text)))))
+    (λ n. (n.sheet, (n.sheet_text, (n.name, (n.text, n.comment)))))
+    (λ p. record { sheet = p.0; sheet_text = p.1.0; name = p.1.1.0; text = p.1.1.1.0; comment = p.1.1.1.1 }) (λ _. refl)
 
 abbrev pub contents_code : Coded Contents
 contents_code = code coded_cell coded_text

@@ -50,14 +50,15 @@ abbrev pub sheet_in : List (List ℕ) → List ℕ → Option (Option ℕ)
 sheet_in sheets [] = Some None
 sheet_in sheets (b ∷ text) = option_map Some (place_in sheets (b ∷ text))
 
-abbrev pub name_on : List ℕ → List ℕ → List ℕ → Option (Option ℕ) → Option Name
-name_on sheet_text name text None = None
-name_on sheet_text name text (Some sheet) =
-    if is_name name then Some (record { sheet = sheet; sheet_text = sheet_text; name = name; text = text }) else None
+abbrev pub name_on : List ℕ → List ℕ → List ℕ → Option (List ℕ) → Option (Option ℕ) → Option Name
+name_on sheet_text name text comment None = None
+name_on sheet_text name text comment (Some sheet) =
+    if is_name name then Some (record { sheet = sheet; sheet_text = sheet_text; name = name; text = text; comment = comment }) else None
 
--- the name of a record: a sheet, a name and a text; none where it is of another form
+-- the name of a record: a sheet, a name, a text and, where there is a fourth field, a comment; none where it is of another form
 abbrev pub name_in : List (List ℕ) → Record → Option Name
-name_in sheets (sheet ∷ name ∷ text ∷ []) = name_on sheet name text (sheet_in sheets sheet)
+name_in sheets (sheet ∷ name ∷ text ∷ []) = name_on sheet name text None (sheet_in sheets sheet)
+name_in sheets (sheet ∷ name ∷ text ∷ comment ∷ []) = name_on sheet name text (Some comment) (sheet_in sheets sheet)
 name_in sheets _ = None
 
 abbrev pub is_new : List Name → Option Name → Bool

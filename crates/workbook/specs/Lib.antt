@@ -25,3 +25,4 @@ pub mod EditedNames
 pub mod Changed
 pub mod Known
 pub mod TextCells
+pub mod Found

@@ -22,13 +22,14 @@ spelling_of sheets (Some sheet) = unwrap_or (slice_get sheets sheet) []
 abbrev pub is_there : List Name → Option ℕ → List ℕ → Bool
 is_there names sheet name = list_any (is_called sheet name) names
 
--- a name that is there keeps its spelling and its place, and gets the text
+-- a name that is there keeps its spelling, its place and its comment, and gets the text
 abbrev pub with_new_text : Option ℕ → List ℕ → List ℕ → Name → Name
 with_new_text sheet name text n = if is_called sheet name n then record n { text = text } else n
 
--- a name that is new goes last
+-- a name that is new goes last, without a comment
 abbrev pub new_name : List (List ℕ) → Option ℕ → List ℕ → List ℕ → Name
-new_name sheets sheet name text = record { sheet = sheet; sheet_text = spelling_of sheets sheet; name = name; text = text }
+new_name sheets sheet name text =
+    record { sheet = sheet; sheet_text = spelling_of sheets sheet; name = name; text = text; comment = None }
 
 abbrev pub names_after : State → Option ℕ → List ℕ → List ℕ → List Name
 names_after state sheet name text =

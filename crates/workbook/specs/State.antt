@@ -7,12 +7,13 @@ use Rattle.cell_refs.specs.Names.{same_letters}
 use Rattle.recalculation.specs.Entries.{Contents}
 
 -- a name: the sheet for which it stands, by its number, or none for the whole workbook; the sheet and the name as they are
--- spelled; and the text for which it stands
+-- spelled; the text for which it stands; and a comment, or none where its record has three fields
 pub record Name : Type 0 where
   pub sheet : Option ℕ
   pub sheet_text : List ℕ
   pub name : List ℕ
   pub text : List ℕ
+  pub comment : Option (List ℕ)
 
 pub record State : Type 0 where
   pub sheets : List (List ℕ)

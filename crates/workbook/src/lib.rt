@@ -29,7 +29,7 @@ pub use adj::{Adj, DECISIONS};
 pub use fault::{AllFault, EditFault, OpenFault};
 pub use file::File;
 pub use kind::Kind;
-pub use open::{files_open_in_one_way, sheet_in};
+pub use open::{files_open_in_one_way, names_are_saved_as_found, sheet_in};
 pub use place::Place;
 pub use renaming::unname_fault;
 pub use text_cell::TextCell;

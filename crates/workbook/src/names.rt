@@ -7,7 +7,7 @@ ghost use Rattle.indexmap.specs.IndexMap.{shift_remove_entry};
 ghost use Rattle.workbook.specs.Changed.{after_change};
 ghost use Rattle.workbook.specs.EditedNames.{retexted, with_named, without};
 ghost use Rattle.workbook.specs.Keyed.{is_key};
-ghost use Rattle.workbook.specs.Saving.{saved_names};
+ghost use Rattle.workbook.specs.Saving.{saved_name, saved_names};
 ghost use Rattle.workbook.specs.State.{is_called, is_same_sheet, text_of};
 
 use crate::change::Change;
@@ -19,14 +19,15 @@ use std::alloc::Global;
 use std::marker::Model;
 use std::mem::drop;
 
-/// A name: the sheet for which it stands, or none for the whole workbook, the sheet and the name as they are spelled, and its
-/// text.
+/// A name: the sheet for which it stands, or none for the whole workbook, the sheet and the name as they are spelled, its text,
+/// and a comment, if it has one.
 #[derive(Drop)]
 pub(crate) struct Name {
     pub(crate) sheet: Option<SheetId>,
     pub(crate) sheet_text: String,
     pub(crate) name: String,
     pub(crate) text: String,
+    pub(crate) comment: Option<String>,
 }
 
 impl Model for Name {
@@ -43,6 +44,7 @@ impl Model for Name {
       sheet_text = string_bytes n.sheet_text;
       name = string_bytes n.name;
       text = string_bytes n.text;
+      comment = option_map string_bytes n.comment;
     } };
 }
 
@@ -56,14 +58,15 @@ impl Name {
 
     // Adds its record at the end.
     fn add_to(&self, rows: &mut Rows) -> Result<(), Memory>
-        ensures { OnOk result (rows.new
-            ≡ rows.old ++ (self.now.sheet_text ∷ self.now.name ∷ self.now.text ∷ []) ∷ []) }
+        ensures { OnOk result (rows.new ≡ rows.old ++ saved_name self.now ∷ []) }
     {
-        rows.add(&[
-            self.sheet_text.as_str(),
-            self.name.as_str(),
-            self.text.as_str(),
-        ])
+        let sheet = self.sheet_text.as_str();
+        let name = self.name.as_str();
+        let text = self.text.as_str();
+        match &self.comment {
+            Some(comment) => rows.add(&[sheet, name, text, comment.as_str()]),
+            None => rows.add(&[sheet, name, text]),
+        }
     }
 }
 
@@ -208,11 +211,12 @@ impl Names {
                 sheet_text: given.sheet_text,
                 name,
                 text: given.text,
+                comment: None,
             },
         )
     }
 
-    // Gives a name a text: in its place, where it is there, and else last.
+    // Gives a name a text: in its place and beside its comment, where it is there, and else last.
     fn put(&mut self, alloc: Global, name: Name) -> Result<(), Memory>
         ensures ok { OnOk result (self.new ≡ with_named self.old name) }
         ensures err { OnErr result (self.new ≡ self.old) }

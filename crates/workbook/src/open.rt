@@ -1,8 +1,9 @@
 // Opening a workbook.
-ghost use Rattle.std.specs.Prelude.{◌≡◌, ◌≢◌, ◌≤◌, ◌<◌, ◌++◌, ◌∷◌, [], All, IfOk, IfSome, MatchBool, OnOk, length, option_map};
+ghost use Rattle.std.specs.Prelude.{◌≡◌, ◌≢◌, ◌≤◌, ◌<◌, ◌++◌, ◌∷◌, [], All, IfOk, IfSome, MatchBool, OnOk, length, option_map, slice_get, string_bytes};
 ghost use Rattle.cell_refs.specs.declared.limits.TheConstants.{FILE_BYTES, SHEETS};
 ghost use Rattle.workbook.specs.Files.{SheetFile, is_new, name_in, sheet_in, with_name};
 ghost use Rattle.workbook.specs.Determined.{OneOpening};
+ghost use Rattle.workbook.specs.Found.{SavedAsFound};
 ghost use Rattle.workbook.specs.Opening.{Opens};
 ghost use Rattle.workbook.specs.Gathered.{FitsSheet};
 ghost use Rattle.workbook.specs.Held.{put_all};
@@ -44,6 +45,11 @@ impl Workbook {
 /// But for want of memory, files are opened as one workbook, or have one fault.
 pub fn files_open_in_one_way()
     ensures { OneOpening }
+{}
+
+/// Where each record of a file of names is a new name's, the names are saved under these records, with their comments.
+pub fn names_are_saved_as_found()
+    ensures { SavedAsFound }
 {}
 
 // The sheets' names.
@@ -197,7 +203,8 @@ fn put_name(
 fn name_in(alloc: Global, sheets: &SheetNames, fields: &Record) -> Result<Option<Name>, Memory>
     ensures { IfOk result (λ found. found ≡ name_in sheets.now fields.now) }
 {
-    if fields.len() != 3 {
+    let count = fields.len();
+    if count < 3 || count > 4 {
         return Ok(None);
     }
     let sheet_text = fields.text(0);
@@ -212,12 +219,24 @@ fn name_in(alloc: Global, sheets: &SheetNames, fields: &Record) -> Result<Option
     let sheet_text = String::from_str(alloc, sheet_text)?;
     let name = String::from_str(alloc, name)?;
     let text = String::from_str(alloc, text)?;
+    let comment = comment_in(alloc, fields)?;
     Ok(Some(Name {
         sheet,
         sheet_text,
         name,
         text,
+        comment,
     }))
+}
+
+// The comment of a record: its fourth field, if it has one.
+fn comment_in(alloc: Global, fields: &Record) -> Result<Option<String>, Memory>
+    ensures { IfOk result (λ comment. option_map string_bytes comment ≡ slice_get fields.now 3) }
+{
+    match fields.get(3) {
+        Some(text) => Ok(Some(String::from_str(alloc, text)?)),
+        None => Ok(None),
+    }
 }
 
 /// The sheet of a name, or none for the whole workbook, where there is no text; none at all where there is no such sheet.

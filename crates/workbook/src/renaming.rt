@@ -13,7 +13,7 @@ use sheet_csv::Rows;
 
 impl Workbook {
     /// Gives a name a text, for a sheet or for the whole workbook, and answers the cells that say something else now. A name that is
-    /// there keeps its place and its spelling; a new one goes last. After a fault nothing has changed.
+    /// there keeps its place, its spelling and its comment; a new one goes last and has none. After a fault nothing has changed.
     pub fn name(
         &mut self,
         sheet: Option<SheetId>,
