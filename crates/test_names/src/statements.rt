@@ -198,11 +198,11 @@ const CASES: &[(&str, &str)] = &[
         "plan,solver_adj,\"A1,A1,B1:A1\"\nplan,solver_num,2\nplan,solver_lhs1,A1:B1\nplan,solver_rel1,4\nplan,solver_lhs2,A1\nplan,solver_rel2,4\n",
         "decide 0.0.0 0.0.1 greatest; whole 0 1",
     ),
-    ("plan,solver_adj,\"A1:A256,A1:B1\"\n", "8 257"),
-    ("plan,solver_adj,A1:P17\n", "8 272"),
+    ("plan,solver_adj,\"A1:A512,A1:B1\"\n", "8 513"),
+    ("plan,solver_adj,A1:P33\n", "8 528"),
     (
-        "plan,solver_adj,\"A1:IV1;'other;two'!A1:IV1;A1\"\n",
-        "8 512",
+        "plan,solver_adj,\"A1:SR1;'other;two'!A1:SR1;A1\"\n",
+        "8 1024",
     ),
     (
         "plan,solver_adj,A1\nplan,solver_num,1\nplan,solver_lhs1,A1:A257\nplan,solver_rel1,1\nplan,solver_rhs1,1\n",
@@ -254,7 +254,7 @@ const SIDES: &[(&str, &str)] = &[
         "1 1; 2: 0 to 9; ",
     ),
     // As many as there may be.
-    ("plan,solver_adj,\"A1:IV1,A1\"\n", "256 0; "),
+    ("plan,solver_adj,\"A1:SR1,A1\"\n", "512 0; "),
     (
         "plan,solver_adj,A1\nplan,solver_num,2\nplan,solver_lhs1,A1:IV1\nplan,solver_rel1,1\nplan,solver_rhs1,1\nplan,solver_lhs2,A1\nplan,solver_rel2,4\n",
         "1 256; 1: 0 to 1; ",

@@ -120,7 +120,7 @@ const TEXTS: &[((u8, u16, u16), &str, &str)] = &[
     ((1, 1, 0), "=1+1", "None formula =1+1"),
     ((1, 1, 0), "two", "None plain two"),
     ((1, 1, 0), "", "None empty "),
-    ((0, 4095, 255), "true", "None true true"),
+    ((0, 4095, 1023), "true", "None true true"),
     ((0, 4096, 0), "1", "Some(OutOfSheet) empty "),
     ((0, 0, 1024), "1", "Some(OutOfSheet) empty "),
     ((0, 0, 0), "", "None empty "),
