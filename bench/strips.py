@@ -1,9 +1,9 @@
 #!/usr/bin/env python3
-"""Times the program, and tells its memory, where 16,384 formulas refer to 256 columns each.
+"""Times the program, and tells its memory, where 16,384 formulas refer to 1,024 columns each.
 
 usage: strips.py PROGRAM
 
-Each formula has a strip in each column of a sheet, 4,194,304 in all. The first line is a run that only reads the files, the
+Each formula has a strip in each column of a sheet, 16,777,216 in all. The first line is a run that only reads the files, the
 second one that shows a cell too, for which the strips are made.
 """
 import os
@@ -20,7 +20,7 @@ def write_files(folder):
     """Writes a sheet of formulas, four in a row, a sheet with one number, and a file of no names."""
     with open(os.path.join(folder, "plan.csv"), "w") as sheet:
         for row in range(1, ROWS + 1):
-            sheet.write(",".join([f"=SUM(flow!$A${row}:$IV${row})"] * 4) + "\n")
+            sheet.write(",".join([f"=SUM(flow!$A${row}:$AMJ${row})"] * 4) + "\n")
     with open(os.path.join(folder, "flow.csv"), "w") as sheet:
         sheet.write("7\n")
     open(os.path.join(folder, "names.csv"), "w").close()

@@ -56,23 +56,24 @@ def areas_in(text):
 
 def main():
     program = os.path.abspath(sys.argv[1])
-    whole = ",".join(f"{sheet}!A1:IV4096" for sheet in SHEETS)
-    rows = filled([f"A{row}:IV{row}" for row in range(1, 4096, 2)])
-    columns = filled([f"{letters(column)}1:{letters(column)}4096" for column in range(256)])
+    whole = ",".join(f"{sheet}!A1:AMJ4096" for sheet in SHEETS)
+    rows = filled([f"A{row}:AMJ{row}" for row in range(1, 4096, 2)])
+    columns = filled([f"{letters(column)}1:{letters(column)}4096" for column in range(1024)])
+    listed = f"A1:{columns.rpartition(':')[2]}"
     apart = filled([f"{sheet}!A{row}" for row in range(1, 101) for sheet in SHEETS])
     marks = [("solver_num", "256")]
     relations = [("solver_num", "256")]
     for k in range(1, 257):
-        marks += [(f"solver_lhs{k}", "A1:IV4096"), (f"solver_rel{k}", "4")]
-        relations += [(f"solver_lhs{k}", "A1:IV4096"), (f"solver_rel{k}", "1"), (f"solver_rhs{k}", "A1")]
+        marks += [(f"solver_lhs{k}", listed), (f"solver_rel{k}", "4")]
+        relations += [(f"solver_lhs{k}", "A1:AMJ4096"), (f"solver_rel{k}", "1"), (f"solver_rhs{k}", "A1")]
     cases = [
         ("no names", [], "refused names 1\n"),
-        ("32 whole sheets", [("solver_adj", whole)], "refused names 8 33554432\n"),
-        ("rows", [("solver_adj", rows)], f"refused names 8 {256 * areas_in(rows)}\n"),
-        ("columns", [("solver_adj", columns)], "refused names 8 1048576\n"),
+        ("32 whole sheets", [("solver_adj", whole)], "refused names 8 134217728\n"),
+        ("rows", [("solver_adj", rows)], f"refused names 8 {1024 * areas_in(rows)}\n"),
+        ("columns", [("solver_adj", columns)], f"refused names 8 {4096 * areas_in(columns)}\n"),
         ("cells of 32 sheets", [("solver_adj", apart)], f"refused names 8 {areas_in(apart)}\n"),
-        ("256 whole sheets marked whole", [("solver_adj", columns)] + marks, "refused names 8 1048576\n"),
-        ("256 whole sheets on the left", [("solver_adj", "A1")] + relations, "refused names 9 268435456\n"),
+        ("256 times all of them marked whole", [("solver_adj", columns)] + marks, f"refused names 8 {4096 * areas_in(columns)}\n"),
+        ("256 whole sheets on the left", [("solver_adj", "A1")] + relations, "refused names 9 1073741824\n"),
     ]
     with tempfile.TemporaryDirectory() as folder:
         for sheet in SHEETS:

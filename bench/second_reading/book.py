@@ -16,7 +16,7 @@ class Stop(Exception):
         self.status, self.line = status, line
 
 
-LIMITS = {'rows': 4096, 'columns': 256, 'field': 8192, 'cells': 65536, 'formulas': 16384, 'names': 32768}
+LIMITS = {'rows': 4096, 'columns': 1024, 'field': 8192, 'cells': 65536, 'formulas': 16384, 'names': 32768}
 
 
 def is_formula(text):
@@ -24,7 +24,10 @@ def is_formula(text):
 
 
 class Book:
-    """Cells are (sheet, row, column) from 0; names are a list of [sheet or None, name, text, the sheet field as it stands]."""
+    """Cells are (sheet, row, column) from 0; names are a list of [sheet or None, name, text, the sheet field as it stands, comments].
+
+    The comments of a name are a list of none or one: the fourth field of its record, where it has one.
+    """
 
     def __init__(self, stems):
         self.stems, self.sheets = stems, {lower(stem): number for number, stem in enumerate(stems)}
@@ -112,7 +115,7 @@ class Book:
         return found
 
     def name_records(self):
-        return [[record[3], record[1], record[2]] for record in self.names]
+        return [[field, name, text] + comments for sheet, name, text, field, comments in self.names]
 
 
 class Entries:
@@ -241,13 +244,13 @@ def opened(names, files):
 
 def add_name(book, word, number, record):
     fault = Stop(7, 'bad-input %s name-row %d' % (word, number + 1))
-    if len(record) != 3:
+    if len(record) not in (3, 4):
         raise fault
-    field, name, text = record
+    field, name, text, *comments = record
     sheet = book.sheets.get(lower(field)) if field else None
     if (field and sheet is None) or not is_name(name) or book.text_of(sheet, name) is not None:
         raise fault
-    book.names.append([sheet, name, text, field])
+    book.names.append([sheet, name, text, field, comments])
 
 
 def check(holds, kind):

@@ -54,5 +54,5 @@ def session(count, budget):
         'rhs1': area(count + 1, count + 2, 2 * count, count + 2),
         'lhs2': area(2 * count + 1, 1, 2 * count + 1, count), 'rel2': '3', 'rhs2': area(2 * count + 2, 1, 2 * count + 2, count),
     }
-    book.names = [[0, 'solver_' + name, text, 'gen'] for name, text in names.items()]
+    book.names = [[0, 'solver_' + name, text, 'gen', []] for name, text in names.items()]
     return Session(book, ['gen.csv'], 'names.csv', budget, 'depth')

@@ -102,7 +102,7 @@ class Case:
         if not sheet.isidentifier() or self.chance(0.1):
             sheet = "'%s'" % sheet.replace("'", "''")
         if self.chance(0.03):
-            place = self.pick('!A0', '!IW1', '!A4097', '!$A$2', '!A', '!a002', ' !A1', '!A1:A2', '.B$1', '!A99999999999')
+            place = self.pick('!A0', '!AMK1', '!A4097', '!$A$2', '!A', '!a002', ' !A1', '!A1:A2', '.B$1', '!A99999999999')
             return self.pick('A1', 'none!A1', '!A1', "''!A1", '$' + sheet + place, sheet + place, sheet + place, sheet + place)
         return '%s%s%s%d' % (sheet, self.pick('!', '!', '.'), self.pick(*'ABCDE'), self.random.randint(1, 6))
 
@@ -251,7 +251,14 @@ class Case:
         )
 
     # Words and bytes.
+    def comments(self):
+        for record in self.names:
+            if self.chance(0.05):
+                record += [self.pick('', 'how much', 'a "word", two', 'one\ntwo', '=A1')]
+                record += ['x'] * self.chance(0.02)
+
     def files(self, sheets, script):
+        self.comments()
         words = ['--names', 'names.csv']
         files = {'names.csv': self.written(self.names)}
         folder = self.pick('', '', '', '', 'sub/')

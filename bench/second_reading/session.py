@@ -121,7 +121,7 @@ class Session:
         if place is None:
             if len(names) >= LIMITS['names']:
                 raise Refused('too-many-names')
-            names.append([sheet, name, text, '' if sheet is None else self.book.stems[sheet]])
+            names.append([sheet, name, text, '' if sheet is None else self.book.stems[sheet], []])
         else:
             names[place][2] = text
         return self.names_edited()

@@ -7,7 +7,7 @@ from .fraction import narrow_numeral
 from .grammar import Node, Reader, parse, parse_reference
 from .tokens import Malformed
 
-MOST = 256
+MOST, MOST_DECISIONS = 256, 512
 RELATIONS = {1: '<=', 2: '=', 3: '>='}
 
 
@@ -186,7 +186,7 @@ class Reading:
                 other = next((cell for cell in cells_in(one.left) if cell not in decisions), None)
                 if other:
                     self.fault(6, (one.number,), '%d %s' % (one.number, Cell(other)))
-        if len(decisions) > MOST:
+        if len(decisions) > MOST_DECISIONS:
             self.fault(8, (0,), str(len(decisions)))
         rows = sum(size(one.left)[0] * size(one.left)[1] for one in self.constraints if one.is_row and one.left)
         if rows > MOST:

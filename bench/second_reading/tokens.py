@@ -16,7 +16,7 @@ TOKEN = re.compile(r'''
 ''', re.VERBOSE | re.ASCII)
 WORD = re.compile(r'[A-Za-z_\x80-\xff][A-Za-z0-9_.\x80-\xff]*\Z', re.ASCII)
 ADDRESS = re.compile(r'\$?([A-Za-z]+)\$?([0-9]+)\Z', re.ASCII)
-ROWS, COLUMNS = 4096, 256
+ROWS, COLUMNS = 4096, 1024
 
 
 class Malformed(Exception):
