@@ -112,7 +112,7 @@ def odd_workbook(kind, make, files, told, place):
     written(folder, "plan.csv", files["plan.csv"].replace("0,0", "0,3 kg"))
     tool("to_workbook", book, folder, out, status=1, told="plan!B1 holds 3 kg, which is no number\n")
     written(folder, "names.csv", "plan,solver_adj\n")
-    tool("to_workbook", book, folder, out, status=1, told="record 1 of the names has not three fields: ['plan', 'solver_adj']\n")
+    tool("to_workbook", book, folder, out, status=1, told="record 1 of the names has neither three nor four fields: ['plan', 'solver_adj']\n")
 
 
 def odd_xlsx(_):

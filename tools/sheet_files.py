@@ -94,8 +94,8 @@ def names_by_sheet(records):
     """The names of each sheet, as small letters, with their texts: from the records of a file of names."""
     sheets = {}
     for number, record in enumerate(records, 1):
-        if len(record) != 3:
-            sys.exit(f"record {number} of the names has not three fields: {record}")
+        if len(record) not in (3, 4):
+            sys.exit(f"record {number} of the names has neither three nor four fields: {record}")
         sheets.setdefault(record[0].lower(), {})[record[1].lower()] = record[2]
     return sheets
 
