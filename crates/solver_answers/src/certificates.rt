@@ -6,6 +6,7 @@ use crate::stop::Stop;
 use lin_model::LinModel;
 use opt_certificate::{Claim, Tree, TreeNode, check};
 use std::alloc::Global;
+use std::mem::drop;
 
 // A split is its decision, the floor, and the places of the lower and the upper part.
 fn split(shown: &str) -> Result<TreeNode, Stop> {
@@ -53,6 +54,19 @@ fn claim(alloc: Global, shown: &str) -> Result<Claim, Stop> {
     Ok(Claim::Unbounded(point, direction))
 }
 
+fn show_claim(
+    alloc: Global,
+    of: &LinModel,
+    tree: &Tree,
+    claim: &Claim,
+    to: &mut String,
+) -> Result<(), Stop> {
+    if !claim.is_of_size(of.whole().len()) {
+        return Err(Stop::Unread);
+    }
+    Ok(show(&check(alloc, of, tree, claim), to)?)
+}
+
 fn show_checked(
     alloc: Global,
     of: &LinModel,
@@ -61,10 +75,25 @@ fn show_checked(
     to: &mut String,
 ) -> Result<(), Stop> {
     let claim = claim(alloc, shown)?;
-    if !claim.is_of_size(of.whole().len()) {
-        return Err(Stop::Unread);
-    }
-    Ok(show(&check(alloc, of, tree, &claim), to)?)
+    let end = show_claim(alloc, of, tree, &claim, to);
+    drop(claim);
+    end
+}
+
+// Appends whether a tree proves what is claimed of a model, or that it is none.
+fn show_check(
+    alloc: Global,
+    of: &LinModel,
+    nodes: &str,
+    claimed: &str,
+    to: &mut String,
+) -> Result<(), Stop> {
+    let Some(tree) = tree(alloc, nodes)? else {
+        return Ok(to.push_str("no tree")?);
+    };
+    let end = show_checked(alloc, of, &tree, claimed, to);
+    drop(tree);
+    end
 }
 
 /// Appends whether a tree proves what is claimed of a statement: the three stand in the line with a comma between two.
@@ -72,8 +101,7 @@ pub(crate) fn check_answer(alloc: Global, shown: &str, to: &mut String) -> Resul
     let (statement, others) = shown.split_once(", ").ok_or(Stop::Unread)?;
     let (nodes, claimed) = others.split_once(", ").ok_or(Stop::Unread)?;
     let of = model(alloc, 2, statement)?;
-    match tree(alloc, nodes)? {
-        Some(tree) => show_checked(alloc, &of, &tree, claimed, to),
-        None => Ok(to.push_str("no tree")?),
-    }
+    let end = show_check(alloc, &of, nodes, claimed, to);
+    drop(of);
+    end
 }

@@ -40,14 +40,24 @@ fn answer(alloc: Global, line: &str, to: &mut String) -> Result<(), Stop> {
     }
 }
 
+fn print(rt: &HostRuntime, end: Result<(), Stop>, text: &str) -> io::Result<()> {
+    match end {
+        Ok(()) => println!(rt; "{text}"),
+        Err(Stop::WideRow(row)) => println!(rt; "wide {row}"),
+        Err(stop) => println!(rt; "{stop:?}"),
+    }
+}
+
+// Prints the answer to a call.
+fn print_answer(rt: &HostRuntime, line: &str) -> io::Result<()> {
+    let mut text = String::new(rt.alloc());
+    let end = answer(rt.alloc(), line, &mut text);
+    print(rt, end, text.as_str())
+}
+
 fn main(rt: HostRuntime) -> io::Result<()> {
     for line in rt.lines(rt.alloc()) {
-        let mut text = String::new(rt.alloc());
-        match answer(rt.alloc(), line?.as_str(), &mut text) {
-            Ok(()) => println!(rt; "{}", text.as_str())?,
-            Err(Stop::WideRow(row)) => println!(rt; "wide {row}")?,
-            Err(stop) => println!(rt; "{stop:?}")?,
-        }
+        print_answer(&rt, line?.as_str())?;
     }
     Ok(())
 }

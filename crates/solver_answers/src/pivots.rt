@@ -3,8 +3,10 @@
 use crate::numbers::{show_numbers, show_places};
 use crate::programs::program;
 use crate::stop::Stop;
+use linear_programs::Standard;
 use memory::Memory;
 use std::alloc::Global;
+use std::mem::drop;
 use tableau::{Dict, Row, start};
 
 // Appends the row's constant and entries.
@@ -54,13 +56,33 @@ fn pivot(dict: &mut Dict, row: u16, col: u16, to: &mut String) -> Result<(), Mem
     Ok(to.push_str(if is_made { "made" } else { "wide" })?)
 }
 
+// Appends what stands after the pivot of a dictionary.
+fn show_pivot(dict: &mut Dict, row: u16, col: u16, to: &mut String) -> Result<(), Memory> {
+    pivot(dict, row, col, to)?;
+    show_dictionary(dict, to)
+}
+
+// The same of the first dictionary of a program.
+fn show_start(
+    alloc: Global,
+    program: &Standard,
+    row: u16,
+    col: u16,
+    to: &mut String,
+) -> Result<(), Memory> {
+    let mut dict = start(alloc, program)?;
+    let end = show_pivot(&mut dict, row, col, to);
+    drop(dict);
+    end
+}
+
 /// Appends what stands after the pivot of a program at a row and a column.
 pub(crate) fn pivot_answer(alloc: Global, shown: &str, to: &mut String) -> Result<(), Stop> {
     let (row, others) = shown.split_once(' ').ok_or(Stop::Unread)?;
     let (col, shown) = others.split_once(' ').ok_or(Stop::Unread)?;
     let (row, col) = (row.parse::<u16>()?, col.parse::<u16>()?);
     let program = program(alloc, shown)?;
-    let mut dict = start(alloc, &program)?;
-    pivot(&mut dict, row, col, to)?;
-    Ok(show_dictionary(&dict, to)?)
+    let end = show_start(alloc, &program, row, col, to);
+    drop(program);
+    Ok(end?)
 }

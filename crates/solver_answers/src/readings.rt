@@ -7,12 +7,14 @@ use crate::programs::show_rows;
 use crate::runs::show_end;
 use crate::statements::model;
 use crate::stop::Stop;
+use lin_model::LinModel;
 use linear_programs::Standard;
 use memory::Memory;
 use simplex::{
     Next, Work, cell_value, choose_next, direction, point, resume, row_multipliers, solve,
 };
 use std::alloc::Global;
+use std::mem::drop;
 use tableau::{Dict, start};
 
 // Appends the cells' numbers, one by one, and the point.
@@ -55,21 +57,38 @@ fn show_at_end(
     show_more(alloc, program, dict, to)
 }
 
+// Appends the end of a run.
+fn show_solved(alloc: Global, program: &Standard, to: &mut String) -> Result<(), Memory> {
+    let mut work = Work { left: 10 };
+    let end = solve(alloc, program, &mut work);
+    show_end(&end, to)
+}
+
 // Appends the rows of a program, its end, and what is read there.
 fn show_program(alloc: Global, program: &Standard, to: &mut String) -> Result<(), Memory> {
     show_rows(program.rows(), to)?;
     to.push_str(" => ")?;
-    let mut work = Work { left: 10 };
-    show_end(&solve(alloc, program, &mut work), to)?;
+    show_solved(alloc, program, to)?;
     to.push(';')?;
     let mut dict = start(alloc, program)?;
-    show_at_end(alloc, program, &mut dict, to)
+    let end = show_at_end(alloc, program, &mut dict, to);
+    drop(dict);
+    end
+}
+
+// The same of the standard program of a model.
+fn show_model(alloc: Global, model: &LinModel, to: &mut String) -> Result<(), Memory> {
+    let _whole = model.whole();
+    let program = model.standard(alloc, model.bounds(), false)?;
+    let end = show_program(alloc, &program, to);
+    drop(program);
+    end
 }
 
 /// Appends the rows of the standard program of a statement of one decision, its end, and what is read there.
 pub(crate) fn reading_answer(alloc: Global, shown: &str, to: &mut String) -> Result<(), Stop> {
     let model = model(alloc, 1, shown)?;
-    let _whole = model.whole();
-    let program = model.standard(alloc, model.bounds(), false)?;
-    Ok(show_program(alloc, &program, to)?)
+    let end = show_model(alloc, &model, to);
+    drop(model);
+    Ok(end?)
 }

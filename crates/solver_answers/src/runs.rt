@@ -9,6 +9,7 @@ use linear_programs::Standard;
 use memory::Memory;
 use simplex::{LpAnswer, LpStop, Next, Work, choose_next, make_pivot, resume, solve};
 use std::alloc::Global;
+use std::mem::drop;
 use tableau::{Dict, start};
 
 fn show_answer(answer: &LpAnswer, to: &mut String) -> Result<(), Memory> {
@@ -55,16 +56,49 @@ fn step(program: &Standard, dict: &mut Dict)
     }
 }
 
+// Appends the basis after the first pivot.
+fn show_step(alloc: Global, program: &Standard, to: &mut String) -> Result<(), Memory> {
+    let mut dict = start(alloc, program)?;
+    step(program, &mut dict);
+    show_places(dict.basis(), to)
+}
+
+// Appends how many units a run had that began with so many, and its end.
+fn show_units(
+    end: &Result<LpAnswer, LpStop>,
+    units: u64,
+    left: u64,
+    to: &mut String,
+) -> Result<(), Memory> {
+    write!(to, " in {}: ", units.wrapping_sub(left))?;
+    show_end(end, to)
+}
+
+fn show_run(alloc: Global, program: &Standard, to: &mut String) -> Result<(), Memory> {
+    show_step(alloc, program, to)?;
+    let mut work = Work { left: 100 };
+    let end = solve(alloc, program, &mut work);
+    show_units(&end, 100, work.left, to)
+}
+
 /// Appends the basis after the first pivot, and how many units a whole run has, and its end.
 pub(crate) fn run_answer(alloc: Global, shown: &str, to: &mut String) -> Result<(), Stop> {
     let program = program(alloc, shown)?;
-    let mut dict = start(alloc, &program)?;
-    step(&program, &mut dict);
+    let end = show_run(alloc, &program, to);
+    drop(program);
+    Ok(end?)
+}
+
+// Appends the basis that a run comes to, how many units it had, and its end.
+fn show_cut(
+    dict: &Dict,
+    end: &Result<LpAnswer, LpStop>,
+    units: u64,
+    left: u64,
+    to: &mut String,
+) -> Result<(), Memory> {
     show_places(dict.basis(), to)?;
-    let mut work = Work { left: 100 };
-    let end = solve(alloc, &program, &mut work);
-    write!(to, " in {}: ", 100u64.wrapping_sub(work.left))?;
-    Ok(show_end(&end, to)?)
+    show_units(end, units, left, to)
 }
 
 // Goes on with the run for so many units, and appends the basis that it comes to, how many units it had, and the end.
@@ -80,9 +114,37 @@ fn go_on(
 {
     let mut work = Work { left: units };
     let end = resume(alloc, program, dict, &mut work);
-    show_places(dict.basis(), to)?;
-    write!(to, " in {}: ", units.wrapping_sub(work.left))?;
-    show_end(&end, to)
+    let shown = show_cut(dict, &end, units, work.left, to);
+    drop(end);
+    shown
+}
+
+// Appends two runs, of which the first is cut after so many units.
+fn go_on_twice(
+    alloc: Global,
+    program: &Standard,
+    dict: &mut Dict,
+    units: u64,
+    to: &mut String,
+) -> Result<(), Memory>
+    requires { IsReached program.now dict.old }
+{
+    go_on(alloc, program, dict, units, to)?;
+    to.push(';')?;
+    go_on(alloc, program, dict, 100, to)
+}
+
+// The same from the first dictionary of a program.
+fn show_cut_run(
+    alloc: Global,
+    program: &Standard,
+    units: u64,
+    to: &mut String,
+) -> Result<(), Memory> {
+    let mut dict = start(alloc, program)?;
+    let end = go_on_twice(alloc, program, &mut dict, units, to);
+    drop(dict);
+    end
 }
 
 /// Appends a run that is cut after so many units, and gone on with.
@@ -90,8 +152,7 @@ pub(crate) fn cut_answer(alloc: Global, shown: &str, to: &mut String) -> Result<
     let (units, shown) = shown.split_once(' ').ok_or(Stop::Unread)?;
     let units = units.parse::<u64>()?;
     let program = program(alloc, shown)?;
-    let mut dict = start(alloc, &program)?;
-    go_on(alloc, &program, &mut dict, units, to)?;
-    to.push(';')?;
-    Ok(go_on(alloc, &program, &mut dict, 100, to)?)
+    let end = show_cut_run(alloc, &program, units, to);
+    drop(program);
+    Ok(end?)
 }

@@ -1,6 +1,6 @@
 // Searches of models of two decisions, which may be cut and gone on with.
 
-ghost use Rattle.std.specs.Prelude.{◌≡◌, IfOk, false};
+ghost use Rattle.std.specs.Prelude.{◌≡◌, IfOk, IsTrue, false};
 
 use crate::numbers::show_numbers;
 use crate::pickers::Ends;
@@ -12,6 +12,7 @@ use memory::Memory;
 use node_pick::{Best, Depth, Oldest, Picker};
 use std::alloc::Global;
 use std::cell::RefCell;
+use std::mem::drop;
 use std::rc::Rc;
 
 fn show_progress(progress: &Progress, to: &mut String) -> Result<(), Memory> {
@@ -48,6 +49,24 @@ fn search_of(alloc: Global, statement: &str) -> Result<Search, Stop>
     Ok(Search::begin(alloc, model(alloc, 2, statement)?, 1000)?)
 }
 
+// Runs the search for so many units, and answers whether more is to be done; else appends how it ends.
+fn run_once(
+    search: &mut Search,
+    pick: &mut Box<dyn Picker>,
+    units: u64,
+    to: &mut String,
+) -> Result<bool, Memory>
+    requires { search.old.answered ≡ false }
+    ensures { IfOk result (λ more. IsTrue more → search.new.answered ≡ false) }
+{
+    let given = search.run(units, pick);
+    if let Ok(Progress::More) = &given {
+        return Ok(true);
+    }
+    show_given(&given, to)?;
+    Ok(false)
+}
+
 // Runs the search for so many units, then for others again and again, and appends how it ends.
 fn run_to_end(
     search: &mut Search,
@@ -60,15 +79,12 @@ fn run_to_end(
 {
     let (mut units, mut spent) = (first, 0u64);
     for _ in 0..1000 {
-        let given = search.run(units, pick);
-        match &given {
-            Ok(Progress::More) => {
-                spent = spent.saturating_add(units);
-                if search.units() != spent {
-                    return Ok(to.push_str("other units")?);
-                }
-            }
-            _ => return show_given(&given, to),
+        if !run_once(search, pick, units, to)? {
+            return Ok(());
+        }
+        spent = spent.saturating_add(units);
+        if search.units() != spent {
+            return Ok(to.push_str("other units")?);
         }
         units = others;
     }
@@ -85,7 +101,28 @@ fn show_end_by(
 ) -> Result<(), Stop> {
     let mut pick = pick;
     let mut search = search_of(alloc, statement)?;
-    Ok(run_to_end(&mut search, &mut pick, cuts.0, cuts.1, to)?)
+    let end = run_to_end(&mut search, &mut pick, cuts.0, cuts.1, to);
+    drop(search);
+    Ok(end?)
+}
+
+// A picker that takes nodes at the ends of the list, by its name.
+fn ends_of(name: &str) -> Result<Ends, Stop> {
+    match name {
+        "first" => Ok(Ends {
+            last: false,
+            turns: false,
+        }),
+        "last" => Ok(Ends {
+            last: true,
+            turns: false,
+        }),
+        "turns" => Ok(Ends {
+            last: false,
+            turns: true,
+        }),
+        _ => Err(Stop::Unread),
+    }
 }
 
 // The same by a picker that takes nodes at the ends of the list.
@@ -96,21 +133,7 @@ fn show_end_at(
     statement: &str,
     to: &mut String,
 ) -> Result<(), Stop> {
-    let pick = match name {
-        "first" => Ends {
-            last: false,
-            turns: false,
-        },
-        "last" => Ends {
-            last: true,
-            turns: false,
-        },
-        "turns" => Ends {
-            last: false,
-            turns: true,
-        },
-        _ => return Err(Stop::Unread),
-    };
+    let pick = ends_of(name)?;
     show_end_by(alloc, Box::new(alloc, pick)?, cuts, statement, to)
 }
 
@@ -129,6 +152,27 @@ pub(crate) fn search_answer(alloc: Global, shown: &str, to: &mut String) -> Resu
     }
 }
 
+// Sets the budget, runs the search for so many units, appends how far it has come, and answers whether it may go on.
+fn run_step(
+    search: &mut Search,
+    pick: &mut Box<dyn Picker>,
+    budget: u16,
+    units: u64,
+    to: &mut String,
+) -> Result<bool, Memory>
+    requires { search.old.answered ≡ false }
+    ensures { IfOk result (λ goes_on. IsTrue goes_on → search.new.answered ≡ false) }
+{
+    search.set_budget(budget as u64);
+    let given = search.run(units, pick);
+    show_given(&given, to)?;
+    match &given {
+        Ok(Progress::More) => Ok(true),
+        Err(SearchStop::Budget(_)) => Ok(true),
+        _ => Ok(false),
+    }
+}
+
 // Sets the budget before each run, and appends how far the search has come after it.
 fn run_steps(
     search: &mut Search,
@@ -140,15 +184,29 @@ fn run_steps(
 {
     for step in steps.split(' ') {
         let (budget, units) = step.split_once(':').ok_or(Stop::Unread)?;
-        search.set_budget(budget.parse::<u16>()? as u64);
-        let given = search.run(units.parse::<u64>()?, pick);
-        show_given(&given, to)?;
+        let (budget, units) = (budget.parse::<u16>()?, units.parse::<u64>()?);
+        let goes_on = run_step(search, pick, budget, units, to)?;
         to.push_str("; ")?;
-        match &given {
-            Ok(Progress::More) => continue,
-            Err(SearchStop::Budget(_)) => continue,
-            _ => return Ok(()),
+        if !goes_on {
+            return Ok(());
         }
+    }
+    Ok(())
+}
+
+// The same, and where they are asked for the search's units and its decisions.
+fn show_steps(
+    call: &str,
+    search: &mut Search,
+    pick: &mut Box<dyn Picker>,
+    steps: &str,
+    to: &mut String,
+) -> Result<(), Stop>
+    requires { search.old.answered ≡ false }
+{
+    run_steps(search, pick, steps, to)?;
+    if call == "spent" {
+        write!(to, "{} of {}", search.units(), search.model().whole().len())?;
     }
     Ok(())
 }
@@ -164,22 +222,29 @@ pub(crate) fn step_answer(
     let (steps, statement) = shown.split_once(", ").ok_or(Stop::Unread)?;
     let mut pick: Box<dyn Picker> = Box::new(alloc, Depth)?;
     let mut search = search_of(alloc, statement)?;
-    run_steps(&mut search, &mut pick, steps, to)?;
-    if call == "spent" {
-        write!(to, "{} of {}", search.units(), search.model().whole().len())?;
-    }
-    Ok(())
+    let end = show_steps(call, &mut search, &mut pick, steps, to);
+    drop(search);
+    end
 }
 
-/// Appends what the search of a statement tells and asks its picker, and how it ends.
-pub(crate) fn told_answer(alloc: Global, statement: &str, to: &mut String) -> Result<(), Stop> {
-    let heard = Rc::new(alloc, RefCell::new(String::new(alloc)))?;
-    let depth = Depth;
+// Appends how the search of a statement ends whose picker keeps what it hears.
+fn show_recorded(
+    alloc: Global,
+    heard: &Rc<RefCell<String>>,
+    statement: &str,
+    to: &mut String,
+) -> Result<(), Stop> {
     let recording = Recording {
         heard: heard.clone()?,
-        depth,
+        depth: Depth,
     };
-    show_end_by(alloc, Box::new(alloc, recording)?, (2000, 0), statement, to)?;
+    show_end_by(alloc, Box::new(alloc, recording)?, (2000, 0), statement, to)
+}
+
+/// Appends how the search of a statement ends, and what it tells and asks its picker.
+pub(crate) fn told_answer(alloc: Global, statement: &str, to: &mut String) -> Result<(), Stop> {
+    let heard = Rc::new(alloc, RefCell::new(String::new(alloc)))?;
+    show_recorded(alloc, &heard, statement, to)?;
     if let Ok(heard) = heard.try_borrow() {
         to.push_str(heard.as_str())?;
     }

@@ -8,6 +8,25 @@ use affine_forms::Form;
 use frac128::Frac;
 use lin_model::{Condition, Conditions, Goal, LinModel, Relation, linear};
 use std::alloc::Global;
+use std::mem::drop;
+
+// The texts of the parts of a statement: what is wanted, the objective, the rows and the three lists of decisions.
+#[derive(Clone, Copy)]
+struct Parts<'a> {
+    wanted: &'a str,
+    objective: &'a str,
+    rows: &'a str,
+    marks: &'a str,
+}
+
+// What is wanted, and which decisions are whole, which binary, and which have a lower bound of their own.
+#[derive(Drop)]
+struct Marks {
+    goal: Option<Goal>,
+    whole: Vec<u16>,
+    binary: Vec<u16>,
+    explicit: Vec<u16>,
+}
 
 // What a constant is multiplied with at place 0, and a coefficient at another.
 fn unit(alloc: Global, place: u16) -> Form {
@@ -45,6 +64,12 @@ fn sides_of(row: &str) -> Option<(&str, Relation, &str)> {
     Some((left, Relation::Equal, right))
 }
 
+fn both(alloc: Global, left: &str, right: &str) -> Result<(Form, Form), Stop> {
+    let left = form(alloc, left)?;
+    let right = form(alloc, right)?;
+    Ok((left, right))
+}
+
 // Adds a row's condition and its sides.
 fn add_row(
     alloc: Global,
@@ -55,8 +80,7 @@ fn add_row(
     let (own, shown) = row.split_once('|').ok_or(Stop::Unread)?;
     let (left, relation, right) = sides_of(shown).ok_or(Stop::Unread)?;
     conditions.push(Condition::new(own.trim().parse::<u16>().ok(), relation))?;
-    sides.push((form(alloc, left)?, form(alloc, right)?))?;
-    Ok(())
+    Ok(sides.push(both(alloc, left, right)?)?)
 }
 
 fn add_rows(
@@ -82,34 +106,108 @@ fn goal(shown: &str) -> Result<Option<Goal>, Stop> {
     })
 }
 
-// All of a statement but its forms. The marks are the three lists of decisions.
-fn conditions(
-    alloc: Global,
-    decisions: u16,
-    goal: Option<Goal>,
-    rows: Vec<Condition>,
-    marks: &str,
-) -> Result<Conditions, Stop> {
-    let (whole, others) = marks.split_once(':').ok_or(Stop::Unread)?;
+fn parts_of(shown: &str) -> Result<Parts, Stop> {
+    let (first, others) = shown.split_once(':').ok_or(Stop::Unread)?;
+    let (rows, marks) = others.split_once(':').ok_or(Stop::Unread)?;
+    let (wanted, objective) = first.split_once(' ').ok_or(Stop::Unread)?;
+    Ok(Parts {
+        wanted,
+        objective,
+        rows,
+        marks,
+    })
+}
+
+fn marks_of(alloc: Global, of: &Parts) -> Result<Marks, Stop> {
+    let goal = goal(of.wanted)?;
+    let (whole, others) = of.marks.split_once(':').ok_or(Stop::Unread)?;
     let (binary, explicit) = others.split_once(':').ok_or(Stop::Unread)?;
     let whole = places(alloc, whole)?;
     let binary = places(alloc, binary)?;
     let explicit = places(alloc, explicit)?;
-    Ok(Conditions::new(decisions, goal, rows, whole, binary, explicit, true))
+    Ok(Marks {
+        goal,
+        whole,
+        binary,
+        explicit,
+    })
+}
+
+// All of a statement but its forms, over the conditions of its rows.
+fn put_together(
+    alloc: Global,
+    decisions: u16,
+    of: &Parts,
+    rows: Vec<Condition>,
+) -> Result<Conditions, Stop> {
+    let marks = marks_of(alloc, of)?;
+    Ok(Conditions::new(
+        decisions,
+        marks.goal,
+        rows,
+        marks.whole,
+        marks.binary,
+        marks.explicit,
+        true,
+    ))
+}
+
+// The same, and its sides.
+fn conditions(
+    alloc: Global,
+    decisions: u16,
+    of: &Parts,
+    sides: &mut Vec<(Form, Form)>,
+) -> Result<Conditions, Stop> {
+    let mut rows = Vec::new(alloc);
+    add_rows(alloc, of.rows, &mut rows, sides)?;
+    put_together(alloc, decisions, of, rows)
+}
+
+// The model over an objective and sides, where they fit.
+fn model_of(
+    alloc: Global,
+    of: &Conditions,
+    objective: &Form,
+    sides: &[(Form, Form)],
+) -> Result<LinModel, Stop> {
+    if !of.fits(objective, sides) {
+        return Err(Stop::Unread);
+    }
+    Ok(linear(alloc, of, objective, sides)?)
+}
+
+// The model over conditions and sides.
+fn model_over(
+    alloc: Global,
+    conditions: &Conditions,
+    objective: &str,
+    sides: &[(Form, Form)],
+) -> Result<LinModel, Stop> {
+    let objective = form(alloc, objective)?;
+    let model = model_of(alloc, conditions, &objective, sides);
+    drop(objective);
+    model
+}
+
+// The model of a statement in its parts, whose sides are added to a list.
+fn read(
+    alloc: Global,
+    decisions: u16,
+    of: &Parts,
+    sides: &mut Vec<(Form, Form)>,
+) -> Result<LinModel, Stop> {
+    let conditions = conditions(alloc, decisions, of, sides)?;
+    let model = model_over(alloc, &conditions, of.objective, sides);
+    drop(conditions);
+    model
 }
 
 /// The model of a statement.
-pub(crate) fn model(alloc: Global, decisions: u16, statement: &str) -> Result<LinModel, Stop> {
-    let (first, others) = statement.split_once(':').ok_or(Stop::Unread)?;
-    let (shown, marks) = others.split_once(':').ok_or(Stop::Unread)?;
-    let (wanted, objective) = first.split_once(' ').ok_or(Stop::Unread)?;
-    let goal = goal(wanted)?;
-    let (mut rows, mut sides) = (Vec::new(alloc), Vec::new(alloc));
-    add_rows(alloc, shown, &mut rows, &mut sides)?;
-    let of = conditions(alloc, decisions, goal, rows, marks)?;
-    let objective = form(alloc, objective)?;
-    if !of.fits(&objective, &sides) {
-        return Err(Stop::Unread);
-    }
-    Ok(linear(alloc, &of, &objective, &sides)?)
+pub(crate) fn model(alloc: Global, decisions: u16, shown: &str) -> Result<LinModel, Stop> {
+    let of = parts_of(shown)?;
+    let mut sides = Vec::new(alloc);
+    let model = read(alloc, decisions, &of, &mut sides);
+    drop(sides);
+    model
 }
