@@ -1,6 +1,7 @@
 // The linear model of a sheet.
 ghost use Rattle.std.specs.Prelude.{◌≤◌, ◌<◌, IfErr, IfOk, length};
 ghost use Rattle.workbook.specs.declared.adj.TheConstants.{DECISIONS};
+ghost use Rattle.dep_table.specs.References.{AreReferencesOf};
 ghost use Rattle.linear_models.specs.Agreement.{Fits};
 ghost use Rattle.linear_models.specs.Conditions as conditions;
 ghost use Rattle.sheet_linear_model.specs.Answers.{MakesFew, Prepares, StopIsListed};
@@ -10,6 +11,7 @@ ghost use Rattle.sheet_problems.specs.Forms.{conditions_of};
 ghost use Rattle.sheet_problems.specs.Laws.{ModelIsTheSheet};
 ghost use Rattle.solver_names.specs.Answers.{statement_of};
 ghost use Rattle.statement_laws.specs.Laws.{IsWhole};
+ghost use Rattle.workbook.specs.Kinds.{book_of};
 
 use crate::numbers::{objective, sides};
 use crate::prepared::{NoModel, Prepared};
@@ -17,6 +19,7 @@ use crate::stated::{check_forms, settle, statement_or_stop};
 use affine_forms::Form;
 use cell_refs::SheetId;
 use commands::Answer;
+use dep_table::Deps;
 use extract::Steps;
 use extract_incr::Forms;
 use lin_model::{BuildStop, LinModel, linear};
@@ -78,10 +81,12 @@ fn model_over(
 pub fn prepare<L: Ledger>(
     alloc: Global,
     book: &Workbook,
+    deps: &Deps,
     sheet: SheetId,
     steps: &mut Steps<L>,
 ) -> Result<Prepared, NoModel>
     requires listed { sheet.0 < length book.now.sheets }
+    requires references { AreReferencesOf deps.now (book_of book.now) }
     ensures prepares { Prepares book.now sheet.0 result }
     ensures model { IfOk result (λ p. ModelIsTheSheet book.now (statement_of p.statement) p.model) }
     ensures whole { IfOk result (λ p. IsWhole book.now (statement_of p.statement)) }
@@ -90,6 +95,6 @@ pub fn prepare<L: Ledger>(
     ensures bound { MakesFew book.now sheet.0 steps.old steps.new }
 {
     let statement = statement_or_stop(alloc, book, sheet)?;
-    let forms = settle(alloc, book, &statement, steps)?;
+    let forms = settle(alloc, book, deps, &statement, steps)?;
     model_over(alloc, book, statement, &forms)
 }

@@ -1,5 +1,6 @@
 // What the names of a sheet state, the forms that are kept for it, and the first refusal among them.
 ghost use Rattle.std.specs.Prelude.{◌≡◌, ◌≤◌, ◌<◌, ◌+◌, Err, IfErr, IfOk, OnOk, length};
+ghost use Rattle.dep_table.specs.References.{AreReferencesOf};
 ghost use Rattle.extract.specs.Tables.{no_forms};
 ghost use Rattle.form_needs.specs.FirstRefusal.{AllNumbers, IsRefusal};
 ghost use Rattle.form_needs.specs.Needed.{asked_of};
@@ -7,6 +8,7 @@ ghost use Rattle.sheet_linear_model.specs.Answers.{Prepares, StopIsListed, forms
 ghost use Rattle.sheet_linear_model.specs.Inner.{IsKeptFor, IsStatement, stop_of};
 ghost use Rattle.solver_names.specs.Answers.{statement_of};
 ghost use Rattle.solver_names.specs.Sides.{sides_in};
+ghost use Rattle.workbook.specs.Kinds.{book_of};
 
 use crate::prepared::NoModel;
 use crate::roots::roots;
@@ -67,17 +69,18 @@ fn open_forms(alloc: Global, book: &Workbook, of: &Statement) -> Result<Forms, M
 pub(crate) fn settle<L: Ledger>(
     alloc: Global,
     book: &Workbook,
+    deps: &Deps,
     of: &Statement,
     steps: &mut Steps<L>,
 ) -> Result<Forms, Memory>
-    requires { IsStatement book.now (statement_of of.now) }
+    requires statement { IsStatement book.now (statement_of of.now) }
+    requires references { AreReferencesOf deps.now (book_of book.now) }
     ensures kept { IfOk result (λ forms. IsKeptFor book.now (statement_of of.now) forms) }
     ensures counted { steps.old ≤ steps.new }
     ensures bound { steps.new ≤ steps.old + forms_to_make book.now of.now.sheet.0 of.now.adj }
 {
     let mut forms = open_forms(alloc, book, of)?;
-    let deps = Deps::open(alloc, book)?;
-    forms.settle(book, &deps, steps)?;
+    forms.settle(book, deps, steps)?;
     Ok(forms)
 }
 
