@@ -1,4 +1,5 @@
 pub mod Wide
+pub mod Kept
 pub mod Said
 pub mod Ends
 pub mod Cuts

@@ -1,3 +1,4 @@
+pub mod Kept
 pub mod States
 pub mod Edits
 pub mod Models

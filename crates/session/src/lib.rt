@@ -2,6 +2,8 @@
 #![tactic(auto)]
 
 mod edits;
+mod kept_book;
+mod kept_references;
 mod laws;
 mod models;
 mod open_searches;

@@ -1,16 +1,21 @@
 // The models of sheets.
 ghost use Rattle.std.specs.Prelude.{◌≡◌, ◌<◌, ℕ, Err, IfErr, IfOk, length};
 ghost use Rattle.commands.specs.Lines.{CanBeSaid};
+ghost use Rattle.dep_table.specs.References.{AreReferencesOf};
 ghost use Rattle.session.specs.Models.{Models};
 ghost use Rattle.sheet_problems.specs.Laws.{ModelIsTheSheet};
+ghost use Rattle.workbook.specs.Kinds.{book_of};
 ghost use Rattle.workbook.specs.State.{State};
 ghost use Rattle.sheet_linear_model.specs.Answers.{HasNoModel, Prepares, StopIsListed, prepared_of};
 ghost use Rattle.sheet_linear_model.specs.Prepared.{IsPrepared};
 ghost use Rattle.statement_laws.specs.Laws.{IsWhole};
 ghost use Rattle.solver_names.specs.Answers.{statement_of};
 
+use crate::Session;
+use crate::kept_book::KeptBook;
 use cell_refs::SheetId;
 use commands::{Answer, Memory};
+use dep_table::Deps;
 use extract_incr::Steps;
 use sheet_linear_model::{NoModel, Prepared, model_lines, prepare};
 use std::alloc::Global;
@@ -19,14 +24,30 @@ use std::sync::ledger::{Blank, Ledger};
 use workbook::Workbook;
 
 /// The model of a sheet as it is printed, or the first cause why it has none.
-pub(crate) fn model_of(alloc: Global, book: &Workbook, sheet: SheetId) -> Result<Answer, Memory>
-    requires listed { sheet.0 < length book.now.sheets }
-    ensures model { IfOk result (Models book.now sheet.0) }
-    ensures said { IfOk result (CanBeSaid book.now.sheets) }
+pub(crate) fn model_of(alloc: Global, book: &mut KeptBook, sheet: SheetId) -> Result<Answer, Memory>
+    requires listed { sheet.0 < length book.old.sheets }
+    ensures model { IfOk result (Models book.old sheet.0) }
+    ensures said { IfOk result (CanBeSaid book.old.sheets) }
+    ensures same { book.new ≡ book.old }
 {
-    match prepare_sheet(alloc, book, sheet) {
+    match book.prepare(alloc, sheet) {
         Ok(prepared) => Ok(Answer::Model(model_lines(alloc, prepared)?)),
         Err(stop) => answer_without_model(stop),
+    }
+}
+
+impl Session {
+    // The linear model of a sheet, or the first cause why it has none.
+    pub(crate) fn prepare(&mut self, sheet: SheetId) -> Result<Prepared, NoModel>
+        requires listed { sheet.0 < length self.old.state.book.sheets }
+        ensures prepares { Prepares self.old.state.book sheet.0 result }
+        ensures model { IfOk result
+            (λ p. ModelIsTheSheet self.old.state.book (statement_of p.statement) p.model) }
+        ensures whole { IfOk result (λ p. IsWhole self.old.state.book (statement_of p.statement)) }
+        ensures said { IfErr result (StopIsListed self.old.state.book) }
+        ensures same { self.new.state ≡ self.old.state }
+    {
+        self.book.prepare(self.alloc, sheet)
     }
 }
 
@@ -47,15 +68,17 @@ pub(crate) fn answer_without_model(stop: NoModel) -> Result<Answer, Memory>
 pub(crate) fn prepare_sheet(
     alloc: Global,
     book: &Workbook,
+    deps: &Deps,
     sheet: SheetId,
 ) -> Result<Prepared, NoModel>
     requires listed { sheet.0 < length book.now.sheets }
+    requires references { AreReferencesOf deps.now (book_of book.now) }
     ensures prepares { Prepares book.now sheet.0 result }
     ensures model { IfOk result (λ p. ModelIsTheSheet book.now (statement_of p.statement) p.model) }
     ensures whole { IfOk result (λ p. IsWhole book.now (statement_of p.statement)) }
     ensures said { IfErr result (StopIsListed book.now) }
 {
-    prepare_counted::<Brand>(alloc, Blank::new(1), book, sheet)
+    prepare_counted::<Brand>(alloc, Blank::new(1), book, deps, sheet)
 }
 
 // The same with the counter's beginning.
@@ -63,17 +86,19 @@ fn prepare_counted<L: Ledger>(
     alloc: Global,
     blank: Blank,
     book: &Workbook,
+    deps: &Deps,
     sheet: SheetId,
 ) -> Result<Prepared, NoModel>
     requires name { blank.name ≡ L.name }
     requires parts { blank.parts ≡ L.parts }
     requires some { 0 < blank.parts }
     requires listed { sheet.0 < length book.now.sheets }
+    requires references { AreReferencesOf deps.now (book_of book.now) }
     ensures prepares { Prepares book.now sheet.0 result }
     ensures model { IfOk result (λ p. ModelIsTheSheet book.now (statement_of p.statement) p.model) }
     ensures whole { IfOk result (λ p. IsWhole book.now (statement_of p.statement)) }
     ensures said { IfErr result (StopIsListed book.now) }
 {
     let mut steps: Steps<L> = Steps::new(blank);
-    prepare(alloc, book, sheet, &mut steps)
+    prepare(alloc, book, deps, sheet, &mut steps)
 }

@@ -28,7 +28,7 @@ impl Session {
     {
         let mut files = self.changed_files()?;
         if self.changed_names {
-            let bytes = names_file(self.alloc, &self.book)?;
+            let bytes = names_file(self.alloc, self.book.workbook())?;
             files.push(SaveFile::new(None, bytes))?;
         }
         Ok(Answer::ToSave(files))
@@ -46,7 +46,7 @@ impl Session {
             let changed = self.changed_sheets[place];
             if changed {
                 let sheet = SheetId(place as u8);
-                let bytes = sheet_file(self.alloc, &self.book, sheet)?;
+                let bytes = sheet_file(self.alloc, self.book.workbook(), sheet)?;
                 files.push(SaveFile::new(Some(sheet), bytes))?;
             }
         }

@@ -23,15 +23,15 @@ ghost use Rattle.session.specs.States.{IsSession, opened, with_changed};
 ghost use Rattle.session.specs.Steps.{Applies, Does, IsDone, ModelsSheet, Shows, with_text};
 
 use crate::edits::told_fault;
-use crate::models::{answer_without_model, model_of, prepare_sheet};
+use crate::kept_book::KeptBook;
+use crate::models::{answer_without_model, model_of};
 use crate::open_searches::no_searches;
 use cell_refs::{Cell, SheetId, SheetNames};
 use commands::{Answer, Command, MOST_UNITS, Memory, locate};
-use dep_table::Deps;
 use node_pick::Picker;
-use recalc::{Shown, value};
+use recalc::Shown;
 use sheet_linear_model::Prepared;
-use sheet_solving::{OpenSearch, solve};
+use sheet_solving::OpenSearch;
 use std::alloc::Global;
 use std::marker::Model;
 use workbook::{Adj, Workbook};
@@ -41,7 +41,7 @@ use workbook::{Adj, Workbook};
 #[derive(Drop)]
 pub struct Session {
     pub(crate) alloc: Global,
-    pub(crate) book: Workbook,
+    pub(crate) book: KeptBook,
     pub(crate) changed_sheets: Vec<bool>,
     pub(crate) changed_names: bool,
     pub(crate) budget: u64,
@@ -84,7 +84,7 @@ impl Session {
         let searches = no_searches(alloc, book.sheets().len())?;
         Ok(Session {
             alloc,
-            book,
+            book: KeptBook::new(book),
             changed_sheets,
             changed_names: false,
             budget,
@@ -204,12 +204,13 @@ impl Session {
     }
 
     // Shows the cell that is named.
-    fn show(&self, address: &str) -> Result<Answer, Memory>
-        ensures step { IfOk result (λ answer. Does (Shows self.now.state) self.now.state
-            (cell_named self.now.state.book.sheets address.now) answer self.now.state) }
-        ensures said { IfOk result (CanBeSaid self.now.state.book.sheets) }
+    fn show(&mut self, address: &str) -> Result<Answer, Memory>
+        ensures step { IfOk result (λ answer. Does (Shows self.old.state) self.old.state
+            (cell_named self.old.state.book.sheets address.now) answer self.new.state) }
+        ensures said { IfOk result (CanBeSaid self.old.state.book.sheets) }
+        ensures same { self.new.state ≡ self.old.state }
         ensures memory { OnErr result
-            (IsUntouched self.now.state (Show address.now) self.now.state) }
+            (IsUntouched self.old.state (Show address.now) self.new.state) }
     {
         match locate(self.book.sheets(), address) {
             Ok(cell) => self.show_cell(cell),
@@ -218,28 +219,29 @@ impl Session {
     }
 
     // The value of a cell, or the wide cell.
-    fn show_cell(&self, cell: Cell) -> Result<Answer, Memory>
-        ensures step { IfOk result (λ answer. Shows self.now.state cell answer self.now.state) }
-        ensures said { IfOk result (CanBeSaid self.now.state.book.sheets) }
+    fn show_cell(&mut self, cell: Cell) -> Result<Answer, Memory>
+        ensures step { IfOk result (λ answer. Shows self.old.state cell answer self.new.state) }
+        ensures said { IfOk result (CanBeSaid self.old.state.book.sheets) }
+        ensures same { self.new.state ≡ self.old.state }
     {
-        self.book.texts_are_listed();
-        let deps = Deps::open(self.alloc, &self.book)?;
-        match value(self.alloc, &self.book, &deps, cell)? {
+        self.book.workbook().texts_are_listed();
+        match self.book.value(self.alloc, cell)? {
             Shown::Is(value) => Ok(Answer::Shown(value)),
             Shown::Wide(wide) => Ok(Answer::WideCell(wide)),
         }
     }
 
     // The model of the sheet that is named.
-    fn model(&self, name: &str) -> Result<Answer, Memory>
-        ensures step { IfOk result (λ answer. Does (ModelsSheet self.now.state) self.now.state
-            (sheet_named self.now.state.book.sheets name.now) answer self.now.state) }
-        ensures said { IfOk result (CanBeSaid self.now.state.book.sheets) }
+    fn model(&mut self, name: &str) -> Result<Answer, Memory>
+        ensures step { IfOk result (λ answer. Does (ModelsSheet self.old.state) self.old.state
+            (sheet_named self.old.state.book.sheets name.now) answer self.new.state) }
+        ensures said { IfOk result (CanBeSaid self.old.state.book.sheets) }
+        ensures same { self.new.state ≡ self.old.state }
         ensures memory { OnErr result
-            (IsUntouched self.now.state (ToModel name.now) self.now.state) }
+            (IsUntouched self.old.state (ToModel name.now) self.new.state) }
     {
         match self.book.sheets().find(name) {
-            Some(sheet) => model_of(self.alloc, &self.book, sheet),
+            Some(sheet) => model_of(self.alloc, &mut self.book, sheet),
             None => Ok(Answer::UnknownSheet),
         }
     }
@@ -274,7 +276,7 @@ impl Session {
             CanBeSolved (rule pick.old) self.old.state sheet.0 → IsSettled answer) }
         ensures rule { rule pick.new ≡ rule pick.old }
     {
-        match prepare_sheet(self.alloc, &self.book, sheet) {
+        match self.prepare(sheet) {
             Ok(prepared) => self.search(sheet, prepared, pick),
             Err(stop) => answer_without_model(stop),
         }
@@ -302,7 +304,7 @@ impl Session {
         ensures rule { rule pick.new ≡ rule pick.old }
     {
         let adj = prepared.statement.adj.copy()?;
-        let answer = solve(self.alloc, &mut self.book, prepared, self.budget, pick)?;
+        let answer = self.book.solve(self.alloc, prepared, self.budget, pick)?;
         self.mark_written(&adj, &answer);
         Ok(answer)
     }

@@ -16,7 +16,7 @@ ghost use Rattle.solver_names.specs.Answers.{statement_of};
 ghost use Rattle.statement_laws.specs.Laws.{IsWhole};
 
 use crate::Session;
-use crate::models::{answer_without_model, prepare_sheet};
+use crate::models::answer_without_model;
 use crate::open_searches::{
     MOST_SEARCHES, count_others, has_model, has_search, put_search, search_after, take_search,
 };
@@ -24,7 +24,7 @@ use cell_refs::SheetId;
 use commands::{Answer, Memory, units_in};
 use node_pick::Picker;
 use sheet_linear_model::Prepared;
-use sheet_solving::{Allowed, OpenSearch, slice};
+use sheet_solving::{Allowed, OpenSearch};
 use solver_names::Statement;
 
 // ---- opening and closing
@@ -57,7 +57,7 @@ impl Session {
         ensures sheets { self.new.state.book.sheets ≡ self.old.state.book.sheets }
         ensures memory { OnErr result (self.new.state ≡ self.old.state) }
     {
-        match prepare_sheet(self.alloc, &self.book, sheet) {
+        match self.prepare(sheet) {
             Ok(prepared) => self.begin_model(sheet, prepared),
             Err(stop) => answer_without_model(stop),
         }
@@ -147,7 +147,7 @@ impl Session {
             self.old.state (cut sheet.0 units search) self.new.state) }
         ensures rule { rule pick.new ≡ rule pick.old }
     {
-        match prepare_sheet(self.alloc, &self.book, sheet) {
+        match self.prepare(sheet) {
             Ok(prepared) => self.slice_model(sheet, prepared, units, pick),
             Err(stop) => answer_without_model(stop),
         }
@@ -328,7 +328,9 @@ impl Session {
             units,
             budget: self.budget,
         };
-        let answer = slice(self.alloc, &mut self.book, statement, search, allowed, pick)?;
+        let answer = self
+            .book
+            .slice(self.alloc, statement, search, allowed, pick)?;
         self.mark_written(&statement.adj, &answer);
         Ok(answer)
     }

@@ -29,22 +29,31 @@ fn table_of(alloc: Global, formulas: &[(Cell, (Cell, Cell))]) -> Result<Referenc
 fn affected_follows_references(rt: HostRuntime) -> Result<(), Fail> {
     let alloc = rt.alloc();
     // B1 refers to A1:A2, C1 to B1, D1 and E1 to each other, F1 to itself and C1
-    let table = table_of(alloc, &[
-        (cell(1, 0), (cell(0, 0), cell(0, 1))),
-        (cell(2, 0), (cell(1, 0), cell(1, 0))),
-        (cell(3, 0), (cell(4, 0), cell(4, 0))),
-        (cell(4, 0), (cell(3, 0), cell(3, 0))),
-        (cell(5, 0), (cell(2, 0), cell(5, 0))),
-    ])?;
+    let table = table_of(
+        alloc,
+        &[
+            (cell(1, 0), (cell(0, 0), cell(0, 1))),
+            (cell(2, 0), (cell(1, 0), cell(1, 0))),
+            (cell(3, 0), (cell(4, 0), cell(4, 0))),
+            (cell(4, 0), (cell(3, 0), cell(3, 0))),
+            (cell(5, 0), (cell(2, 0), cell(5, 0))),
+        ],
+    )?;
     let mut marks = Marks::new(alloc)?;
     table.affected(cell(0, 1), &mut marks);
-    assert_eq!(rt; marks.cells(), [cell(0, 1), cell(1, 0), cell(2, 0), cell(5, 0)].as_slice());
+    assert_eq!(rt;
+        marks.cells(),
+        [cell(0, 1), cell(1, 0), cell(2, 0), cell(5, 0)].as_slice()
+    );
     assert!(rt; marks.has(cell(2, 0)));
     assert!(rt; !marks.has(cell(3, 0)));
     marks.clear();
     assert_eq!(rt; marks.len(), 0);
     table.affected(cell(4, 0), &mut marks);
-    assert_eq!(rt; marks.cells(), [cell(4, 0), cell(3, 0), cell(5, 0)].as_slice());
+    assert_eq!(rt;
+        marks.cells(),
+        [cell(4, 0), cell(3, 0), cell(5, 0)].as_slice()
+    );
     marks.clear();
     table.affected(cell(0, 2), &mut marks);
     assert_eq!(rt; marks.cells(), [cell(0, 2)].as_slice());
@@ -53,7 +62,11 @@ fn affected_follows_references(rt: HostRuntime) -> Result<(), Fail> {
 
 #[test]
 fn strips_have_their_rows(rt: HostRuntime) -> Result<(), Fail> {
-    let strip = Strip { cell: cell(0, 0), top: 2, bottom: 4 };
+    let strip = Strip {
+        cell: cell(0, 0),
+        top: 2,
+        bottom: 4,
+    };
     assert!(rt; !strip.has_row(1));
     assert!(rt; strip.has_row(2));
     assert!(rt; strip.has_row(4));

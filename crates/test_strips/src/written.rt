@@ -24,7 +24,12 @@ pub(crate) fn area(first: Cell, last: Cell) -> Result<Area, Fail> {
 }
 
 /// A column's strips, as `(1,0):1-3` for the rows 1 to 3 to which B1 refers.
-pub(crate) fn strips_text(alloc: Global, table: &ReferenceTable, sheet: SheetId, col: u16) -> Result<String, Memory> {
+pub(crate) fn strips_text(
+    alloc: Global,
+    table: &ReferenceTable,
+    sheet: SheetId,
+    col: u16,
+) -> Result<String, Memory> {
     let mut text = String::new(alloc);
     for strip in table.strips(sheet, col) {
         let Strip { cell, top, bottom } = *strip;

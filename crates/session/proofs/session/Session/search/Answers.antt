@@ -14,9 +14,9 @@ returns-clause-step g c =
       searches = c.self.inside.searches.items;
     } in
     rw (← c.self.view_is) (
-      c.solve.new.book,
+      c.solve.new.self,
       c.in_ok-answer.ensures.solves,
-      c.mark_written.ensures ∙ ap (λ (cells : List Cell). with_written c.in_ok-answer.answer cells (with_book before c.solve.new.book)) c.in_ok-adj.ensures,
+      c.mark_written.ensures ∙ ap (λ (cells : List Cell). with_written c.in_ok-answer.answer cells (with_book before c.solve.new.self)) c.in_ok-adj.ensures,
     )
 
 pub returns-clause-enough : goal.returns-clause-enough

@@ -1,8 +1,8 @@
-use Rattle.std.proofs.Common.{Err, subst}
-use Rattle.sheet_linear_model.specs.Answers.{Prepares, prepared_of}
+use Rattle.std.proofs.Common.{subst, sym}
+use Rattle.sheet_linear_model.specs.Answers.{prepared_of}
 use Rattle.sheet_linear_model.specs.Prepared.{IsPrepared}
 use Rattle.session.specs.Cuts.{cut}
-use Rattle.session.specs.States.{Session}
+use Rattle.session.specs.States.{SessionState}
 use Rattle.session.proofs.Cuts.{slices_sheet}
 use Rattle.session.proofs.Ends.{none_sliced}
 use Rattle.session.proofs.Said.{if_ok_map}
@@ -10,14 +10,15 @@ use Rattle.session.proofs.session.Session.slice_sheet.Goals as goal
 
 pub returns-in-Ok-clause-step : goal.returns-in-Ok-clause-step
 returns-in-Ok-clause-step g c =
-    let prepares = subst (λ (session : Session). IsPrepared session.state.book c.args.sheet.0 (prepared_of c.in-Ok.prepared)) c.self.view_is c.in-Ok.ensures.prepares in
-    if_ok_map c.slice_model.result _ _ (λ a h search is. slices_sheet _ c.args.self.now.state (cut c.args.sheet.0 c.args.units search) (prepared_of c.in-Ok.prepared) a _ prepares (h search is)) c.slice_model.ensures.step
+    let prepares = subst (λ (s : SessionState). IsPrepared s.book c.args.sheet.0 (prepared_of c.in-Ok.prepared)) (sym c.prepare.ensures.same) c.in-Ok.ensures.prepares in
+    rw (← c.prepare.ensures.same)
+    (if_ok_map c.slice_model.result _ _ (λ a h search is. slices_sheet _ c.prepare.new.self.state (cut c.args.sheet.0 c.args.units search) (prepared_of c.in-Ok.prepared) a _ prepares (h search is)) c.slice_model.ensures.step)
 
 pub returns-in-Err-clause-step : goal.returns-in-Err-clause-step
 returns-in-Err-clause-step g c =
-    let prepares = subst (λ (session : Session). Prepares session.state.book c.args.sheet.0 (Err c.in-Err.stop)) c.self.view_is c.in-Err.ensures.prepares in
-    none_sliced c.args.self.now.state c.args.sheet.0 c.in-Err.stop c.answer_without_model.result prepares c.answer_without_model.ensures.none _ c.args.units
+    rw c.prepare.ensures.same
+    (none_sliced c.args.self.now.state c.args.sheet.0 c.in-Err.stop c.answer_without_model.result c.in-Err.ensures.prepares c.answer_without_model.ensures.none _ c.args.units)
 
 pub returns-in-Err-clause-said : goal.returns-in-Err-clause-said
 returns-in-Err-clause-said g c =
-    rw (← c.self.view_is) (if_ok_map c.answer_without_model.result _ _ (λ a h. h c.self.inside.book c.args.sheet.0 c.in-Err.ensures.prepares c.in-Err.ensures.said) c.answer_without_model.ensures.said)
+    if_ok_map c.answer_without_model.result _ _ (λ a h. h c.args.self.now.state.book c.args.sheet.0 c.in-Err.ensures.prepares c.in-Err.ensures.said) c.answer_without_model.ensures.said

@@ -18,4 +18,4 @@ returns-clause-further g c =
     further_by _ c.args.units c.self.inside.budget c.args.self.now.state.budget c.args.search.now c.slice.new.search (ap (λ (x : Session). x.state.budget) c.self.view_is) c.slice.ensures.further
 
 pub returns-clause-step : goal.returns-clause-step
-returns-clause-step g c = rw (← c.self.view_is) (c.slice.new.book, c.in_ok-answer.ensures.slices, c.mark_written.ensures)
+returns-clause-step g c = rw (← c.self.view_is) (c.slice.new.self, c.in_ok-answer.ensures.slices, c.mark_written.ensures)

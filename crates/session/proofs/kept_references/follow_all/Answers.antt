@@ -1,0 +1,20 @@
+use Rattle.std.proofs.Common.{◌+◌, List, drop, subst, sym}
+use Rattle.std.proofs.lemmas.List.{drop_all, drop_more}
+use Rattle.cell_refs.specs.declared.cell.Cell.{Cell}
+use Rattle.session.specs.Kept.{AreKeptBut}
+use Rattle.session.proofs.Kept.{all_followed, one_followed}
+use Rattle.session.proofs.kept_references.follow_all.Goals as goal
+
+pub loop-cell-preserved : goal.loop-cell-preserved
+loop-cell-preserved c =
+    let book = c.args.book.now in
+    let cells = c.args.cells.now in
+    let left = drop (c.loop-cell.cell-index + 1) cells in
+    subst (AreKeptBut left book) (sym c.in_ok-follow.ensures)
+    (one_followed book _ left c.loop-cell.deps
+    (subst (λ (cells : List Cell). AreKeptBut cells book c.loop-cell.deps) (drop_more cells c.loop-cell.cell-index _ c.loop-cell-test.true) c.loop-cell.invariant))
+
+pub returns : goal.returns
+returns c =
+    all_followed c.args.book.now c.loop-cell.deps
+    (subst (λ (cells : List Cell). AreKeptBut cells c.args.book.now c.loop-cell.deps) (drop_all c.loop-cell.cell-index c.args.cells.now c.loop-cell-test.false) c.loop-cell.invariant)

@@ -1,0 +1,50 @@
+// References that are kept of a workbook and follow what its cells say.
+ghost use Rattle.std.specs.Prelude.{◌≡◌, IfSome, OnOk};
+ghost use Rattle.dep_table.specs.References.{AreReferencesOf, areas_said};
+ghost use Rattle.recalculation.specs.Entries.{entry};
+ghost use Rattle.session.specs.Kept.{AreKept, AreKeptBut, with_areas};
+ghost use Rattle.workbook.specs.Kinds.{book_of};
+
+use cell_refs::{Cell, TEXTS};
+use commands::Memory;
+use dep_table::Deps;
+use workbook::Workbook;
+
+/// Brings references up to date with what these cells say; where there is no memory for that, none are left.
+pub(crate) fn followed(kept: Option<Deps>, book: &Workbook, cells: &[Cell]) -> Option<Deps>
+    requires { IfSome kept (AreKeptBut cells.now book.now) }
+    ensures { AreKept result book.now }
+{
+    let mut deps = kept?;
+    match follow_all(&mut deps, book, cells) {
+        Ok(()) => Some(deps),
+        Err(_) => None,
+    }
+}
+
+// Keeps the references of what each of these cells says.
+fn follow_all(deps: &mut Deps, book: &Workbook, cells: &[Cell]) -> Result<(), Memory>
+    requires { AreKeptBut cells.now book.now deps.old }
+    ensures { OnOk result (AreReferencesOf deps.new (book_of book.now)) }
+{
+    for cell in cells {
+        follow(deps, book, *cell)?;
+    }
+    Ok(())
+}
+
+// Keeps the references of what a cell says, in the place of those that were kept for it. There are never so many formulas that the
+// references of one more would be too many.
+fn follow(deps: &mut Deps, book: &Workbook, cell: Cell) -> Result<(), Memory>
+    ensures { OnOk result (deps.new
+        ≡ with_areas deps.old cell (areas_said (entry (book_of book.now) cell))) }
+{
+    let Some(tree) = book.tree(cell) else {
+        deps.take(cell);
+        return Ok(());
+    };
+    if deps.len() >= TEXTS {
+        return Err(Memory);
+    }
+    deps.put(cell, tree)
+}
