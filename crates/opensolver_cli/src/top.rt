@@ -1,5 +1,5 @@
 // The top call.
-ghost use Rattle.std.specs.Prelude.{◌≡◌, ◌<◌, ◌≤◌, All, Some, length, map, string_bytes, true};
+ghost use Rattle.std.specs.Prelude.{◌≡◌, ◌<◌, ◌≤◌, All, Some, length, map, option_map, slice_get, string_bytes, true};
 ghost use Rattle.commands.specs.declared.units.TheConstants.{MOST_UNITS};
 ghost use Rattle.opensolver_cli.specs.Answering.{IsSinkFault, Says};
 ghost use Rattle.opensolver_cli.specs.Completeness.{EndsExactly, IsComplete};
@@ -77,16 +77,32 @@ pub fn run<F: Folder, S: Source, K: Sink>(
     }
 }
 
-// The picker that is asked for; the others are let go.
+// The picker at a place, where there is one; the others are let go.
+fn picker_at(pickers: Vec<Box<dyn Picker>>, place: usize) -> Option<Box<dyn Picker>>
+    ensures { option_map (λ p. rule p) result
+        ≡ slice_get (map (λ p. rule p) pickers.items) place }
+{
+    let mut pickers = pickers;
+    if place < pickers.len() {
+        Some(pickers.swap_remove(place))
+    } else {
+        None
+    }
+}
+
+// The picker that is asked for.
 fn picker_of(pickers: Vec<Box<dyn Picker>>, pick: Pick) -> Box<dyn Picker>
     requires three { length pickers.items ≡ 3 }
     ensures { rule result ≡ rule_of (map (λ p. rule p) pickers.items) (pick_read pick) }
 {
-    let mut pickers = pickers;
-    match pick {
-        Pick::Depth => pickers.swap_remove(0),
-        Pick::Best => pickers.swap_remove(1),
-        Pick::Oldest => pickers.swap_remove(2),
+    let place = match pick {
+        Pick::Depth => 0,
+        Pick::Best => 1,
+        Pick::Oldest => 2,
+    };
+    match picker_at(pickers, place) {
+        Some(picker) => picker,
+        None => unreachable!(),
     }
 }
 
