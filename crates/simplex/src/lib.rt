@@ -11,5 +11,5 @@ mod runs;
 
 pub use answer::{LpAnswer, LpStop};
 pub use choose::{Next, choose_next};
-pub use read::{cell_change, cell_value, direction, point, row_multipliers};
+pub use read::{cell_change, cell_value, column_with, direction, point, row_multipliers};
 pub use runs::{Work, make_pivot, resume, solve};
