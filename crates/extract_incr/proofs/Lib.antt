@@ -1,2 +1,4 @@
 pub mod Counting
 pub mod Settling
+pub mod Taken
+mod Keeping

@@ -122,7 +122,7 @@ module _ (book : Book) (adj : List Cell) (sides : Sides) where
       (sym (contains_key-keys book.texts a) ∙ formula_text book a h.0)
 
   -- so is a side
-  side_found : (k : ℕ) → IsSome (tree_of sides k) → (i : ℕ) × (s : ℕ × Tree) × (slice_get sides i ≡ Some s) × (s.0 ≡ k)
+  pub side_found : (k : ℕ) → IsSome (tree_of sides k) → (i : ℕ) × (s : ℕ × Tree) × (slice_get sides i ≡ Some s) × (s.0 ≡ k)
   side_found k h = by (find (λ (s : ℕ × Tree). s.0 == k) sides) refl h
     where
       by : (o : Option (ℕ × Tree)) → find (λ (s : ℕ × Tree). s.0 == k) sides ≡ o → IsSome (option_map (λ (s : ℕ × Tree). s.1) o) → (i : ℕ) × (s : ℕ × Tree) × (slice_get sides i ≡ Some s) × (s.0 ≡ k)

@@ -1,2 +1,4 @@
 pub mod Keeping
 pub mod Settling
+pub mod Marking
+pub mod Laws

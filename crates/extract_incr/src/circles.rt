@@ -28,8 +28,8 @@ pub(crate) fn refers_to_circle(
     Ok(is_any_within(areas.as_slice(), circular))
 }
 
-// Whether one of some cells is within one of some areas.
-fn is_any_within(areas: &[Area], cells: &[Cell]) -> bool
+/// Whether one of some cells is within one of some areas.
+pub(crate) fn is_any_within(areas: &[Area], cells: &[Cell]) -> bool
     ensures { result ≡ list_any (λ b. list_any (λ area. within area b) areas.now) cells.now }
 {
     cells.iter().any(|cell| is_within(areas, *cell))

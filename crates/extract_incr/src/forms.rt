@@ -3,11 +3,19 @@ ghost use Rattle.std.specs.Prelude.{◌≡◌, ◌≤◌, ◌+◌, All, IfOk, No
 ghost use Rattle.dep_table.specs.References.{AreReferencesOf};
 ghost use Rattle.extract.specs.Tables.{form_at, no_forms};
 ghost use Rattle.form_needs.specs.FirstRefusal.{IsRefusal};
+ghost use Rattle.kept_marks.specs.Marks.{without_marked};
 ghost use Rattle.extract_incr.specs.Keeping.{AllAreKept, AreKept, GrowsTo, HaveOwnNumbers, asked_from, count_to_make, stale_count};
 ghost use Rattle.needed_cells.specs.Settled.{IsRoot};
+ghost use Rattle.recalculation.specs.Entries.{Book};
+ghost use Rattle.sheet_problems.specs.Places.{tree_of};
+ghost use Rattle.touched_places.specs.Tests.{touches};
 ghost use Rattle.workbook.specs.Kinds.{book_of};
+ghost use Rattle.workbook.specs.declared.place.Place.{Place};
 
+use crate::marking::{SideAreas, areas_of, take_cells, take_sides};
 use crate::settle::settle;
+use cell_refs::Cell;
+use column_strips::Marks;
 use dep_table::Deps;
 use extract::{FormTable, Steps};
 use form_extraction::CellForm;
@@ -20,13 +28,16 @@ use std::marker::Model;
 use std::sync::ledger::Ledger;
 use workbook::{Adj, Place, Workbook};
 
-/// The forms of some formula cells and of some sides, over the cells to be decided.
+/// The forms of some formula cells and of some sides, over the cells to be decided. The areas of the sides and the marks are there
+/// so that a mark needs no memory.
 #[derive(Drop)]
 pub struct Forms {
     alloc: Global,
     adj: Adj,
     sides: Vec<(u16, Expr)>,
     table: FormTable,
+    areas: Vec<SideAreas>,
+    marks: Marks,
 }
 
 impl Model for Forms {
@@ -40,6 +51,7 @@ impl Model for Forms {
     ghost use Rattle.formula_ast.specs.Tree.{Tree};
     ghost use Rattle.form_extraction.specs.declared.forms.CellForm.{CellForm};
     ghost use Rattle.extract_incr.specs.Keeping.{HaveOwnNumbers, Kept};
+    ghost use Rattle.extract_incr.specs.Marking.{AreAreasOf};
 
     ghost Value = { Kept };
 
@@ -56,22 +68,44 @@ impl Model for Forms {
 
     ghost view = { λ f. record { decisions = f.adj; sides = f.sides.items; table = f.table } };
 
-    ghost invariant = { λ f. HaveOwnNumbers f.sides.items };
+    ghost invariant = { λ f. HaveOwnNumbers f.sides.items
+        × AreAreasOf f.areas.items f.sides.items };
 }
 
 impl Forms {
-    /// No form is kept yet.
+    /// No form is kept yet. It takes all the memory that marks will ever need.
     pub fn open(alloc: Global, adj: &Adj, sides: Vec<(u16, Expr)>) -> Result<Forms, Memory>
         requires numbers { HaveOwnNumbers sides.items }
         ensures { IfOk result (λ forms. forms
             ≡ record { decisions = adj.now; sides = sides.items; table = no_forms }) }
     {
+        let adj = adj.copy()?;
+        let areas = areas_of(alloc, &sides)?;
+        let marks = Marks::new(alloc)?;
         Ok(Forms {
             alloc,
-            adj: adj.copy()?,
+            adj,
             sides,
             table: FormTable::new(alloc),
+            areas,
+            marks,
         })
+    }
+
+    /// Drops the forms of the places that an edit of a cell touches: of the cell, of the cells that reach it, and of the sides that refer
+    /// to one of these. It takes no memory.
+    pub fn mark(&mut self, deps: &Deps, cell: Cell)
+        ensures forms { (book : Book) → AreReferencesOf deps.now book → (p : Place)
+            → form_at self.new.table p ≡ without_marked
+            (touches book (tree_of self.old.sides) cell) (form_at self.old.table) p }
+        ensures decisions { self.new.decisions ≡ self.old.decisions }
+        ensures sides { self.new.sides ≡ self.old.sides }
+    {
+        self.marks.clear();
+        deps.affected(cell, &mut self.marks);
+        let cells = self.marks.cells();
+        take_cells(cells, &mut self.table);
+        take_sides(&self.areas, cells, &mut self.table);
     }
 
     /// Makes the forms of all stale places, each once, and answers how many places were stale. A form is a step, but for those of
@@ -102,6 +136,20 @@ impl Forms {
             steps,
         )?;
         Ok(self.table.len() - before)
+    }
+
+    /// The cells to be decided.
+    pub fn decisions(&self) -> &Adj
+        ensures { result.now ≡ self.now.decisions }
+    {
+        &self.adj
+    }
+
+    /// The sides.
+    pub fn sides(&self) -> &[(u16, Expr)]
+        ensures { result.now ≡ self.now.sides }
+    {
+        &self.sides
     }
 
     /// The form of a place, where one is kept.

@@ -3,9 +3,17 @@
 
 mod circles;
 mod forms;
+mod marking;
 mod settle;
 mod stale;
+
+ghost use Rattle.extract_incr.specs.Laws.{EditsLeaveKept};
 
 pub use extract::Steps;
 pub use form_needs::FormRefusal;
 pub use forms::Forms;
+
+/// What is kept stays right while cells are edited, where each edited cell is marked that isn't to be decided.
+pub fn keeping_laws()
+    ensures edits { EditsLeaveKept }
+{}
