@@ -1,5 +1,5 @@
 pub mod Opening
-pub mod Steps
+pub mod Settled
 pub mod FormNumbers
 pub mod Rooted
 pub mod Refusals

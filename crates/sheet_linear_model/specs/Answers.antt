@@ -1,13 +1,16 @@
 -- What is answered of a sheet: its linear model, or why it has none.
-use Rattle.std.specs.Prelude.{◌≡◌, ◌+◌, ◌≤◌, ℕ, List, MatchResult, Result, Ok, Err, ⊤}
-use Rattle.cell_refs.specs.declared.cell.Cell.{Cell}
+use Rattle.std.specs.Prelude.{◌≡◌, ℕ, Bool, List, Option, Some, None, Result, Ok, Err, ⊤}
 use Rattle.workbook.specs.Kinds.{book_of}
 use Rattle.workbook.specs.State.{State}
-use Rattle.extract.specs.Tables.{no_forms}
-use Rattle.extract_incr.specs.Keeping.{count_to_make}
+use Rattle.extract_incr.specs.Keeping.{Kept}
+use Rattle.form_tables.specs.Settling.{Settles}
+use Rattle.form_tables.specs.Tables.{SheetKept, all_forms}
+use Rattle.kept_tables.specs.Settled.{Parts}
+use Rattle.kept_tables.specs.Steps.{MakesFew}
 use Rattle.solver_names.specs.Answers.{Answers, statement_of}
 use Rattle.solver_names.specs.Sides.{sides_in}
 use Rattle.solver_names.specs.Stated.{statement_in}
+use Rattle.solver_names.specs.Statement.{Statement}
 use Rattle.solver_names.specs.declared.fault.NamesFault.{NamesFault}
 use Rattle.solver_names.specs.declared.fault.NamesFault.TheVariants as told
 use Rattle.commands.specs.Lines.{CanBeSaid}
@@ -38,15 +41,33 @@ Prepares book sheet (Ok p) = IsPrepared book sheet (prepared_of p)
 Prepares book sheet (Err (none.Refused a)) = HasNoModel book sheet a
 Prepares book sheet (Err none.Memory) = ⊤
 
--- ---- steps
--- how many forms there are to make: one for each formula cell that isn't to be decided, and one for each side, but for circular ones
-abbrev pub forms_to_make : State → ℕ → List Cell → ℕ
-forms_to_make book sheet decisions = count_to_make (book_of book) (record { decisions = decisions; sides = sides_in book sheet; table = no_forms })
+-- ---- forms that are kept
+-- what the names of a sheet give to those that keep forms: its decision cells, and the right sides that are expressions
+abbrev pub parts_stated : State → ℕ → Statement → Parts
+parts_stated book sheet s = record { decisions = s.decisions; sides = sides_in book sheet }
 
--- no step where the names have a fault, and else at most one for each form that there is to make
-abbrev pub MakesFew : State → ℕ → ℕ → ℕ → Type 0
-MakesFew book sheet before after =
-    MatchResult (statement_in book sheet) (λ s. after ≤ before + forms_to_make book sheet s.decisions) (λ f. after ≡ before)
+abbrev pub parts_or : {E : Type 0} → State → ℕ → Result Statement E → Option Parts
+parts_or book sheet (Ok s) = Some (parts_stated book sheet s)
+parts_or book sheet (Err fault) = None
+
+-- nothing, where they have a fault
+abbrev pub parts_in : State → ℕ → Option Parts
+parts_in book sheet = parts_or book sheet (statement_in book sheet)
+
+-- all forms are there for what the names give; where they give nothing, the tables are as they were
+abbrev pub AreSettled : State → (ℕ → Bool) → ℕ → Option Parts → List SheetKept → List SheetKept → Type 0
+AreSettled book searching sheet (Some parts) before after = (once : Option Kept) × Settles (book_of book) searching sheet parts before after once
+AreSettled book searching sheet None before after = after ≡ before
+
+-- so it is where something else is answered than want of memory
+abbrev pub SettlesForms : State → (ℕ → Bool) → ℕ → Result Declared NoModel → List SheetKept → List SheetKept → Type 0
+SettlesForms book searching sheet (Err none.Memory) before after = ⊤
+SettlesForms book searching sheet _ before after = AreSettled book searching sheet (parts_in book sheet) before after
+
+-- no step where the names have a fault, and else at most one for each place that wasn't settled
+abbrev pub CountsFew : State → List SheetKept → ℕ → Option Parts → ℕ → Type 0
+CountsFew book tables sheet (Some parts) steps = MakesFew (book_of book) (all_forms tables) sheet parts steps
+CountsFew book tables sheet None steps = steps ≡ 0
 
 -- ---- cells in them lie on the sheets
 abbrev pub StopIsListed : State → NoModel → Type 0

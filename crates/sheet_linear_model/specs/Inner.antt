@@ -29,6 +29,7 @@ use Rattle.statement_laws.specs.Laws.{IsWhole}
 use Rattle.needed_cells.specs.Settled.{IsSettled}
 use Rattle.extract_incr.specs.Keeping.{Kept}
 use Rattle.commands.specs.declared.answer.Answer.TheVariants as answer
+use Rattle.sheet_linear_model.specs.Answers.{parts_in}
 use Rattle.sheet_linear_model.specs.declared.prepared.NoModel.{NoModel}
 use Rattle.sheet_linear_model.specs.declared.prepared.NoModel.TheVariants as none
 
@@ -50,6 +51,11 @@ pub record IsKeptFor (book : State) (s : Statement) (k : Kept) : Type 0 where
 abbrev pub stop_of : NamesFault → NoModel
 stop_of told.Memory = none.Memory
 stop_of e = none.Refused (answer.Names e)
+
+-- the names have a fault, and give nothing to those that keep forms
+abbrev pub GivesNone : State → ℕ → NoModel → Type 0
+GivesNone book sheet none.Memory = ⊤
+GivesNone book sheet (none.Refused a) = parts_in book sheet ≡ None
 
 -- ---- forms as numbers
 -- the number that a form is, where it is one

@@ -1,10 +1,12 @@
 // The linear model of a sheet.
-ghost use Rattle.std.specs.Prelude.{◌≤◌, ◌<◌, IfErr, IfOk, length};
+ghost use Rattle.std.specs.Prelude.{◌≤◌, ◌<◌, ◌-◌, IfErr, IfOk, length};
 ghost use Rattle.workbook.specs.declared.adj.TheConstants.{DECISIONS};
 ghost use Rattle.dep_table.specs.References.{AreReferencesOf};
 ghost use Rattle.linear_models.specs.Agreement.{Fits};
 ghost use Rattle.linear_models.specs.Conditions as conditions;
-ghost use Rattle.sheet_linear_model.specs.Answers.{MakesFew, Prepares, StopIsListed};
+ghost use Rattle.form_tables.specs.Tables.{all_forms, is_searching};
+ghost use Rattle.kept_tables.specs.Settled.{AreRight};
+ghost use Rattle.sheet_linear_model.specs.Answers.{CountsFew, Prepares, SettlesForms, StopIsListed, parts_in};
 ghost use Rattle.sheet_linear_model.specs.Inner.{IsKeptFor, IsModelled, IsStatement};
 ghost use Rattle.sheet_linear_model.specs.Prepared.{rows_of};
 ghost use Rattle.sheet_problems.specs.Forms.{conditions_of};
@@ -19,9 +21,7 @@ use crate::stated::{check_forms, settle, statement_or_stop};
 use affine_forms::Form;
 use cell_refs::SheetId;
 use commands::Answer;
-use dep_table::Deps;
-use extract::Steps;
-use extract_incr::Forms;
+use form_tables::{FormTables, Forms, Linked, Steps};
 use lin_model::{BuildStop, LinModel, linear};
 use model_building::conditions;
 use solver_names::Statement;
@@ -77,24 +77,36 @@ fn model_over(
 }
 
 /// What the names of a sheet state, as a linear model; or the first cause why there is none: a fault of the names, then the first
-/// refusal of a needed place, then the first row that isn't narrow. Each form that is made is one step.
+/// refusal of a needed place, then the first row that isn't narrow. The forms that are missing are made, each of them is one step, and
+/// they are kept in the table of the sheet.
 pub fn prepare<L: Ledger>(
     alloc: Global,
-    book: &Workbook,
-    deps: &Deps,
+    linked: &Linked<'_>,
     sheet: SheetId,
+    tables: &mut FormTables,
+    searching: &[bool],
     steps: &mut Steps<L>,
 ) -> Result<Prepared, NoModel>
-    requires listed { sheet.0 < length book.now.sheets }
-    requires references { AreReferencesOf deps.now (book_of book.now) }
-    ensures prepares { Prepares book.now sheet.0 result }
-    ensures model { IfOk result (λ p. ModelIsTheSheet book.now (statement_of p.statement) p.model) }
-    ensures whole { IfOk result (λ p. IsWhole book.now (statement_of p.statement)) }
-    ensures said { IfErr result (StopIsListed book.now) }
+    requires listed { sheet.0 < length linked.now.book.now.sheets }
+    requires searching { sheet.0 < length searching.now }
+    requires references { AreReferencesOf linked.now.deps.now (book_of linked.now.book.now) }
+    requires right { AreRight (book_of linked.now.book.now) (all_forms tables.old) }
+    ensures prepares { Prepares linked.now.book.now sheet.0 result }
+    ensures model { IfOk result
+        (λ p. ModelIsTheSheet linked.now.book.now (statement_of p.statement) p.model) }
+    ensures whole { IfOk result (λ p. IsWhole linked.now.book.now (statement_of p.statement)) }
+    ensures said { IfErr result (StopIsListed linked.now.book.now) }
+    ensures settles { SettlesForms linked.now.book.now (is_searching searching.now) sheet.0
+        result tables.old tables.new }
+    ensures right { AreRight (book_of linked.now.book.now) (all_forms tables.new) }
     ensures counted { steps.old ≤ steps.new }
-    ensures bound { MakesFew book.now sheet.0 steps.old steps.new }
+    ensures few { CountsFew linked.now.book.now tables.old sheet.0
+        (parts_in linked.now.book.now sheet.0) (steps.new - steps.old) }
 {
-    let statement = statement_or_stop(alloc, book, sheet)?;
-    let forms = settle(alloc, book, deps, &statement, steps)?;
-    model_over(alloc, book, statement, &forms)
+    let statement = statement_or_stop(alloc, linked.book, sheet)?;
+    let once = settle(alloc, linked, &statement, tables, searching, steps)?;
+    match tables.settled(sheet, &once) {
+        Some(forms) => model_over(alloc, linked.book, statement, forms),
+        None => unreachable!(),
+    }
 }

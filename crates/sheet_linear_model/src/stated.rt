@@ -1,23 +1,23 @@
 // What the names of a sheet state, the forms that are kept for it, and the first refusal among them.
-ghost use Rattle.std.specs.Prelude.{◌≡◌, ◌≤◌, ◌<◌, ◌+◌, Err, IfErr, IfOk, OnOk, length};
+ghost use Rattle.std.specs.Prelude.{◌≡◌, ◌≤◌, ◌<◌, ◌-◌, Err, IfErr, IfOk, OnOk, length};
 ghost use Rattle.dep_table.specs.References.{AreReferencesOf};
-ghost use Rattle.extract.specs.Tables.{no_forms};
 ghost use Rattle.form_needs.specs.FirstRefusal.{AllNumbers, IsRefusal};
 ghost use Rattle.form_needs.specs.Needed.{asked_of};
-ghost use Rattle.sheet_linear_model.specs.Answers.{Prepares, StopIsListed, forms_to_make};
-ghost use Rattle.sheet_linear_model.specs.Inner.{IsKeptFor, IsStatement, stop_of};
+ghost use Rattle.form_tables.specs.Settling.{Settles};
+ghost use Rattle.form_tables.specs.Tables.{all_forms, is_searching};
+ghost use Rattle.kept_tables.specs.Settled.{AreRight};
+ghost use Rattle.kept_tables.specs.Steps.{MakesFew};
+ghost use Rattle.sheet_linear_model.specs.Answers.{Prepares, StopIsListed, parts_stated};
+ghost use Rattle.sheet_linear_model.specs.Inner.{GivesNone, IsKeptFor, IsStatement, stop_of};
 ghost use Rattle.solver_names.specs.Answers.{statement_of};
-ghost use Rattle.solver_names.specs.Sides.{sides_in};
 ghost use Rattle.workbook.specs.Kinds.{book_of};
 
 use crate::prepared::NoModel;
 use crate::roots::roots;
 use cell_refs::SheetId;
 use commands::Answer;
-use dep_table::Deps;
-use extract::Steps;
-use extract_incr::Forms;
 use form_needs::FormRefusal;
+use form_tables::{FormTables, Forms, Linked, Steps};
 use memory::Memory;
 use solver_names::{NamesFault, Statement, side_trees, statement};
 use std::alloc::Global;
@@ -44,6 +44,7 @@ pub(crate) fn statement_or_stop(
     ensures statement { IfOk result (λ s. IsStatement book.now (statement_of s)) }
     ensures sheet { IfOk result (λ s. s.sheet ≡ sheet) }
     ensures fault { IfErr result (λ e. Prepares book.now sheet.0 (Err e)) }
+    ensures none { IfErr result (GivesNone book.now sheet.0) }
     ensures said { IfErr result (StopIsListed book.now) }
 {
     match statement(alloc, book, sheet) {
@@ -52,36 +53,30 @@ pub(crate) fn statement_or_stop(
     }
 }
 
-// No form is kept yet for what is stated.
-fn open_forms(alloc: Global, book: &Workbook, of: &Statement) -> Result<Forms, Memory>
-    requires { IsStatement book.now (statement_of of.now) }
-    ensures { IfOk result (λ forms. forms ≡ record {
-      decisions = of.now.adj;
-      sides = sides_in book.now of.now.sheet.0;
-      table = no_forms;
-    }) }
-{
-    let sides = side_trees(alloc, book, of)?;
-    Forms::open(alloc, &of.adj, sides)
-}
-
-/// The forms of all formulas, and of all sides, each made once.
+/// Makes the forms of formulas and sides that are missing, in the table of the sheet; or all of them, where there is no place for one.
 pub(crate) fn settle<L: Ledger>(
     alloc: Global,
-    book: &Workbook,
-    deps: &Deps,
+    linked: &Linked<'_>,
     of: &Statement,
+    tables: &mut FormTables,
+    searching: &[bool],
     steps: &mut Steps<L>,
-) -> Result<Forms, Memory>
-    requires statement { IsStatement book.now (statement_of of.now) }
-    requires references { AreReferencesOf deps.now (book_of book.now) }
-    ensures kept { IfOk result (λ forms. IsKeptFor book.now (statement_of of.now) forms) }
+) -> Result<Option<Forms>, Memory>
+    requires statement { IsStatement linked.now.book.now (statement_of of.now) }
+    requires references { AreReferencesOf linked.now.deps.now (book_of linked.now.book.now) }
+    requires right { AreRight (book_of linked.now.book.now) (all_forms tables.old) }
+    requires listed { of.now.sheet.0 < length searching.now }
+    ensures settled { IfOk result (Settles (book_of linked.now.book.now)
+        (is_searching searching.now) of.now.sheet.0 (parts_stated linked.now.book.now
+        of.now.sheet.0 (statement_of of.now)) tables.old tables.new) }
+    ensures right { AreRight (book_of linked.now.book.now) (all_forms tables.new) }
     ensures counted { steps.old ≤ steps.new }
-    ensures bound { steps.new ≤ steps.old + forms_to_make book.now of.now.sheet.0 of.now.adj }
+    ensures few { MakesFew (book_of linked.now.book.now) (all_forms tables.old) of.now.sheet.0
+        (parts_stated linked.now.book.now of.now.sheet.0 (statement_of of.now))
+        (steps.new - steps.old) }
 {
-    let mut forms = open_forms(alloc, book, of)?;
-    forms.settle(book, deps, steps)?;
-    Ok(forms)
+    let sides = side_trees(alloc, linked.book, of)?;
+    tables.settle(linked, of.sheet, &of.adj, sides, searching, steps)
 }
 
 // The first refusal over what is needed.

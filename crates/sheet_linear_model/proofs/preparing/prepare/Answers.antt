@@ -1,13 +1,8 @@
-use Rattle.sheet_linear_model.proofs.Steps.{few_are_counted, none_is_counted}
+use Rattle.form_tables.specs.Tables.{is_searching}
+use Rattle.sheet_linear_model.proofs.Settled.{are_settled}
 use Rattle.sheet_linear_model.proofs.preparing.prepare.Goals as goal
 
-pub returns-in_err-statement-clause-bound : goal.returns-in_err-statement-clause-bound
-returns-in_err-statement-clause-bound g c = none_is_counted c.args.book.now c.args.sheet.0 c.args.steps.now
-
-pub returns-in_err-forms-clause-bound : goal.returns-in_err-forms-clause-bound
-returns-in_err-forms-clause-bound g c =
-    few_are_counted c.args.book.now c.args.sheet c.in_ok-statement.statement c.args.steps.now c.settle.new.steps c.in_ok-statement.ensures.statement c.in_ok-statement.ensures.sheet c.in_err-forms.ensures.bound
-
-pub returns-clause-bound : goal.returns-clause-bound
-returns-clause-bound g c =
-    few_are_counted c.args.book.now c.args.sheet c.in_ok-statement.statement c.args.steps.now c.settle.new.steps c.in_ok-statement.ensures.statement c.in_ok-statement.ensures.sheet c.in_ok-forms.ensures.bound
+pub returns-clause-settles : goal.returns-clause-settles
+returns-clause-settles g c =
+    are_settled c.args.linked.now.book.now (is_searching c.args.searching.now) c.args.sheet c.in_ok-statement.statement c.args.tables.now c.settle.new.tables c.in_ok-once.once c.model_over.result c.in_ok-statement.ensures.statement
+    c.in_ok-statement.ensures.sheet c.in_ok-once.ensures.settled
