@@ -1,0 +1,4 @@
+pub mod Raised
+pub mod Laws
+pub mod Prices
+pub mod Examples
