@@ -1,5 +1,7 @@
 pub mod Wide
 pub mod Kept
+pub mod Edited
+pub mod Marked
 pub mod Said
 pub mod Ends
 pub mod Cuts

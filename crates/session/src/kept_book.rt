@@ -16,11 +16,13 @@ ghost use Rattle.workbook.specs.Edits.{Sets, after_set, is_outside};
 ghost use Rattle.workbook.specs.Kinds.{book_of};
 ghost use Rattle.workbook.specs.Naming.{Names, Unnames};
 
-use crate::kept_references::followed;
+use crate::edited_cells::{follow, follow_answer};
+use crate::kept_references::references_of;
 use crate::models::prepare_sheet;
 use cell_refs::{Cell, SheetId, SheetNames};
 use commands::{Answer, MOST_UNITS, Memory};
 use dep_table::Deps;
+use form_tables::{FormTables, Linked};
 use node_pick::Picker;
 use recalc::{Shown, value};
 use sheet_linear_model::{NoModel, Prepared};
@@ -30,16 +32,17 @@ use std::alloc::Global;
 use std::marker::Model;
 use workbook::{EditFault, Workbook};
 
-/// A workbook, and the references of its formulas from the first time on that they are wanted. They follow each edit; where there is no
-/// memory for that they are dropped, and found again when they are wanted next.
+/// A workbook, the references of its formulas from the first time on that they are wanted, and the forms of at most eight of its
+/// sheets. They follow each edit; where there is no memory for that they are dropped, and found or made again when they are wanted next.
 #[derive(Drop)]
 pub(crate) struct KeptBook {
     book: Workbook,
     references: Option<Deps>,
+    tables: FormTables,
 }
 
 impl Model for KeptBook {
-    ghost use Rattle.session.specs.Kept.{AreKept};
+    ghost use Rattle.session.specs.Kept.{IsKept};
     ghost use Rattle.workbook.specs.Codes.{state_code};
     ghost use Rattle.workbook.specs.State.{State};
 
@@ -49,19 +52,26 @@ impl Model for KeptBook {
 
     ghost view = { λ k. k.book };
 
-    ghost invariant = { λ k. AreKept k.references k.book };
+    ghost invariant = { λ k. IsKept k.references k.tables k.book };
 }
 
 // ---- what is read
 impl KeptBook {
-    /// A workbook of which no references are kept yet.
-    pub(crate) fn new(book: Workbook) -> KeptBook
-        ensures { result ≡ book }
+    /// A workbook of which nothing is kept yet.
+    pub(crate) fn new(alloc: Global, book: Workbook) -> Result<KeptBook, Memory>
+        ensures { IfOk result (λ k. k ≡ book) }
     {
-        KeptBook {
+        let tables = FormTables::new(alloc)?;
+        Ok(KeptBook {
             book,
             references: None,
-        }
+            tables,
+        })
+    }
+
+    /// How many forms were made, over all commands.
+    pub(crate) fn extractions(&self) -> u64 {
+        self.tables.extractions()
     }
 
     /// The workbook itself.
@@ -78,31 +88,26 @@ impl KeptBook {
         self.book.sheets()
     }
 
-    // Takes out the references, which are found now where none are kept.
-    fn take_references(&mut self, alloc: Global) -> Result<Deps, Memory>
-        ensures references { IfOk result (λ d. AreReferencesOf d (book_of self.old)) }
-        ensures same { self.new ≡ self.old }
-    {
-        match self.references.take() {
-            Some(references) => Ok(references),
-            None => Deps::open(alloc, &self.book),
-        }
-    }
-
     /// The value of a cell, or the wide cell.
     pub(crate) fn value(&mut self, alloc: Global, cell: Cell) -> Result<Shown, Memory>
         ensures shown { IfOk result (IsShown (book_of self.old) cell) }
         ensures same { self.new ≡ self.old }
     {
-        let references = self.take_references(alloc)?;
+        let references = references_of(self.references.take(), alloc, &self.book)?;
         let shown = value(alloc, &self.book, &references, cell);
         self.references = Some(references);
         shown
     }
 
-    /// The linear model of a sheet.
-    pub(crate) fn prepare(&mut self, alloc: Global, sheet: SheetId) -> Result<Prepared, NoModel>
+    /// The linear model of a sheet, over the forms that are kept of it and those that are missing, which are made and kept.
+    pub(crate) fn prepare(
+        &mut self,
+        alloc: Global,
+        sheet: SheetId,
+        searching: &[bool],
+    ) -> Result<Prepared, NoModel>
         requires listed { sheet.0 < length self.old.sheets }
+        requires searching { sheet.0 < length searching.now }
         ensures prepares { Prepares self.old sheet.0 result }
         ensures model { IfOk result
             (λ p. ModelIsTheSheet self.old (statement_of p.statement) p.model) }
@@ -110,8 +115,12 @@ impl KeptBook {
         ensures said { IfErr result (StopIsListed self.old) }
         ensures same { self.new ≡ self.old }
     {
-        let references = self.take_references(alloc)?;
-        let prepared = prepare_sheet(alloc, &self.book, &references, sheet);
+        let references = references_of(self.references.take(), alloc, &self.book)?;
+        let linked = Linked {
+            book: &self.book,
+            deps: &references,
+        };
+        let prepared = prepare_sheet(alloc, &linked, sheet, &mut self.tables, searching);
         self.references = Some(references);
         prepared
     }
@@ -124,9 +133,8 @@ impl KeptBook {
         requires listed { cell.sheet.0 < length self.old.sheets }
         ensures { Sets self.old cell text.now result self.new }
     {
-        let kept = self.references.take();
         let done = self.book.set(cell, text);
-        self.references = followed(kept, &self.book, &[cell]);
+        follow(&mut self.references, &mut self.tables, &self.book, &[cell]);
         done
     }
 
@@ -136,9 +144,8 @@ impl KeptBook {
         requires inside { is_outside cell ≡ false }
         ensures { self.new ≡ after_set self.old cell [] }
     {
-        let kept = self.references.take();
         self.book.clear(cell);
-        self.references = followed(kept, &self.book, &[cell]);
+        follow(&mut self.references, &mut self.tables, &self.book, &[cell]);
     }
 
     /// Gives a name a text, for a sheet or for the whole workbook, and answers the cells that say something else now.
@@ -151,17 +158,9 @@ impl KeptBook {
         requires listed { IfSome sheet (λ s. s.0 < length self.old.sheets) }
         ensures { Names self.old (option_map (λ s. s.0) sheet) name.now text.now result self.new }
     {
-        let kept = self.references.take();
-        match self.book.name(sheet, name, text) {
-            Ok(cells) => {
-                self.references = followed(kept, &self.book, &cells);
-                Ok(cells)
-            }
-            Err(fault) => {
-                self.references = kept;
-                Err(fault)
-            }
-        }
+        let cells = self.book.name(sheet, name, text)?;
+        follow(&mut self.references, &mut self.tables, &self.book, &cells);
+        Ok(cells)
     }
 
     /// Takes away a name of a sheet or of the whole workbook, and answers the cells that say something else now.
@@ -169,17 +168,9 @@ impl KeptBook {
         requires listed { IfSome sheet (λ s. s.0 < length self.old.sheets) }
         ensures { Unnames self.old (option_map (λ s. s.0) sheet) name.now result self.new }
     {
-        let kept = self.references.take();
-        match self.book.unname(sheet, name) {
-            Ok(cells) => {
-                self.references = followed(kept, &self.book, &cells);
-                Ok(cells)
-            }
-            Err(stop) => {
-                self.references = kept;
-                Err(stop)
-            }
-        }
+        let cells = self.book.unname(sheet, name)?;
+        follow(&mut self.references, &mut self.tables, &self.book, &cells);
+        Ok(cells)
     }
 }
 
@@ -208,9 +199,15 @@ impl KeptBook {
         ensures rule { rule pick.new ≡ rule pick.old }
     {
         let decisions = of.statement.adj.copy()?;
-        let kept = self.references.take();
         let answer = solve(alloc, &mut self.book, of, budget, pick);
-        self.references = followed(kept, &self.book, decisions.cells());
+        let cells = decisions.cells();
+        follow_answer(
+            &mut self.references,
+            &mut self.tables,
+            &self.book,
+            cells,
+            &answer,
+        );
         answer
     }
 
@@ -238,9 +235,15 @@ impl KeptBook {
             allowed.units allowed.budget) search.old.model search.new }
         ensures rule { rule pick.new ≡ rule pick.old }
     {
-        let kept = self.references.take();
         let answer = slice(alloc, &mut self.book, statement, search, allowed, pick);
-        self.references = followed(kept, &self.book, statement.adj.cells());
+        let cells = statement.adj.cells();
+        follow_answer(
+            &mut self.references,
+            &mut self.tables,
+            &self.book,
+            cells,
+            &answer,
+        );
         answer
     }
 }

@@ -1,5 +1,5 @@
 // References that are kept of a workbook and follow what its cells say.
-ghost use Rattle.std.specs.Prelude.{◌≡◌, IfSome, OnOk};
+ghost use Rattle.std.specs.Prelude.{◌≡◌, IfOk, IfSome, None, OnErr, OnOk};
 ghost use Rattle.dep_table.specs.References.{AreReferencesOf, areas_said};
 ghost use Rattle.recalculation.specs.Entries.{entry};
 ghost use Rattle.session.specs.Kept.{AreKept, AreKeptBut, with_areas};
@@ -8,7 +8,24 @@ ghost use Rattle.workbook.specs.Kinds.{book_of};
 use cell_refs::{Cell, TEXTS};
 use commands::Memory;
 use dep_table::Deps;
+use std::alloc::Global;
 use workbook::Workbook;
+
+/// The references that are kept, or where none are those that are found now.
+pub(crate) fn references_of(
+    kept: Option<Deps>,
+    alloc: Global,
+    book: &Workbook,
+) -> Result<Deps, Memory>
+    requires { AreKept kept book.now }
+    ensures references { IfOk result (λ d. AreReferencesOf d (book_of book.now)) }
+    ensures none { OnErr result (kept ≡ None) }
+{
+    match kept {
+        Some(references) => Ok(references),
+        None => Deps::open(alloc, book),
+    }
+}
 
 /// Brings references up to date with what these cells say; where there is no memory for that, none are left.
 pub(crate) fn followed(kept: Option<Deps>, book: &Workbook, cells: &[Cell]) -> Option<Deps>

@@ -1,6 +1,7 @@
 //! A session: a workbook, and the commands of a script on it.
 #![tactic(auto)]
 
+mod edited_cells;
 mod edits;
 mod kept_book;
 mod kept_references;

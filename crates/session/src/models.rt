@@ -2,6 +2,8 @@
 ghost use Rattle.std.specs.Prelude.{◌≡◌, ◌<◌, ℕ, Err, IfErr, IfOk, length};
 ghost use Rattle.commands.specs.Lines.{CanBeSaid};
 ghost use Rattle.dep_table.specs.References.{AreReferencesOf};
+ghost use Rattle.form_tables.specs.Tables.{all_forms};
+ghost use Rattle.kept_tables.specs.Settled.{AreRight};
 ghost use Rattle.session.specs.Models.{Models};
 ghost use Rattle.sheet_problems.specs.Laws.{ModelIsTheSheet};
 ghost use Rattle.workbook.specs.Kinds.{book_of};
@@ -13,24 +15,29 @@ ghost use Rattle.solver_names.specs.Answers.{statement_of};
 
 use crate::Session;
 use crate::kept_book::KeptBook;
+use crate::open_searches::searching;
 use cell_refs::SheetId;
 use commands::{Answer, Memory};
-use dep_table::Deps;
-use extract_incr::Steps;
+use form_tables::{FormTables, Linked, Steps};
 use sheet_linear_model::{NoModel, Prepared, model_lines, prepare};
 use std::alloc::Global;
 use std::marker::Brand;
 use std::sync::ledger::{Blank, Ledger};
-use workbook::Workbook;
 
 /// The model of a sheet as it is printed, or the first cause why it has none.
-pub(crate) fn model_of(alloc: Global, book: &mut KeptBook, sheet: SheetId) -> Result<Answer, Memory>
+pub(crate) fn model_of(
+    alloc: Global,
+    book: &mut KeptBook,
+    sheet: SheetId,
+    searching: &[bool],
+) -> Result<Answer, Memory>
     requires listed { sheet.0 < length book.old.sheets }
+    requires searching { sheet.0 < length searching.now }
     ensures model { IfOk result (Models book.old sheet.0) }
     ensures said { IfOk result (CanBeSaid book.old.sheets) }
     ensures same { book.new ≡ book.old }
 {
-    match book.prepare(alloc, sheet) {
+    match book.prepare(alloc, sheet, searching) {
         Ok(prepared) => Ok(Answer::Model(model_lines(alloc, prepared)?)),
         Err(stop) => answer_without_model(stop),
     }
@@ -47,7 +54,8 @@ impl Session {
         ensures said { IfErr result (StopIsListed self.old.state.book) }
         ensures same { self.new.state ≡ self.old.state }
     {
-        self.book.prepare(self.alloc, sheet)
+        let searching = searching(self.alloc, &self.searches)?;
+        self.book.prepare(self.alloc, sheet, &searching)
     }
 }
 
@@ -67,38 +75,59 @@ pub(crate) fn answer_without_model(stop: NoModel) -> Result<Answer, Memory>
 /// The linear model of a sheet, with a counter of its own.
 pub(crate) fn prepare_sheet(
     alloc: Global,
-    book: &Workbook,
-    deps: &Deps,
+    linked: &Linked<'_>,
     sheet: SheetId,
+    tables: &mut FormTables,
+    searching: &[bool],
 ) -> Result<Prepared, NoModel>
-    requires listed { sheet.0 < length book.now.sheets }
-    requires references { AreReferencesOf deps.now (book_of book.now) }
-    ensures prepares { Prepares book.now sheet.0 result }
-    ensures model { IfOk result (λ p. ModelIsTheSheet book.now (statement_of p.statement) p.model) }
-    ensures whole { IfOk result (λ p. IsWhole book.now (statement_of p.statement)) }
-    ensures said { IfErr result (StopIsListed book.now) }
+    requires listed { sheet.0 < length linked.now.book.now.sheets }
+    requires searching { sheet.0 < length searching.now }
+    requires references { AreReferencesOf linked.now.deps.now (book_of linked.now.book.now) }
+    requires right { AreRight (book_of linked.now.book.now) (all_forms tables.old) }
+    ensures prepares { Prepares linked.now.book.now sheet.0 result }
+    ensures model { IfOk result
+        (λ p. ModelIsTheSheet linked.now.book.now (statement_of p.statement) p.model) }
+    ensures whole { IfOk result (λ p. IsWhole linked.now.book.now (statement_of p.statement)) }
+    ensures said { IfErr result (StopIsListed linked.now.book.now) }
+    ensures right { AreRight (book_of linked.now.book.now) (all_forms tables.new) }
 {
-    prepare_counted::<Brand>(alloc, Blank::new(1), book, deps, sheet)
+    let counter = Counter {
+        alloc,
+        blank: Blank::new(1),
+    };
+    prepare_counted::<Brand>(counter, linked, sheet, tables, searching)
+}
+
+// What a counter of forms begins with.
+#[derive(Drop)]
+struct Counter {
+    alloc: Global,
+    blank: Blank,
 }
 
 // The same with the counter's beginning.
 fn prepare_counted<L: Ledger>(
-    alloc: Global,
-    blank: Blank,
-    book: &Workbook,
-    deps: &Deps,
+    counter: Counter,
+    linked: &Linked<'_>,
     sheet: SheetId,
+    tables: &mut FormTables,
+    searching: &[bool],
 ) -> Result<Prepared, NoModel>
-    requires name { blank.name ≡ L.name }
-    requires parts { blank.parts ≡ L.parts }
-    requires some { 0 < blank.parts }
-    requires listed { sheet.0 < length book.now.sheets }
-    requires references { AreReferencesOf deps.now (book_of book.now) }
-    ensures prepares { Prepares book.now sheet.0 result }
-    ensures model { IfOk result (λ p. ModelIsTheSheet book.now (statement_of p.statement) p.model) }
-    ensures whole { IfOk result (λ p. IsWhole book.now (statement_of p.statement)) }
-    ensures said { IfErr result (StopIsListed book.now) }
+    requires name { counter.blank.name ≡ L.name }
+    requires parts { counter.blank.parts ≡ L.parts }
+    requires some { 0 < counter.blank.parts }
+    requires listed { sheet.0 < length linked.now.book.now.sheets }
+    requires searching { sheet.0 < length searching.now }
+    requires references { AreReferencesOf linked.now.deps.now (book_of linked.now.book.now) }
+    requires right { AreRight (book_of linked.now.book.now) (all_forms tables.old) }
+    ensures prepares { Prepares linked.now.book.now sheet.0 result }
+    ensures model { IfOk result
+        (λ p. ModelIsTheSheet linked.now.book.now (statement_of p.statement) p.model) }
+    ensures whole { IfOk result (λ p. IsWhole linked.now.book.now (statement_of p.statement)) }
+    ensures said { IfErr result (StopIsListed linked.now.book.now) }
+    ensures right { AreRight (book_of linked.now.book.now) (all_forms tables.new) }
 {
+    let Counter { alloc, blank } = counter;
     let mut steps: Steps<L> = Steps::new(blank);
-    prepare(alloc, book, deps, sheet, &mut steps)
+    prepare(alloc, linked, sheet, tables, searching, &mut steps)
 }

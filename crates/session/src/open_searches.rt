@@ -59,6 +59,17 @@ pub(crate) fn has_search(searches: &[Option<OpenSearch>], place: usize) -> bool
     }
 }
 
+/// For each sheet whether it has an open search.
+pub(crate) fn searching(alloc: Global, searches: &[Option<OpenSearch>]) -> Result<Vec<bool>, Memory>
+    ensures { IfOk result (λ found. length found.items ≡ length searches.now) }
+{
+    let mut found = Vec::new(alloc);
+    for search in searches {
+        found.push(is_open(search))?;
+    }
+    Ok(found)
+}
+
 /// Whether the open search of the sheet at the place is one of this model.
 pub(crate) fn has_model(searches: &[Option<OpenSearch>], place: usize, model: &LinModel) -> bool
     ensures { (search : Opened) → slice_index_or searches.now place None ≡ Some search

@@ -25,7 +25,7 @@ ghost use Rattle.session.specs.Steps.{Applies, Does, IsDone, ModelsSheet, Shows,
 use crate::edits::told_fault;
 use crate::kept_book::KeptBook;
 use crate::models::{answer_without_model, model_of};
-use crate::open_searches::no_searches;
+use crate::open_searches::{no_searches, searching};
 use cell_refs::{Cell, SheetId, SheetNames};
 use commands::{Answer, Command, MOST_UNITS, Memory, locate};
 use node_pick::Picker;
@@ -84,7 +84,7 @@ impl Session {
         let searches = no_searches(alloc, book.sheets().len())?;
         Ok(Session {
             alloc,
-            book: KeptBook::new(book),
+            book: KeptBook::new(alloc, book)?,
             changed_sheets,
             changed_names: false,
             budget,
@@ -97,6 +97,11 @@ impl Session {
         ensures { result.now ≡ self.now.state.book.sheets }
     {
         self.book.sheets()
+    }
+
+    /// How many forms were made, over all commands. A form that is kept from one command to the next is made once.
+    pub fn extractions(&self) -> u64 {
+        self.book.extractions()
     }
 
     /// Does what the command says.
@@ -241,7 +246,10 @@ impl Session {
             (IsUntouched self.old.state (ToModel name.now) self.new.state) }
     {
         match self.book.sheets().find(name) {
-            Some(sheet) => model_of(self.alloc, &mut self.book, sheet),
+            Some(sheet) => {
+                let searching = searching(self.alloc, &self.searches)?;
+                model_of(self.alloc, &mut self.book, sheet, &searching)
+            }
             None => Ok(Answer::UnknownSheet),
         }
     }

@@ -1,8 +1,6 @@
 use Rattle.std.proofs.Common.{[]}
-use Rattle.session.proofs.Kept.{kept_once_set, of_kept}
+use Rattle.session.proofs.Edited.{once_set}
 use Rattle.session.proofs.kept_book.KeptBook.clear.Goals as goal
 
-pub followed-requires : goal.followed-requires
-followed-requires c =
-    of_kept c.self.inside.references c.take-kept.result c.self.inside.book _ c.take-kept.ensures.value c.self.invariant
-    (λ r right. kept_once_set c.self.inside.book r right c.clear.new.self c.args.cell [] c.clear.ensures)
+pub follow-requires : goal.follow-requires
+follow-requires c = (c.self.inside.book, c.self.invariant, once_set c.self.inside.book c.clear.new.self c.args.cell [] c.clear.ensures)
