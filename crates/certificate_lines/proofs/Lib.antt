@@ -1,0 +1,9 @@
+pub mod Machines
+pub mod Beginnings
+pub mod Cuts
+pub mod Numbers
+pub mod Words
+pub mod Texts
+pub mod Stops
+pub mod Heads
+pub mod TwoCases
