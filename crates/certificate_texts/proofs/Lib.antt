@@ -1,0 +1,10 @@
+pub mod Reading
+pub mod NumberLists
+pub mod Pairs
+pub mod PairLists
+pub mod Writing
+pub mod Lines
+pub mod Forests
+pub mod Progress
+pub mod Certs
+pub mod Fits

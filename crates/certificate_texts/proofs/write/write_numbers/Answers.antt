@@ -1,0 +1,21 @@
+use Rattle.std.proofs.Common.{◌≡◌, ◌∙◌, ◌+◌, ◌++◌, ◌∷◌, [], All, ap, arith, rules, subst, sym, take}
+use Rattle.std.proofs.lemmas.Grind.{common_steps}
+use Rattle.std.proofs.lemmas.List.{take_all, take_more}
+use Rattle.std.proofs.lemmas.List.Elements.{All-push}
+use Rattle.frac128.specs.Narrow.{IsNarrow}
+use Rattle.certificate_texts.proofs.write.write_numbers.Goals as goal
+
+pub loop-number-preserved : goal.loop-number-preserved
+loop-number-preserved c =
+    let xs = c.args.numbers.now in
+    let i = c.loop-number.number-index in
+    let x = c.number-item.result in
+    let more : take (i + 1) xs ≡ take i xs ++ x ∷ [] = take_more xs i x c.loop-number-test.true ∙ ap (λ y. take i xs ++ y ∷ []) (sym c.number-item.is) in
+    record {
+      written = first_of (search rules, grind (arith, common_steps));
+      narrow = subst (All IsNarrow) (sym more) (All-push IsNarrow (take i xs) x c.loop-number.invariant.narrow c.write_number.ensures.narrow);
+    }
+
+pub returns-clause-narrow : goal.returns-clause-narrow
+returns-clause-narrow c =
+    subst (All IsNarrow) (take_all c.loop-number.number-index c.args.numbers.now (omega (arith, c.loop-number-test.false))) c.loop-number.invariant.narrow
