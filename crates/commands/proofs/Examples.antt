@@ -3,6 +3,10 @@ use Rattle.std.proofs.Common.{◌≡◌, ℕ, List, [], ◌∷◌, Option, codes
 use Rattle.std.specs.Prelude.{Some, None, Result, Ok, Err, Vec, false, true, pos, neg_ℤ}
 use Rattle.std.specs.Global.{Global}
 use Rattle.std.specs.Fmt.{digits}
+use Rattle.fractions.specs.Rational.{ℚ}
+use Rattle.fractions.specs.Rational as rational
+use Rattle.fractions.specs.Gcd as divisor
+use Rattle.fractions.specs.Whole.{whole_ℚ}
 use Rattle.cell_refs.specs.declared.cell.Cell.{Cell}
 use Rattle.sheet_model.specs.declared.value.Value.TheVariants as value
 use Rattle.solver_names.specs.declared.fault.NamesFault.TheVariants as names
@@ -10,8 +14,9 @@ use Rattle.workbook.specs.declared.place.Place.TheVariants as place
 use Rattle.form_needs.specs.declared.refusal.FormRefusal.TheVariants as form
 use Rattle.commands.specs.declared.answer.Answer.TheVariants as answer
 use Rattle.commands.specs.declared.answer.Answer.{Answer}
+use Rattle.commands.specs.declared.price_lines.PriceLine.{PriceLine}
 use Rattle.commands.specs.Addresses.{Address, marked_address}
-use Rattle.commands.specs.Commands.{Begin, Budget, Model, Name, Save, Set, Show, Slice, Stop, Unknown, Unname, command_of}
+use Rattle.commands.specs.Commands.{Begin, Budget, Model, Name, Prices, Save, Set, Show, Slice, Stop, Unknown, Unname, command_of}
 use Rattle.commands.specs.Lines.{answer_text}
 use Rattle.commands.specs.Refusals.{pivot_text}
 use Rattle.commands.specs.Locating.{cell_named, sheet_or_book, units_named}
@@ -38,6 +43,15 @@ a_name = refl
 
 a_removed_name : command_of (codes "unname" ∷ [] ∷ codes "rate" ∷ []) ≡ Unname [] (codes "rate")
 a_removed_name = refl
+
+prices_of_a_sheet : command_of (codes "prices" ∷ codes "plan" ∷ []) ≡ Prices (codes "plan")
+prices_of_a_sheet = refl
+
+prices_of_no_sheet : command_of (codes "prices" ∷ []) ≡ Unknown
+prices_of_no_sheet = refl
+
+prices_of_two_sheets : command_of (codes "prices" ∷ codes "a" ∷ codes "b" ∷ []) ≡ Unknown
+prices_of_two_sheets = refl
 
 a_begin : command_of (codes "begin" ∷ codes "plan" ∷ []) ≡ Begin (codes "plan")
 a_begin = refl
@@ -174,6 +188,39 @@ a_file = record { sheet = None; bytes = codes "x\n" }
 two_files : (files : Vec SavedFile Global) → files.items ≡ a_file ∷ a_file ∷ [] → answer_text [] (answer.ToSave files) ≡ codes "saved 2\n"
 unfolding digits
 two_files files two = rw two refl
+
+-- ---- prices
+number : ℕ → ℚ
+number n = whole_ℚ (pos n)
+
+minus : ℕ → ℚ
+minus n = whole_ℚ (neg_ℤ (pos n))
+
+binding : PriceLine
+binding = record { row = 1; price = number 3; low = Some (minus 4); high = Some (number 2) }
+
+left_over : PriceLine
+left_over = record { row = 2; price = number 0; low = Some (minus 2); high = None }
+
+two_prices : (rows : Vec PriceLine Global) → rows.items ≡ binding ∷ left_over ∷ []
+    → answer_text [] (answer.Prices (record { value = number 12; rows = rows })) ≡ codes "optimal 12\nrow 1 price 3 from -4 to 2\nrow 2 price 0 from -2 to -\nend\n"
+unfolding digits number minus binding left_over rational.numerator rational.denominator rational.frac rational.if_lowest rational.is_lowest divisor.gcd
+two_prices rows two = rw two refl
+
+no_row_has_a_price : (rows : Vec PriceLine Global) → rows.items ≡ [] → answer_text [] (answer.Prices (record { value = minus 7; rows = rows })) ≡ codes "optimal -7\nend\n"
+unfolding digits minus rational.numerator rational.denominator rational.frac rational.if_lowest rational.is_lowest divisor.gcd
+no_row_has_a_price rows none = rw none refl
+
+prices_without_an_objective : answer_text [] answer.NoObjective ≡ codes "refused no-objective\n"
+prices_without_an_objective = refl
+
+a_whole_cell : answer_text (codes "My Plan" ∷ []) (answer.NotContinuous (record { sheet = record { 0 = 0 }; row = 1; col = 27 })) ≡ codes "refused not-continuous 'My Plan'!AB2\n"
+unfolding digits
+a_whole_cell = refl
+
+a_wide_range : answer_text [] (answer.WideRange 2) ≡ codes "refused wide-range 2\n"
+unfolding digits
+a_wide_range = refl
 
 -- ---- refusals with parts
 cell : ℕ → ℕ → Cell

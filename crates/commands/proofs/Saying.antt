@@ -1,4 +1,4 @@
--- Texts with commas between them, and what is said of a model.
+-- Texts with commas between them, and what is said of a model and of prices.
 use Rattle.std.proofs.Common.{◌≡◌, ◌∙◌, ℕ, ◌≤◌, ◌-◌, false, List, [], ◌∷◌, ◌++◌, length, drop, refl, sym, ap, append-nil, append_assoc, arith}
 use Rattle.std.specs.Prelude.{Option, Some, None, bytes_eq, codes, map, slice_index_or, take}
 use Rattle.std.specs.List.{join_with_byte}
@@ -7,8 +7,11 @@ use Rattle.optimality.specs.Problem.{Goal, greatest, least, reach}
 use Rattle.affine_forms.specs.Forms.{AffineForm}
 use Rattle.cell_refs.specs.declared.cell.Cell.{Cell}
 use Rattle.model_lines.specs.Lines.{ModelLines, aim_line, model_text}
+use Rattle.frac128.specs.Printed.{printed}
 use Rattle.commands.specs.declared.answer.PathStep.{PathStep}
+use Rattle.commands.specs.declared.price_lines.PriceLines.{PriceLines}
 use Rattle.commands.specs.Preceded.{preceded}
+use Rattle.commands.specs.Prices.{prices_text}
 use Rattle.commands.specs.Refusals.{path_text, step_text}
 
 -- the first text, and each further one behind a comma
@@ -62,3 +65,9 @@ pub not_refused : (sheets : List (List ℕ)) (m : ModelLines) → bytes_eq (take
 not_refused sheets m =
     let all = begun (aim_line sheets m.decisions m.aim) _ in
     ap (λ l. bytes_eq (take 8 l) (codes "refused ")) all.1 ∙ no_refusal sheets m.decisions m.aim all.0
+
+-- nor do prices
+pub prices_not_refused : (p : PriceLines) → bytes_eq (take 8 (prices_text p)) (codes "refused ") ≡ false
+prices_not_refused p =
+    let all = begun (codes "optimal " ++ printed p.value) _ in
+    ap (λ l. bytes_eq (take 8 l) (codes "refused ")) all.1

@@ -12,6 +12,7 @@ pub data Spoken : Type 0 where
   Show : (address : List ℕ) → Spoken
   Model : (sheet : List ℕ) → Spoken
   Solve : (sheet : List ℕ) → Spoken
+  Prices : (sheet : List ℕ) → Spoken
   Begin : (sheet : List ℕ) → Spoken
   Slice : (sheet units : List ℕ) → Spoken
   Stop : (sheet : List ℕ) → Spoken
@@ -27,7 +28,7 @@ abbrev pub with_none : List (Text × Spoken)
 with_none = (codes "save", Save) ∷ []
 
 abbrev pub with_one : List (Text × (Text → Spoken))
-with_one = (codes "clear", Clear) ∷ (codes "show", Show) ∷ (codes "model", Model) ∷ (codes "solve", Solve) ∷ (codes "begin", Begin) ∷ (codes "stop", Stop) ∷ (codes "budget", Budget) ∷ []
+with_one = (codes "clear", Clear) ∷ (codes "show", Show) ∷ (codes "model", Model) ∷ (codes "solve", Solve) ∷ (codes "prices", Prices) ∷ (codes "begin", Begin) ∷ (codes "stop", Stop) ∷ (codes "budget", Budget) ∷ []
 
 abbrev pub with_two : List (Text × (Text → Text → Spoken))
 with_two = (codes "set", Set) ∷ (codes "unname", Unname) ∷ (codes "slice", Slice) ∷ []
@@ -63,6 +64,7 @@ spoken (command.Unname sheet name) = Unname (string_bytes sheet) (string_bytes n
 spoken (command.Show address) = Show (string_bytes address)
 spoken (command.Model sheet) = Model (string_bytes sheet)
 spoken (command.Solve sheet) = Solve (string_bytes sheet)
+spoken (command.Prices sheet) = Prices (string_bytes sheet)
 spoken (command.Begin sheet) = Begin (string_bytes sheet)
 spoken (command.Slice sheet units) = Slice (string_bytes sheet) (string_bytes units)
 spoken (command.Stop sheet) = Stop (string_bytes sheet)

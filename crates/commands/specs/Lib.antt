@@ -4,5 +4,6 @@ pub mod Addresses
 pub mod Locating
 pub mod Preceded
 pub mod Refusals
+pub mod Prices
 pub mod Lines
 pub mod Spelling

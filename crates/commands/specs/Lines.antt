@@ -9,6 +9,7 @@ use Rattle.model_lines.specs.Cells.{cell_with_sheet}
 use Rattle.model_lines.specs.Lines.{model_text}
 use Rattle.commands.specs.declared.answer.Answer.{Answer}
 use Rattle.commands.specs.declared.answer.Answer.TheVariants as answer
+use Rattle.commands.specs.Prices.{prices_text}
 use Rattle.commands.specs.Refusals.{FaultIsListed, RefusalIsListed, StepIsListed, names_text, pivot_text, refusal_text}
 
 -- a text with each of its quotes doubled
@@ -34,6 +35,7 @@ said sheets (answer.Optimal None) = codes "optimal"
 said sheets (answer.Optimal (Some value)) = codes "optimal " ++ printed value
 said sheets answer.Infeasible = codes "infeasible"
 said sheets answer.Unbounded = codes "unbounded"
+said sheets (answer.Prices prices) = prices_text prices
 said sheets answer.Begun = codes "begun"
 said sheets (answer.More units) = codes "more " ++ decimal units
 said sheets answer.Stopped = codes "stopped"
@@ -54,8 +56,11 @@ said sheets answer.TooManySearches = codes "refused too-many-searches"
 said sheets (answer.Names fault) = codes "refused names " ++ names_text sheets fault
 said sheets (answer.Form refusal) = codes "refused " ++ refusal_text sheets refusal
 said sheets (answer.WideRow k) = codes "refused wide-row " ++ decimal k
+said sheets answer.NoObjective = codes "refused no-objective"
+said sheets (answer.NotContinuous c) = codes "refused not-continuous " ++ cell_with_sheet sheets c
 said sheets (answer.WidePivot path basis row column) = codes "refused wide-pivot " ++ pivot_text sheets path.items basis.items row column
 said sheets (answer.Budget units) = codes "refused budget " ++ decimal units
+said sheets (answer.WideRange k) = codes "refused wide-range " ++ decimal k
 said sheets (answer.NoRoom c) = codes "refused no-room " ++ cell_with_sheet sheets c
 
 -- the line or lines of an answer, where the sheets have these names
@@ -72,6 +77,7 @@ CanBeSaid sheets (answer.Model lines) = All (IsListed sheets) lines.decisions
 CanBeSaid sheets (answer.WideCell c) = IsListed sheets c
 CanBeSaid sheets (answer.Names fault) = FaultIsListed sheets fault
 CanBeSaid sheets (answer.Form refusal) = RefusalIsListed sheets refusal
+CanBeSaid sheets (answer.NotContinuous c) = IsListed sheets c
 CanBeSaid sheets (answer.WidePivot path basis row column) = All (StepIsListed sheets) path.items
 CanBeSaid sheets (answer.NoRoom c) = IsListed sheets c
 CanBeSaid sheets _ = Unit {0}

@@ -49,7 +49,7 @@ within most n = if nat_le 1 n && nat_le n most then Some n else None
 abbrev pub number_up_to : ℕ → List ℕ → Option ℕ
 number_up_to most text = if is_number text then within most (digits_value 10 text) else None
 
--- how many units a search may spend
+-- how many units may be spent
 abbrev pub units_in : List ℕ → Option ℕ
 units_in text = number_up_to MOST_UNITS text
 

@@ -2,6 +2,7 @@
 ghost use Rattle.std.specs.Prelude.{◌≡◌, List, ℕ};
 ghost use Rattle.commands.specs.Lines.{is_refusal};
 
+use crate::price_lines::PriceLines;
 use crate::save_file::SaveFile;
 use cell_refs::Cell;
 use form_needs::FormRefusal;
@@ -30,6 +31,8 @@ pub enum Answer {
     Infeasible,
     /// There is no best value.
     Unbounded,
+    /// The best value, and the prices of the rows.
+    Prices(PriceLines),
     /// A search is opened.
     Begun,
     /// A search goes further, and has spent so many units in all.
@@ -60,24 +63,31 @@ pub enum Answer {
     Form(FormRefusal),
     /// The difference of the sides of this row, from 1, does not fit 128 bits.
     WideRow(u16),
+    /// Prices are asked for, and there is no objective, or it is to reach a value.
+    NoObjective,
+    /// Prices are asked for, and this decision cell, the first such one, is to be whole.
+    NotContinuous(Cell),
     /// A number of a pivot does not fit 128 bits: the path to the node, its basic variables, and the variables that leave
     /// and enter.
     WidePivot(Vec<PathStep>, Vec<u16>, u16, u16),
     /// So many units were not enough.
     Budget(u64),
+    /// A number on the way to the price of this row, from 1, or to an end of its range does not fit 128 bits.
+    WideRange(u16),
     /// There is no room for the text of this cell.
     NoRoom(Cell),
 }
 
 impl Answer {
     /// Whether it is a refusal.
-    #[tactic(auto, using(crate::proofs::Saying::not_refused))]
+    #[tactic(auto, using(crate::proofs::Saying::not_refused, crate::proofs::Saying::prices_not_refused))]
     pub fn is_refusal(&self) -> bool
         ensures { (sheets : List (List ℕ)) → result ≡ is_refusal sheets self.now }
     {
         match self {
             Answer::Done | Answer::Shown(_) | Answer::Model(_) => false,
             Answer::Optimal(_) | Answer::Infeasible | Answer::Unbounded => false,
+            Answer::Prices(_) => false,
             Answer::Begun | Answer::More(_) | Answer::Stopped => false,
             Answer::ToSave(_) => false,
             _ => true,

@@ -21,13 +21,15 @@ pub enum Command {
     Model(String),
     /// The name of the sheet that is solved.
     Solve(String),
+    /// The name of the sheet of whose rows the prices are asked for.
+    Prices(String),
     /// The name of the sheet of which a search is opened.
     Begin(String),
     /// The name of a sheet with an open search, and how many units of it are asked for.
     Slice(String, String),
     /// The name of the sheet whose search is closed.
     Stop(String),
-    /// How many units a search may spend from now on.
+    /// How many units a search, or a run for prices, may spend from now on.
     Budget(String),
     Save,
     Unknown,
@@ -83,6 +85,9 @@ impl Command {
         }
         if word == "solve" {
             return Ok(Command::Solve(String::from_str(alloc, text)?));
+        }
+        if word == "prices" {
+            return Ok(Command::Prices(String::from_str(alloc, text)?));
         }
         if word == "begin" {
             return Ok(Command::Begin(String::from_str(alloc, text)?));

@@ -6,6 +6,7 @@ ghost use Rattle.commands.specs.Lines.{CanBeSaid, answer_text, doubled, said, va
 ghost use Rattle.commands.specs.declared.answer.Answer.{Answer};
 
 use crate::answer::Answer;
+use crate::price_lines::{say_best, say_prices};
 use crate::refusals::{say_form, say_names, say_number, say_pivot, say_text, say_with_cell};
 use cell_refs::SheetNames;
 use frac128::Frac;
@@ -36,6 +37,7 @@ fn say(answer: &Answer, sheets: &SheetNames, to: &mut String) -> Result<(), Memo
         Answer::Optimal(value) => say_optimal(*value, to),
         Answer::Infeasible => say_text("infeasible", to),
         Answer::Unbounded => say_text("unbounded", to),
+        Answer::Prices(prices) => say_prices(prices, to),
         Answer::Begun => say_text("begun", to),
         Answer::More(units) => say_number("more ", *units, to),
         Answer::Stopped => say_text("stopped", to),
@@ -56,10 +58,13 @@ fn say(answer: &Answer, sheets: &SheetNames, to: &mut String) -> Result<(), Memo
         Answer::Names(fault) => say_names(fault, sheets, to),
         Answer::Form(refusal) => say_form(refusal, sheets, to),
         Answer::WideRow(row) => say_number("refused wide-row ", u64::from(*row), to),
+        Answer::NoObjective => say_text("refused no-objective", to),
+        Answer::NotContinuous(cell) => say_with_cell("refused not-continuous ", cell, sheets, to),
         Answer::WidePivot(path, basis, row, column) => {
             say_pivot(path, basis, (*row, *column), sheets, to)
         }
         Answer::Budget(units) => say_number("refused budget ", *units, to),
+        Answer::WideRange(row) => say_number("refused wide-range ", u64::from(*row), to),
         Answer::NoRoom(cell) => say_with_cell("refused no-room ", cell, sheets, to),
     }
 }
@@ -69,12 +74,10 @@ fn say_optimal(value: Option<Frac>, to: &mut String) -> Result<(), Memory>
     ensures { OnOk result (string_bytes to.new
         ≡ string_bytes to.old ++ said [] (Answer.Optimal value)) }
 {
-    let Some(number) = value else {
-        return say_text("optimal", to);
-    };
-    to.push_str("optimal ")?;
-    number.write(to)?;
-    Ok(())
+    match value {
+        Some(number) => say_best(number, to),
+        None => say_text("optimal", to),
+    }
 }
 
 // Appends a value.

@@ -7,6 +7,8 @@ mod books;
 #[cfg(test)]
 mod picker_tests;
 #[cfg(test)]
+mod price_tests;
+#[cfg(test)]
 mod runs;
 #[cfg(test)]
 mod several_tests;
