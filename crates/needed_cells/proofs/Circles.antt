@@ -1,5 +1,6 @@
 -- What places look at, by their kept forms.
-use Rattle.std.specs.Prelude.{◌↔◌, ◌&&◌, ◌||◌, not, is_some, option_map, IsSome}
+use Rattle.std.specs.Prelude.{◌↔◌, ◌&&◌, ◌||◌, not, is_some, option_map, IfOk, IsSome, Result, Ok, Err, Vec}
+use Rattle.std.specs.declared.alloc.Global.{Global}
 use Rattle.std.proofs.Common.{◌≡◌, ℕ, suc, Bool, true, false, if◌then◌else◌, List, [], ◌∷◌, length, Option, Some, None, Contains, refl, sym, ap, subst, ◌∙◌, arith}
 use Rattle.std.specs.FinMap.{contains_key, keys}
 use Rattle.std.specs.List.{list_any}
@@ -17,7 +18,7 @@ use Rattle.workbook.specs.declared.place.Place.TheVariants as place
 use Rattle.form_extraction.specs.declared.forms.CellForm.{CellForm}
 use Rattle.form_extraction.specs.declared.forms.CellForm.TheVariants.{Form, Refused, Blocked, Circular}
 use Rattle.form_extraction.specs.declared.forms.CellForm.TheVariants as result
-use Rattle.form_extraction.specs.Looked.{LooksFrom, forms_of, refers_to_circle, side_form}
+use Rattle.form_extraction.specs.Looked.{Among, LooksFrom, forms_of, refers_to_circle, side_form}
 use Rattle.form_extraction.specs.Places.{Decisions, form_of, formula_form, numbered_in}
 use Rattle.form_extraction.proofs.Never.{circular_where_circle}
 use Rattle.form_extraction.proofs.States.{circle_is_circular}
@@ -26,6 +27,8 @@ use Rattle.extract.specs.Places.{HasForms, IsTreeOf, is_in_circle}
 use Rattle.extract.specs.Places as extracted
 use Rattle.extract.specs.Tables.{Table, form_at as kept_at}
 use Rattle.form_needs.specs.Needed.{Asked, PlaceLooksAt}
+use Rattle.plain_formulas.specs.Plain.{is_plain}
+use Rattle.plain_formulas.proofs.Looks.{plain_looks_at_all}
 use Rattle.sheet_problems.specs.Forms.{form_at}
 use Rattle.sheet_problems.specs.Places.{Sides, tree_of}
 use Rattle.needed_cells.specs.Finding.{has_circle, is_circular_form, is_kept_circular, place_tree, unless_decided}
@@ -173,11 +176,19 @@ module _ (book : Book) (sides : Sides) (decisions : List Cell) (table : Table) (
       refers_by true e b h f = ((λ l. ap (λ e. refers e b) (sym f) ∙ l), (λ l. ap (λ e. refers e b) f ∙ l))
       refers_by false e b h f = cc
 
-      -- in a circle a place looks at all of them
-      pub in_circle : (p : Place) → place_tree (asked roots) p ≡ Some t → is_kept_circular table p ≡ true → has_circle table p referred ≡ true
-          → (b : Cell) → Contains referred b ↔ PlaceLooksAt (asked roots) p b
-      in_circle (place.Cell a) h c i b =
-          let by = refers_by (is_circular book leaf a) (entry book a) b (kept_circular a c) (tree_there (place.Cell a) h) in (
+      -- so does a plain tree, in a circle or not
+      refers_plain : (w : Bool) (e : Option Entry) (b : Cell) → is_plain t ≡ true → e ≡ Some (Formula t) → LooksFrom w (forms_of book decided) e b ↔ (refers (Some (Formula t)) b ≡ true)
+      refers_plain true e b h f = ((λ l. ap (λ e. refers e b) (sym f) ∙ l), (λ l. ap (λ e. refers e b) f ∙ l))
+      refers_plain false e b h f =
+          let all = plain_looks_at_all (forms_of book decided) t b h in
+          ((λ l. all.0 (subst (λ e. Among (forms_of book decided) e b) f l)), (λ r. subst (λ e. Among (forms_of book decided) e b) (sym f) (all.1 r)))
+
+      -- where it refers to all at which it looks, these are they
+      all_referred : (p : Place) → place_tree (asked roots) p ≡ Some t → (b : Cell)
+          → ((e : Option Entry) → e ≡ Some (Formula t) → LooksFrom (is_in_circle book decided p t) (forms_of book decided) e b ↔ (refers (Some (Formula t)) b ≡ true))
+          → Contains referred b ↔ PlaceLooksAt (asked roots) p b
+      all_referred (place.Cell a) h b same =
+          let by = same (entry book a) (tree_there (place.Cell a) h) in (
             (λ k. let r = (each b).0 k in (
               cell_undecided a h,
               none_decided (decided b) (first_true (not (leaf b)) (contains_key book.texts b) r.0),
@@ -186,8 +197,8 @@ module _ (book : Book) (sides : Sides) (decisions : List Cell) (table : Table) (
             )),
             (λ l. (each b).1 (both (not (leaf b)) (contains_key book.texts b) (ap (λ d. not (is_some d)) l.1) l.2, by.0 l.3)),
           )
-      in_circle (place.Side k) h c i b =
-          let by = refers_by (refers_to_circle book leaf t) (Some (Formula t)) b (side_in_circle i) refl in (
+      all_referred (place.Side k) h b same =
+          let by = same (Some (Formula t)) refl in (
             (λ k. let r = (each b).0 k in (
               t,
               h,
@@ -201,6 +212,23 @@ module _ (book : Book) (sides : Sides) (decisions : List Cell) (table : Table) (
                 let m = subst (λ (u : Tree). (decided b ≡ None) × (contains_key book.texts b ≡ true) × LooksFrom (refers_to_circle book leaf u) (forms_of book decided) (Some (Formula u)) b) e l.2 in
                 (each b).1 (both (not (leaf b)) (contains_key book.texts b) (ap (λ d. not (is_some d)) m.0) m.1, by.0 m.2)),
           )
+
+      -- in a circle a place looks at all of them
+      pub in_circle : (p : Place) → place_tree (asked roots) p ≡ Some t → is_kept_circular table p ≡ true → has_circle table p referred ≡ true
+          → (b : Cell) → Contains referred b ↔ PlaceLooksAt (asked roots) p b
+      in_circle (place.Cell a) h c i b = all_referred (place.Cell a) h b (λ e f. refers_by (is_circular book leaf a) e b (kept_circular a c) f)
+      in_circle (place.Side k) h c i b = all_referred (place.Side k) h b (λ e f. refers_by (refers_to_circle book leaf t) e b (side_in_circle i) f)
+
+      -- and one with a plain tree everywhere
+      pub plain_there : (p : Place) → place_tree (asked roots) p ≡ Some t → is_plain t ≡ true → (b : Cell) → Contains referred b ↔ PlaceLooksAt (asked roots) p b
+      plain_there p h n b = all_referred p h b (λ e f. refers_plain (is_in_circle book decided p t) e b n f)
+
+    -- so where what it refers to is found, that is what it looks at
+    pub all_plain : {E : Type 0} (p : Place) → place_tree (asked roots) p ≡ Some t → is_plain t ≡ true → (found : Result (Vec Cell Global) E)
+        → IfOk found (λ cells. (b : Cell) → Contains cells.items b ↔ ((is_open_text book decisions b ≡ true) × (refers (Some (Formula t)) b ≡ true)))
+        → IfOk found (λ cells. (b : Cell) → Contains cells.items b ↔ PlaceLooksAt (asked roots) p b)
+    all_plain p h n (Ok cells) each = λ b. plain_there cells.items each p h n b
+    all_plain p h n (Err e) each = each
 
     -- ---- out of circles
     not_by : (w : Bool) (b : Cell) → w ≡ false → LooksFrom w (forms_of book decided) (Some (Formula t)) b ↔ LooksFrom false (forms_of book decided) (Some (Formula t)) b

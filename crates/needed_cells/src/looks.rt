@@ -19,6 +19,7 @@ use extract::{FormTable, looked_at};
 use form_extraction::CellForm;
 use formula_ast::Expr;
 use memory::Memory;
+use plain_formulas::is_plain;
 use std::alloc::Global;
 use workbook::{Adj, Place, Workbook};
 
@@ -30,12 +31,33 @@ pub(crate) fn looks_of(alloc: Global, sheet: &Sheet, place: Place) -> Result<Vec
         sheet.now.book.now sheet.now.sides.now sheet.now.adj.now sheet.now.roots.now) place b) }
 {
     match tree_at(sheet, place) {
-        Some(tree) => looks_from(alloc, sheet, place, tree),
+        Some(tree) => looks_through(alloc, sheet, place, tree),
         None => Ok(Vec::new(alloc)),
     }
 }
 
-// Those of a place with this tree.
+// Those of a place with this tree: of a plain one all cells to which it refers, which are known without its form.
+fn looks_through(
+    alloc: Global,
+    sheet: &Sheet,
+    place: Place,
+    tree: &Expr,
+) -> Result<Vec<Cell>, Memory>
+    requires settled { IsSettled
+        (book_of sheet.now.book.now) sheet.now.sides.now sheet.now.adj.now sheet.now.forms.now }
+    requires tree { place_tree
+        (asked sheet.now.book.now sheet.now.sides.now sheet.now.adj.now sheet.now.roots.now) place
+        ≡ Some tree.now }
+    ensures { IfOk result (λ looks. (b : Cell) → Contains looks.items b ↔ PlaceLooksAt (asked
+        sheet.now.book.now sheet.now.sides.now sheet.now.adj.now sheet.now.roots.now) place b) }
+{
+    if is_plain(tree) {
+        return referred_by(alloc, sheet.book, sheet.adj, tree);
+    }
+    looks_from(alloc, sheet, place, tree)
+}
+
+// Those of a place with any tree.
 fn looks_from(alloc: Global, sheet: &Sheet, place: Place, tree: &Expr) -> Result<Vec<Cell>, Memory>
     requires settled { IsSettled
         (book_of sheet.now.book.now) sheet.now.sides.now sheet.now.adj.now sheet.now.forms.now }
