@@ -1,10 +1,10 @@
 -- The place of a sheet's own table.
-use Rattle.std.specs.Prelude.{◌==◌, ◌&&◌, not, is_none, map, nat_lt, slice_get, slice_set, Contains}
-use Rattle.std.proofs.Common.{◌≡◌, ◌<◌, ◌≤◌, ◌⊎◌, inl, inr, ℕ, suc, Bool, true, false, if◌then◌else◌, List, [], ◌∷◌, ◌++◌, length, drop, take, Option, Some, None, refl, sym, ap, ap₂, ◌∙◌, subst}
+use Rattle.std.specs.Prelude.{◌&&◌, not, is_none, map, nat_lt, slice_get, slice_set, Contains}
+use Rattle.std.proofs.Common.{◌≡◌, inl, inr, ℕ, suc, Bool, true, false, if◌then◌else◌, List, [], ◌∷◌, ◌++◌, length, drop, take, Option, Some, None, refl, sym, ap, ap₂, ◌∙◌}
 use Rattle.std.proofs.lemmas.List.{map_push, set-set, set_at}
 use Rattle.extract.specs.Tables.{no_forms}
 use Rattle.kept_tables.specs.Settled.{Parts, SheetForms, in_place_of, sheets_of, with_table, without_table}
-use Rattle.kept_tables.specs.Tables.{MOST_TABLES, dropped_for, first_idle, has_no_place, has_sheet, is_for_once}
+use Rattle.kept_tables.specs.Tables.{MOST_TABLES, dropped_for, first_idle, has_sheet, is_for_once}
 use Rattle.kept_tables.proofs.PutTables as put
 use Rattle.form_tables.specs.Inner.{IsBegun}
 use Rattle.form_tables.specs.Tables.{SheetKept, all_forms, forms_in, parts_of, sheets_in}

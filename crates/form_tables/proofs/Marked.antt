@@ -1,7 +1,7 @@
 -- Marks of a cell in tables.
-use Rattle.std.specs.Prelude.{◌&&◌, ◌||◌, not, map, if◌then◌else◌, is_some, is_none, slice_get, slice_set}
-use Rattle.std.proofs.Common.{◌≡◌, ◌<◌, ◌+◌, ℕ, suc, Bool, true, false, List, [], ◌∷◌, ◌++◌, length, get_or, take, drop, Option, Some, None, refl, sym, ap, ap₂, ◌∙◌, arith}
-use Rattle.std.proofs.lemmas.List.{drop_more, drop-set-lt, map_push, map_more, take_more_set}
+use Rattle.std.specs.Prelude.{◌&&◌, ◌||◌, not, map, if◌then◌else◌, is_some, slice_set}
+use Rattle.std.proofs.Common.{◌≡◌, ◌<◌, ◌+◌, ℕ, Bool, true, false, List, [], ◌∷◌, ◌++◌, length, get_or, take, drop, Option, None, refl, sym, ap, ap₂, ◌∙◌, arith}
+use Rattle.std.proofs.lemmas.List.{drop_more, map_push, map_more, take_more_set}
 use Rattle.cell_refs.specs.declared.cell.Cell.{Cell}
 use Rattle.recalculation.specs.Entries.{Book}
 use Rattle.workbook.specs.declared.place.Place.{Place}
@@ -9,8 +9,7 @@ use Rattle.form_extraction.specs.Places.{numbered_in}
 use Rattle.kept_marks.specs.Marks.{without_marked}
 use Rattle.touched_places.specs.Tests.{touches}
 use Rattle.extract.specs.Tables.{form_at}
-use Rattle.extract_incr.specs.Keeping.{Kept}
-use Rattle.kept_tables.specs.Settled.{SheetForms, all_marked, marked_in}
+use Rattle.kept_tables.specs.Settled.{all_marked, marked_in}
 use Rattle.sheet_problems.specs.Places.{tree_of}
 use Rattle.form_tables.specs.Tables.{SheetKept, all_forms, forms_in}
 

@@ -1,7 +1,6 @@
 -- Whether forms are made for the command alone.
 use Rattle.std.specs.Prelude.{◌&&◌, not, is_none, nat_lt, slice_get}
-use Rattle.std.proofs.Common.{◌≡◌, ◌<◌, ℕ, Bool, true, false, List, length, get_or, Option, Some, sym, ap, ◌∙◌}
-use Rattle.extract_incr.specs.Keeping.{Kept}
+use Rattle.std.proofs.Common.{◌≡◌, ◌<◌, ℕ, Bool, true, false, List, length, get_or, Some, sym, ap, ◌∙◌}
 use Rattle.kept_tables.specs.Tables.{MOST_TABLES, first_idle, has_sheet, is_for_once}
 use Rattle.form_tables.specs.Tables.{SheetKept, kept_of, sheets_in}
 use Rattle.form_tables.proofs.Placed.{Apart, at_place, own_found, sheet_there}

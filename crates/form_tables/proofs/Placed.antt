@@ -1,11 +1,10 @@
 -- Tables at their places in a list, where no two are of one sheet.
-use Rattle.std.specs.Prelude.{◌==◌, ◌||◌, not, map, filter, find, option_map, slice_get, slice_set, Contains}
-use Rattle.std.proofs.Common.{◌≡◌, ◌<◌, ◌+◌, ℕ, zero, suc, Bool, true, false, if◌then◌else◌, cond, List, [], ◌∷◌, ◌++◌, length, get_or, take, drop, Option, Some, None, refl, sym, ap, ap₂, ◌∙◌, append_assoc, eq-eqb, arith}
+use Rattle.std.specs.Prelude.{◌==◌, ◌||◌, not, map, find, option_map, slice_get, slice_set, Contains}
+use Rattle.std.proofs.Common.{◌≡◌, ◌<◌, ◌+◌, ℕ, zero, suc, Bool, true, false, if◌then◌else◌, cond, List, [], ◌∷◌, ◌++◌, length, get_or, take, drop, Some, None, refl, sym, ap, ap₂, ◌∙◌, append_assoc, eq-eqb, arith}
 use Rattle.std.specs.List.{AllByRecursion, IsDistinct}
 use Rattle.std.proofs.lemmas.Bool.{eqb-true}
 use Rattle.std.proofs.lemmas.List.{take-append-le, drop-append-le, drop_more}
 use Rattle.recalculation.proofs.Lists.{either_first, either_second}
-use Rattle.extract_incr.specs.Keeping.{Kept}
 use Rattle.kept_tables.specs.Settled.{SheetForms, in_place_of, sheets_of, without_table}
 use Rattle.kept_tables.specs.Tables.{first_idle, has_sheet}
 use Rattle.form_tables.specs.Tables.{SheetKept, all_forms, forms_in, kept_of, sheets_in}

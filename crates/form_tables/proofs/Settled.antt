@@ -1,6 +1,6 @@
 -- What stands after the forms of a sheet were settled.
-use Rattle.std.specs.Prelude.{◌==◌, ◌&&◌, not, filter, is_some, slice_get, slice_set, Contains, Result, Ok, Err, OnErr}
-use Rattle.std.proofs.Common.{◌≡◌, ◌≤◌, ◌+◌, ◌-◌, ◌⊎◌, inl, inr, ℕ, suc, Bool, true, false, cond, List, [], ◌∷◌, length, Option, Some, None, refl, sym, ap, ap₂, ◌∙◌, subst, arith}
+use Rattle.std.specs.Prelude.{◌&&◌, not, filter, slice_get, Contains, Result, Ok, Err, OnErr}
+use Rattle.std.proofs.Common.{◌≡◌, ◌≤◌, ◌+◌, ◌-◌, inl, inr, ℕ, suc, Bool, true, false, cond, List, [], ◌∷◌, length, Some, None, refl, sym, ap, ap₂, ◌∙◌, subst, arith}
 use Rattle.std.specs.FinMap.{get-empty}
 use Rattle.std.specs.Ordering.{nat_cmp}
 use Rattle.cell_refs.specs.Cells.{cell_cmp}
@@ -8,13 +8,11 @@ use Rattle.recalculation.specs.Entries.{Book}
 use Rattle.recalculation.proofs.Lists.{first_true}
 use Rattle.workbook.specs.declared.place.Place.{Place}
 use Rattle.workbook.specs.declared.place.Place.TheVariants as place
-use Rattle.form_extraction.specs.declared.forms.CellForm.{CellForm}
 use Rattle.kept_marks.specs.Marks.{AreForms}
 use Rattle.extract.specs.Tables.{form_at, no_forms}
-use Rattle.extract_incr.specs.Keeping.{AllAreKept, AreKept, GrowsTo, Kept, count_to_make}
-use Rattle.extract_incr.specs.Keeping as keeping
+use Rattle.extract_incr.specs.Keeping.{AllAreKept, AreKept, Kept, count_to_make}
 use Rattle.kept_tables.specs.Settled.{AreRight, Parts, SheetForms, decisions_of, expressions_of, sheets_of, with_table}
-use Rattle.kept_tables.specs.Steps.{MakesFew, entries_of, is_missing, stale_count}
+use Rattle.kept_tables.specs.Steps.{MakesFew, counted_entries, entries_of, is_circular_place, is_missing, stale_count}
 use Rattle.kept_tables.specs.Tables.{dropped_for, has_no_place, has_sheet, is_for_once}
 use Rattle.kept_tables.proofs.PutTables as put
 use Rattle.form_tables.specs.Inner.{Goes, IsBegun}
@@ -48,39 +46,40 @@ pub none_made : (book : Book) (tables : List SheetForms) (sheet : ℕ) (parts : 
 none_made book tables sheet parts n = record { anew = omega arith; kept = λ u c own p. omega arith }
 
 -- ---- how many forms are made
-fewer : (f g : Place → Bool) (xs : List Place) → (length (filter (λ p. f p && g p) xs) ≤ length (filter g xs)) × (length (filter g xs) ≤ length xs)
-fewer f g [] = (omega arith, omega arith)
-fewer f g (p ∷ xs) =
-    let rest = fewer f g xs in
-    elim (g p) as (λ b. (length (cond (f p && b) (p ∷ filter (λ p. f p && g p) xs) (filter (λ p. f p && g p) xs)) ≤ length (cond b (p ∷ filter g xs) (filter g xs))) × (length (cond b (p ∷ filter g xs) (filter g xs)) ≤ suc (length xs))) [
-      | true ↦
-          elim (f p) as (λ a. (length (cond (a && true) (p ∷ filter (λ p. f p && g p) xs) (filter (λ p. f p && g p) xs)) ≤ suc (length (filter g xs))) × (suc (length (filter g xs)) ≤ suc (length xs))) [
-            | true ↦ (omega (arith, rest.0), omega (arith, rest.1))
-            | false ↦ (omega (arith, rest.0), omega (arith, rest.1))
-          ]
-      | false ↦
-          elim (f p) as (λ a. (length (cond (a && false) (p ∷ filter (λ p. f p && g p) xs) (filter (λ p. f p && g p) xs)) ≤ length (filter g xs)) × (length (filter g xs) ≤ suc (length xs))) [
-            | true ↦ (omega (arith, rest.0), omega (arith, rest.1))
-            | false ↦ (omega (arith, rest.0), omega (arith, rest.1))
-          ]
+no_more_pass : (f : Place → Bool) (xs : List Place) → length (filter f xs) ≤ length xs
+no_more_pass f [] = omega arith
+no_more_pass f (p ∷ xs) =
+    let rest = no_more_pass f xs in
+    elim (f p) as (λ b. length (cond b (p ∷ filter f xs) (filter f xs)) ≤ suc (length xs)) [ true ↦ omega (arith, rest) | false ↦ omega (arith, rest) ]
+
+-- those that pass two tests are those of the first's that pass the second
+pass_both : (f g : Place → Bool) (xs : List Place) → filter (λ p. f p && g p) xs ≡ filter g (filter f xs)
+pass_both f g [] = refl
+pass_both f g (p ∷ xs) =
+    let rest = pass_both f g xs in
+    elim (f p) as (λ b. cond (b && g p) (p ∷ filter (λ p. f p && g p) xs) (filter (λ p. f p && g p) xs) ≡ filter g (cond b (p ∷ filter f xs) (filter f xs))) [
+      | true ↦ ap (λ ps. cond (g p) (p ∷ ps) ps) rest
+      | false ↦ rest
     ]
 
--- no more than are missing, and no more than there can be
-to_make : (book : Book) (k : Kept) → (count_to_make book k ≤ stale_count book (parts_of k) (form_at k.table)) × (stale_count book (parts_of k) (form_at k.table) ≤ length (entries_of book (parts_of k)))
-to_make book k = fewer (λ p. not (keeping.is_circular_place book k.sides k.decisions p)) (is_missing (form_at k.table)) (entries_of book (parts_of k))
+-- those are made that are missing
+missing_made : (book : Book) (k : Kept) → count_to_make book k ≡ stale_count book (parts_of k) (form_at k.table)
+missing_made book k = ap length (pass_both (λ p. not (is_circular_place book (parts_of k) p)) (is_missing (form_at k.table)) (entries_of book (parts_of k)))
 
 module _ (book : Book) (tables : List SheetForms) (sheet : ℕ) (parts : Parts) (k : Kept) (given : parts_of k ≡ parts) (old now : ℕ) (bound : now ≤ old + count_to_make book k) where
-  anew : now - old ≤ length (entries_of book parts)
-  anew = let m = to_make book k in let e : length (entries_of book (parts_of k)) ≡ length (entries_of book parts) = ap (λ p. length (entries_of book p)) given in omega (arith, m.0, m.1, e, bound)
+  as_stale : count_to_make book k ≡ stale_count book parts (form_at k.table)
+  as_stale = missing_made book k ∙ ap (λ p. stale_count book p (form_at k.table)) given
+
+  anew : now - old ≤ length (counted_entries book parts)
+  anew = let e = as_stale in let m = no_more_pass (is_missing (form_at k.table)) (counted_entries book parts) in omega (arith, e, m, bound)
 
   -- where forms of the sheet for these parts were kept they are those
   pub makes_few : ((u : SheetForms) → Contains tables u → u.sheet ≡ sheet → u.parts ≡ parts → u.kept ≡ form_at k.table) → MakesFew book tables sheet parts (now - old)
   makes_few same = record {
     anew = anew;
     kept = λ u c own p.
-        let m = to_make book k in
-        let e : stale_count book (parts_of k) (form_at k.table) ≡ stale_count book parts u.kept = (λ i. stale_count book (given i) (sym (same u c own p) i)) in
-        omega (arith, m.0, e, bound);
+        let e : count_to_make book k ≡ stale_count book parts u.kept = as_stale ∙ ap (stale_count book parts) (sym (same u c own p)) in
+        omega (arith, e, bound);
   }
 
 -- ---- what is kept stays right where a table is put

@@ -1,8 +1,6 @@
 -- A table among others, before its forms are settled and after.
 use Rattle.std.specs.Prelude.{◌≡◌, ◌⊎◌, ℕ, Bool, List, Some, Contains, slice_get, slice_set}
-use Rattle.cell_refs.specs.declared.cell.Cell.{Cell}
 use Rattle.recalculation.specs.Entries.{Book}
-use Rattle.sheet_problems.specs.Places.{Sides}
 use Rattle.extract.specs.Tables.{no_forms}
 use Rattle.extract_incr.specs.Keeping.{AreKept, GrowsTo}
 use Rattle.kept_tables.specs.Settled.{Parts, SheetForms, with_table}

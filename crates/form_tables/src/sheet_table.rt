@@ -1,7 +1,7 @@
 // The forms that are kept of a sheet.
 ghost use Rattle.std.specs.Prelude.{◌≡◌, ◌≤◌, ◌+◌, ◌↔◌, ◌==◌, [], ◌∷◌, IsTrue, OnOk};
 ghost use Rattle.dep_table.specs.References.{AreReferencesOf};
-ghost use Rattle.extract_incr.specs.Keeping.{AllAreKept, AreKept, GrowsTo, HaveOwnNumbers, count_to_make};
+ghost use Rattle.extract_incr.specs.Keeping.{AllAreKept, AreKept, GrowsTo, count_to_make};
 ghost use Rattle.form_tables.specs.Tables.{forms_in};
 ghost use Rattle.kept_tables.specs.Settled.{marked_in};
 ghost use Rattle.recalculation.specs.Entries.{Book};

@@ -1,4 +1,3 @@
-use Rattle.std.specs.Prelude.{slice_get, slice_set}
 use Rattle.std.proofs.Common.{◌≡◌, ◌<◌, ◌≤◌, ◌+◌, List, length, Some, sym, ◌∙◌, subst}
 use Rattle.workbook.specs.Kinds.{book_of}
 use Rattle.extract_incr.specs.Keeping.{AllAreKept, count_to_make}
