@@ -2,11 +2,9 @@
 use Rattle.std.specs.Prelude.{Result, Ok, Err}
 use Rattle.std.proofs.Common.{◌≡◌, ◌∙◌, ℕ, List, [], ◌∷◌, Option, Some, None, ap, refl, subst, sym}
 use Rattle.std.specs.List.{AllZip}
-use Rattle.std.specs.Option.{option_and_then}
 use Rattle.affine_forms.specs.Forms.{AffineForm}
 use Rattle.cell_refs.specs.declared.cell.Cell.{Cell}
 use Rattle.linear_models.specs.Linear.{linear, wide_row}
-use Rattle.linear_models.specs.Model.{Model}
 use Rattle.linear_models.specs.Statement as rows
 use Rattle.recalculation.specs.Entries.{Book}
 use Rattle.workbook.specs.Kinds.{book_of}

@@ -8,6 +8,6 @@ mod preparing;
 mod roots;
 mod stated;
 
-pub use lines::model_lines;
+pub use lines::{model_lines, row_numbers};
 pub use prepared::{NoModel, Prepared};
 pub use preparing::prepare;

@@ -6,7 +6,7 @@ ghost use Rattle.linear_models.specs.Bounds.{bounded_by};
 ghost use Rattle.linear_models.specs.Conditions.{constraints};
 ghost use Rattle.sheet_linear_model.specs.Answers.{prepared_of};
 ghost use Rattle.sheet_linear_model.specs.Inner.{number_where};
-ghost use Rattle.sheet_linear_model.specs.Lines.{lines_of, row_numbers};
+ghost use Rattle.sheet_linear_model.specs.Lines.{lines_of, numbers_of, row_numbers};
 ghost use Rattle.sheet_linear_model.specs.Prepared.{IsPrepared};
 ghost use Rattle.sheet_problems.specs.Forms.{condition_of};
 ghost use Rattle.solver_names.specs.Answers.{row_of};
@@ -48,8 +48,8 @@ fn push_number(
     Ok(())
 }
 
-// The numbers of the rows that aren't bounds of a decision.
-fn row_numbers(
+// The numbers of those of some rows that aren't bounds of a decision.
+fn numbers_among(
     alloc: Global,
     decisions: &Adj,
     rows: &[RowOf],
@@ -64,6 +64,14 @@ fn row_numbers(
         push_number(&mut numbers, decisions, row, &sides[place].1)?;
     }
     Ok(numbers)
+}
+
+/// The numbers of the rows of the names that are rows of the model, in their order: of all that aren't bounds of a decision.
+pub fn row_numbers(alloc: Global, of: &Prepared) -> Result<Vec<u16>, Memory>
+    requires { (book : State) × (sheet : ℕ) × IsPrepared book sheet (prepared_of of.now) }
+    ensures { IfOk result (λ numbers. numbers.items ≡ numbers_of (prepared_of of.now)) }
+{
+    numbers_among(alloc, &of.statement.adj, &of.statement.rows, &of.sides)
 }
 
 // What is wanted of the objective, where there is one.
@@ -81,7 +89,7 @@ pub fn model_lines(alloc: Global, of: Prepared) -> Result<ModelLines, Memory>
     requires { (book : State) × (sheet : ℕ) × IsPrepared book sheet (prepared_of of) }
     ensures { IfOk result (λ lines. lines ≡ lines_of (prepared_of of)) }
 {
-    let numbers = row_numbers(alloc, &of.statement.adj, &of.statement.rows, &of.sides)?;
+    let numbers = row_numbers(alloc, &of)?;
     let goal = goal_wanted(&of.statement);
     let Prepared {
         statement,

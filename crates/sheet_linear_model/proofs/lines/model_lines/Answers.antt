@@ -1,10 +1,6 @@
-use Rattle.std.proofs.Common.{◌∙◌, ap, length, sym}
 use Rattle.sheet_linear_model.specs.Answers.{prepared_of}
-use Rattle.sheet_linear_model.proofs.Printed.{objective_reaches, one_mark_each, sides_of_rows}
+use Rattle.sheet_linear_model.proofs.Printed.{objective_reaches, one_mark_each}
 use Rattle.sheet_linear_model.proofs.lines.model_lines.Goals as goal
-
-pub row_numbers-requires : goal.row_numbers-requires
-row_numbers-requires c = ap length c.deref-2.ensures.value ∙ sides_of_rows c.requires.0 c.requires.1 c.args.of c.requires.2 ∙ sym (ap length c.deref.ensures.value)
 
 pub new-requires-clause-marks : goal.new-requires-clause-marks
 new-requires-clause-marks c = one_mark_each c.requires.0 c.requires.1 (prepared_of c.args.of) c.requires.2

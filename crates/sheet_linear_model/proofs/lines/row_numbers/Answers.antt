@@ -1,13 +1,6 @@
-use Rattle.linear_models.specs.Conditions.{constraints}
-use Rattle.std.proofs.Common.{map}
-use Rattle.solver_names.specs.Answers.{row_of}
-use Rattle.sheet_problems.specs.Forms.{condition_of}
-use Rattle.sheet_linear_model.specs.Lines.{row_numbers}
-use Rattle.sheet_linear_model.proofs.Looping.{numbers_step}
+use Rattle.std.proofs.Common.{◌∙◌, ap, length, sym}
+use Rattle.sheet_linear_model.proofs.Printed.{sides_of_rows}
 use Rattle.sheet_linear_model.proofs.lines.row_numbers.Goals as goal
 
-pub loop-place-preserved : goal.loop-place-preserved
-loop-place-preserved c =
-    numbers_step c.args.decisions.now c.args.rows.now c.args.sides.now c.loop-place.place c.loop-place.numbers.items c.push_number.new.numbers.items
-    (row_numbers (map row_of c.args.rows.now) (constraints (map (condition_of c.args.decisions.now) (map row_of c.args.rows.now)) c.args.sides.now)) _ c.index-sides-place.result c.requires
-    c.loop-place-test.true c.in_ok-push_number.ensures c.loop-place.invariant
+pub numbers_among-requires : goal.numbers_among-requires
+numbers_among-requires c = ap length c.deref-2.ensures.value ∙ sides_of_rows c.requires.0 c.requires.1 c.args.of.now c.requires.2 ∙ sym (ap length c.deref.ensures.value)

@@ -3,7 +3,7 @@ use Rattle.linear_models.specs.Conditions.{constraints}
 use Rattle.solver_names.specs.Answers.{row_of}
 use Rattle.sheet_problems.specs.Forms.{condition_of}
 use Rattle.sheet_linear_model.specs.Lines.{row_numbers}
-use Rattle.sheet_linear_model.proofs.lines.row_numbers.Given as goal
+use Rattle.sheet_linear_model.proofs.lines.numbers_among.Given as goal
 
 -- with those that are left the numbers are all
 abbrev pub invariant-loop-place : goal.invariant-loop-place
