@@ -1,4 +1,4 @@
-//! Shadow prices of the rows of a linear model, with the exact range in which each holds
+//! Shadow prices of the rows of a linear model, each with the range that the last dictionary gives it, in which it holds
 //! (Chvátal, Linear Programming, chapters 5 and 10).
 #![tactic(auto)]
 

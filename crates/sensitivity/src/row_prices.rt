@@ -16,6 +16,7 @@ use tableau::Dict;
 /// The price of the row at that place of a model, and the changes of its right side between which it holds.
 #[derive(Clone, Copy)]
 pub struct Price {
+    /// The place of the row in the model, from 0.
     pub row: u16,
     pub price: Frac,
     pub low: Option<Frac>,

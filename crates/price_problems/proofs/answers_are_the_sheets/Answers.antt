@@ -1,5 +1,0 @@
-use Rattle.price_problems.proofs.Agreed.{answers_are_the_sheets}
-use Rattle.price_problems.proofs.answers_are_the_sheets.Goals as goal
-
-pub returns : goal.returns
-returns c = answers_are_the_sheets

@@ -1,4 +1,0 @@
-pub mod Raised
-pub mod Laws
-pub mod Prices
-pub mod Examples
