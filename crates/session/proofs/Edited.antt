@@ -1,5 +1,5 @@
 -- Cells that say what they said before an edit.
-use Rattle.std.proofs.Common.{◌≡◌, ◌∙◌, cond, List, [], ◌∷◌, ℕ, map, Option, Some, None, ap, refl, sym, subst}
+use Rattle.std.proofs.Common.{◌≡◌, ◌∙◌, cond, List, [], ◌∷◌, ℕ, map, Some, None, ap, refl, sym}
 use Rattle.std.specs.Prelude.{Contains, Err, IfOk, Ok, OnErr, Result, option_map, zip}
 use Rattle.std.specs.FinMap.{get, get-insert, insert}
 use Rattle.cell_refs.specs.declared.cell.Cell.{Cell}

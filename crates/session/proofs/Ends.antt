@@ -11,6 +11,7 @@ use Rattle.commands.specs.declared.answer.Answer.{Answer}
 use Rattle.commands.specs.declared.answer.Answer.TheVariants as answer
 use Rattle.session.specs.Cuts.{Slices as CutSlices, cut}
 use Rattle.session.specs.Models.{Models}
+use Rattle.session.specs.Prices.{PricesSheet, TellsPrices}
 use Rattle.session.specs.Solves.{SearchEnds, SolvesSheet, WithModel}
 use Rattle.session.specs.States.{SessionState, open_search}
 use Rattle.session.proofs.Said.{if_ok_map}
@@ -33,6 +34,9 @@ module _ {E : Type 0} (before : SessionState) (sheet : ℕ) (stop : NoModel) (r 
 
   pub none_solved : (rule : Rule) → IfOk r (λ a. SolvesSheet rule before sheet a before)
   none_solved rule = none_made (λ (p : Prepared). SearchEnds (whole_task rule before.budget) before p.statement p.model)
+
+  pub none_priced : IfOk r (λ a. PricesSheet before sheet a before)
+  none_priced = none_made (TellsPrices before)
 
   pub none_sliced : (rule : Rule) (units : ℕ)
       → IfOk r (λ a. (search : Opened) → open_search before sheet ≡ Some search → WithModel (CutSlices rule before (cut sheet units search)) before sheet a before)

@@ -4,6 +4,7 @@ pub mod Edited
 pub mod Marked
 pub mod Said
 pub mod Ends
+pub mod Priced
 pub mod Cuts
 pub mod Naming
 pub mod Changed

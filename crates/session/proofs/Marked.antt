@@ -1,6 +1,6 @@
 -- Marks of several cells, one behind the other.
 use Rattle.std.specs.Prelude.{◌||◌, Contains, if◌then◌else◌}
-use Rattle.std.proofs.Common.{◌≡◌, ◌∙◌, ◌<◌, Bool, true, false, List, [], ◌∷◌, Option, None, Some, ap, ap₂, arith, refl, subst, sym}
+use Rattle.std.proofs.Common.{◌≡◌, ◌∙◌, Bool, true, false, List, [], ◌∷◌, Option, None, Some, ap, ap₂, arith, refl, subst, sym}
 use Rattle.cell_refs.specs.declared.cell.Cell.{Cell}
 use Rattle.recalculation.specs.Entries.{Book}
 use Rattle.kept_marks.specs.Marks.{marks, marks_all}

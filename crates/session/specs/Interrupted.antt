@@ -1,7 +1,7 @@
 -- What stands after want of memory, which comes only where memory was taken.
 use Rattle.std.specs.Prelude.{◌≡◌, ◌≢◌, ◌⊎◌, [], IsSome, Result, Ok, Err}
 use Rattle.cell_refs.specs.Names.{place_in}
-use Rattle.commands.specs.Commands.{Spoken, Set, Clear, Name, Unname, Show, Model, Solve, Begin, Slice, Stop, Budget, Save, Unknown}
+use Rattle.commands.specs.Commands.{Spoken, Set, Clear, Name, Unname, Show, Model, Solve, Prices, Begin, Slice, Stop, Budget, Save, Unknown}
 use Rattle.commands.specs.Locating.{cell_named}
 use Rattle.node_pick.specs.Rules.{Rule}
 use Rattle.session.specs.Cuts.{Cut, IsUnderWay, cut_of, sheet_to_begin}
@@ -15,7 +15,7 @@ IsAllowed (Ok x) = Unit {0}
 IsAllowed (Err e) = ⊥
 
 -- the command is none that is refused before any memory is taken, and none that takes no memory: a text is put where it may be and isn't
--- empty, a name is given or removed where it may be, the cell to be shown or the sheet to be modelled is there, a search may be opened, one
+-- empty, a name is given or removed where it may be, the cell to be shown or the sheet to be modelled, solved or priced is there, a search may be opened, one
 -- is open that is to go on, or there is a file to be saved
 abbrev pub TakesMemory : SessionState → Spoken → Type 0
 TakesMemory s (Set address text) = IsAllowed (cell_to_set s.book address text) × (text ≢ [])
@@ -25,6 +25,7 @@ TakesMemory s (Unname sheet name) = IsAllowed (home_to_unname s.book sheet name)
 TakesMemory s (Show address) = IsAllowed (cell_named s.book.sheets address)
 TakesMemory s (Model sheet) = IsSome (place_in s.book.sheets sheet)
 TakesMemory s (Solve sheet) = IsSome (place_in s.book.sheets sheet)
+TakesMemory s (Prices sheet) = IsSome (place_in s.book.sheets sheet)
 TakesMemory s (Begin sheet) = IsAllowed (sheet_to_begin s sheet)
 TakesMemory s (Slice sheet units) = IsAllowed (cut_of s sheet units)
 TakesMemory s (Stop sheet) = ⊥

@@ -3,6 +3,7 @@ pub mod States
 pub mod Edits
 pub mod Models
 pub mod Solves
+pub mod Prices
 pub mod Cuts
 pub mod Saves
 pub mod Steps

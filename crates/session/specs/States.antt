@@ -12,7 +12,7 @@ pub record Changes : Type 0 where
   pub sheets : List Bool
   pub names : Bool
 
--- the workbook, the files that have changed, how many units a search may spend, and for each sheet its open search, if it has one
+-- the workbook, the files that have changed, how many units a search or a run for prices may spend, and for each sheet its open search, if it has one
 pub record SessionState : Type 0 where
   pub book : State
   pub changed : Changes

@@ -9,10 +9,11 @@ use Rattle.workbook.specs.Kinds.{book_of}
 use Rattle.workbook.specs.Naming.{after_name, after_unname}
 use Rattle.commands.specs.declared.answer.Answer.{Answer}
 use Rattle.commands.specs.declared.answer.Answer.TheVariants as answer
-use Rattle.commands.specs.Commands.{Spoken, Set, Clear, Name, Unname, Show, Model, Solve, Begin, Slice, Stop, Budget, Save, Unknown}
+use Rattle.commands.specs.Commands.{Spoken, Set, Clear, Name, Unname, Show, Model, Solve, Prices, Begin, Slice, Stop, Budget, Save, Unknown}
 use Rattle.commands.specs.Locating.{cell_named, sheet_named, units_named}
 use Rattle.session.specs.Edits.{cell_to_set, home_to_name, home_to_unname}
 use Rattle.session.specs.Models.{Models}
+use Rattle.session.specs.Prices.{PricesSheet}
 use Rattle.session.specs.Saves.{Saves}
 use Rattle.session.specs.Cuts.{Begins, Cut, Slices, Stops, cut_of, sheet_to_begin, sheet_to_stop}
 use Rattle.session.specs.Solves.{SolvesSheet, WithModel}
@@ -60,6 +61,7 @@ Applies rule before (Unname sheet name) a after = Does (λ home. IsDone (without
 Applies rule before (Show address) a after = Does (Shows before) before (cell_named before.book.sheets address) a after
 Applies rule before (Model sheet) a after = Does (ModelsSheet before) before (sheet_named before.book.sheets sheet) a after
 Applies rule before (Solve sheet) a after = Does (SolvesSheet rule before) before (sheet_named before.book.sheets sheet) a after
+Applies rule before (Prices sheet) a after = Does (PricesSheet before) before (sheet_named before.book.sheets sheet) a after
 Applies rule before (Begin sheet) a after = Does (λ i. WithModel (Begins before i) before i) before (sheet_to_begin before sheet) a after
 Applies rule before (Slice sheet units) a after = Does (λ (c : Cut). WithModel (Slices rule before c) before c.sheet) before (cut_of before sheet units) a after
 Applies rule before (Stop sheet) a after = Does (Stops before) before (sheet_to_stop before sheet) a after

@@ -8,6 +8,7 @@ mod kept_references;
 mod laws;
 mod models;
 mod open_searches;
+mod prices;
 mod saving;
 mod session;
 mod slicing;

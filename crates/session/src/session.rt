@@ -36,7 +36,7 @@ use std::alloc::Global;
 use std::marker::Model;
 use workbook::{Adj, Workbook};
 
-/// A workbook to which commands are applied, the files that have changed since they were read, the budget of a search in units, and
+/// A workbook to which commands are applied, the files that have changed since they were read, the budget in units, and
 /// the open searches, one for a sheet. A slice goes by the budget as it is then, so that a new budget reaches every open search.
 #[derive(Drop)]
 pub struct Session {
@@ -145,6 +145,7 @@ impl Session {
             Command::Show(address) => self.show(address.as_str()),
             Command::Model(sheet) => self.model(sheet.as_str()),
             Command::Solve(sheet) => self.solve(sheet.as_str(), pick),
+            Command::Prices(sheet) => self.prices(sheet.as_str()),
             Command::Begin(sheet) => self.begin(sheet.as_str()),
             Command::Slice(sheet, units) => self.slice(sheet.as_str(), units.as_str(), pick),
             Command::Stop(sheet) => Ok(self.stop(sheet.as_str())),
