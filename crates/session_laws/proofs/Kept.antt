@@ -13,11 +13,12 @@ use Rattle.sheet_linear_model.specs.Prepared.{Prepared}
 use Rattle.sheet_solving.specs.Searches.{Opened, Searched, Task, total, whole_task}
 use Rattle.commands.specs.declared.answer.Answer.{Answer}
 use Rattle.commands.specs.declared.answer.Answer.TheVariants as answer
-use Rattle.commands.specs.Commands.{Spoken, Set, Clear, Name, Unname, Show, Model as ToModel, Solve, Begin, Slice, Stop, Budget, Save, Unknown}
+use Rattle.commands.specs.Commands.{Spoken, Set, Clear, Name, Unname, Show, Model as ToModel, Solve, Prices, Begin, Slice, Stop, Budget, Save, Unknown}
 use Rattle.commands.specs.Locating.{cell_named, sheet_named, units_named}
 use Rattle.session.specs.Cuts.{Begins, Cut, Resumes, Sliced, Slices, cut_of, sheet_to_begin, sheet_to_stop}
 use Rattle.session.specs.Edits.{cell_to_set, home_to_name, home_to_unname}
 use Rattle.session.specs.Interrupted.{IsInterrupted}
+use Rattle.session.specs.Prices.{TellsPrices}
 use Rattle.session.specs.Saves.{Saves}
 use Rattle.session.specs.Solves.{SearchEnds, WithModel, with_written}
 use Rattle.session.specs.States.{SessionState, open_search}
@@ -138,6 +139,8 @@ module _ (before after : SessionState) (stand : AllStand before.searches) where
       (λ p d. same_stand before.searches after.searches stand (ends (whole_task rule before.budget) before p.statement p.model a after d))
       stays_same w)
       stays_same h
+  applies rule (Prices name) a h =
+      does _ _ before (sheet_named before.book.sheets name) a after (λ i e w. with_model (AllStand after.searches) (TellsPrices before) before i a after (λ p d. stays_same d.2) stays_same w) stays_same h
   applies rule (Begin name) a h =
       does _ _ before (sheet_to_begin before name) a after
       (λ i e w. with_model (AllStand after.searches) (Begins before i) before i a after

@@ -6,6 +6,9 @@ pub mod Trails
 pub mod Tasks
 pub mod Ends
 pub mod Cuts
+pub mod Runs
+pub mod Priced
+pub mod Prices
 pub mod Shown
 pub mod Named
 pub mod Kept

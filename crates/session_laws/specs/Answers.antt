@@ -15,6 +15,7 @@ SameFault fault other = fault ≡ other
 -- answers are equal, but that their lists have the same elements, wherever these lie in memory
 abbrev pub SameAnswer : Answer → Answer → Type 0
 SameAnswer (answer.ToSave files) (answer.ToSave others) = files.items ≡ others.items
+SameAnswer (answer.Prices lines) (answer.Prices others) = (lines.value ≡ others.value) × (lines.rows.items ≡ others.rows.items)
 SameAnswer (answer.Names fault) (answer.Names other) = SameFault fault other
 SameAnswer (answer.WidePivot path basis leaves enters) (answer.WidePivot steps given left entered) =
     (path.items ≡ steps.items) × (basis.items ≡ given.items) × (leaves ≡ left) × (enters ≡ entered)
