@@ -1,4 +1,5 @@
-//! The run of the program, with the pickers that it has, and the number in which the program ends.
+//! The run of the program, with the pickers that it has, and the number in which the program ends: over the runtime's own handles, and over
+//! those that are handed in.
 #![tactic(auto)]
 
 ghost use Rattle.std.specs.Prelude.{◌≡◌, ◌∷◌, [], IfOk, OnErr};
@@ -8,28 +9,57 @@ ghost use Rattle.opensolver_cli.specs.Completeness.{EndsExactly};
 ghost use Rattle.opensolver_cli.specs.Headline.{IsCounted, RunsAs};
 ghost use Rattle.run_inputs.specs.Numbers.{number_of};
 ghost use Rattle.opensolver_cli.specs.Outside.{seen};
-ghost use Rattle.real_run.specs.Exits.{RunsToEnd, Tells};
+ghost use Rattle.real_run.specs.Exits.{IsEnd, IsEndOfRun, RunsToEnd, Tells};
 ghost use Rattle.command_line.specs.Words.{asked_of, texts_of};
 
 use node_pick::{Best, Depth, Oldest, Picker};
-pub use opensolver_cli::Status;
-use opensolver_cli::run;
-use solver_io::{Folder, Sink, Source};
+use opensolver_cli::{Status, run};
+use solver_io::{DirFolder, Folder, InSource, OutSink, Sink, Source};
 use std::alloc::{AllocError, AllocGlobal, Global};
 use std::env;
 use std::io::ErrorKind;
 use std::process::ExitCode;
 use std::rt::Runtime;
 
-/// The exit code that tells how a run ends.
-pub fn exit_code(status: Status) -> ExitCode
+/// Runs over the words of the command line, the working directory, standard input and standard output, and gives the exit code in which the
+/// program ends. A contract can't say over which words and files, since none says what the real handles hold; so the clause tells only
+/// that it is the number of a run over some of them, or 5 where there was no memory to begin one. `run_for_real` tells of which run.
+pub fn run_here<R: Runtime + AllocGlobal>(rt: R) -> ExitCode
+    ensures { Tells IsEnd result }
+{
+    match end_of_run(rt) {
+        Ok(code) => code,
+        Err(_) => exit_code(Status::Memory),
+    }
+}
+
+// Makes the handles and runs over them; an `Err` is want of memory for them and for the words.
+fn end_of_run<R: Runtime + AllocGlobal>(rt: R) -> Result<ExitCode, AllocError>
+    ensures { IfOk result (Tells IsEndOfRun) }
+{
+    let words = words(&rt)?;
+    let mut folder = DirFolder::new(rt.clone()?);
+    let mut script = InSource::new(rt.clone()?);
+    let mut out = OutSink::new(rt.clone()?);
+    let code = run_for_real(
+        rt.alloc(),
+        words.as_slice(),
+        &mut folder,
+        &mut script,
+        &mut out,
+    );
+    Ok(code)
+}
+
+// The exit code that tells how a run ends.
+fn exit_code(status: Status) -> ExitCode
     ensures { exit_status result ≡ number_of status }
 {
     ExitCode::from(status.number())
 }
 
-/// A run with a picker of each rule, and the exit code in which the program ends: the number of one status, as which the run goes.
-/// `main` hands in the words of the command line, the working directory, standard input and standard output.
+/// A run with a picker of each rule over the words and handles that are given, and the exit code in which the program ends: the number of
+/// one status, as which the run goes.
 pub fn run_for_real<F: Folder, S: Source, K: Sink>(
     alloc: Global,
     words: &[String],
@@ -91,8 +121,8 @@ pub fn run_with_pickers<F: Folder, S: Source, K: Sink>(
     Ok(status)
 }
 
-/// The words behind the program's name; no words, which are no command line, where one of them is no text.
-pub fn words<R: Runtime + AllocGlobal>(rt: &R) -> Result<Vec<String>, AllocError> {
+// The words behind the program's name; no words, which are no command line, where one of them is no text.
+fn words<R: Runtime + AllocGlobal>(rt: &R) -> Result<Vec<String>, AllocError> {
     match env::args(rt) {
         Ok(words) => words.skip(1).collect(rt.alloc()),
         Err(error) => {
