@@ -59,7 +59,7 @@ class Case:
         for row in range(5, 10):
             for column in 'ABCD':
                 script.append(['name', self.sheets[0], 'solver_opt', column + str(row)])
-                script.append([self.pick('model', 'model', 'model', 'solve'), self.sheets[0]])
+                script.append([self.pick('model', 'model', 'prices', 'solve'), self.sheets[0]])
         return self.files(sheets, script)
 
     # Runs that show cells.
@@ -154,7 +154,7 @@ class Case:
             'neg': self.pick('1', '1', '2'), 'val': number(),
         }
         self.names = [['plan', 'solver_' + name, text] for name, text in texts.items()]
-        script = [['model', 'plan'], ['solve', 'plan'], ['begin', 'plan'], ['slice', 'plan', '2'], ['slice', 'plan', '30'], ['save']]
+        script = [['model', 'plan'], ['prices', 'plan'], ['solve', 'plan'], ['begin', 'plan'], ['slice', 'plan', '2'], ['slice', 'plan', '30'], ['save']]
         return self.files([sheet], script)
 
     def number(self):
@@ -227,7 +227,9 @@ class Case:
                 script.append(['slice', sheet, self.pick('1', '2', '3', '10', '100', '0', '001', 'x', '1000000', '1000001')])
             elif chosen < 0.67:
                 script.append(['stop', self.sheet_field()])
-            elif chosen < 0.71:
+            elif chosen < 0.69:
+                script.append(['prices', sheet])
+            elif chosen < 0.73:
                 script.append(['budget', self.pick('1', '2', '5', '50', '0', '60')])
             elif chosen < 0.78:
                 script.append(['show', self.address()])

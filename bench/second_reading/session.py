@@ -6,6 +6,7 @@ from . import rows
 from .book import LIMITS, Entries, is_formula, least, own_refusals
 from .fraction import printed
 from .model import Building, Refused, side_form
+from .prices import price_lines
 from .search import PICKERS, Search, Stuck
 from .statement import NamesFault, Reading
 from .tokens import COLUMNS, ROWS, column, is_name, lower, row, unquoted
@@ -13,8 +14,8 @@ from .values import EMPTY, Fault, is_number
 
 ADDRESS = re.compile(r"""(\$?'(?:[^']|'')*'|[A-Za-z_$\x80-\xff][A-Za-z0-9_$\x80-\xff]*)[!.]\$?([A-Za-z]+)\$?([0-9]+)\Z""", re.ASCII)
 FIELDS = {
-    'set': 3, 'clear': 2, 'name': 4, 'unname': 3, 'show': 2, 'model': 2, 'solve': 2, 'begin': 2, 'slice': 3, 'stop': 2, 'budget': 2,
-    'save': 1,
+    'set': 3, 'clear': 2, 'name': 4, 'unname': 3, 'show': 2, 'model': 2, 'solve': 2, 'prices': 2, 'begin': 2, 'slice': 3, 'stop': 2,
+    'budget': 2, 'save': 1,
 }
 MOST_UNITS, MOST_SEARCHES = 10 ** 6, 8
 PLAIN = re.compile(r'[A-Za-z_\x80-\xff][A-Za-z0-9_\x80-\xff]*\Z', re.ASCII)
@@ -194,6 +195,19 @@ class Session:
             kind = 'integer' if model.whole[number] else 'continuous'
             lines.append('cell %s %s %s %s' % (self.cell(cell), kind, low, high))
         return '\n'.join(lines + ['end'])
+
+    # Prices.
+    def do_prices(self, sheet_name):
+        ready = self.prepared(self.sheet(sheet_name))
+        of, model = ready.statement, ready.model
+        if of.objective is None or of.goal == 'reach':
+            raise Refused('no-objective')
+        if any(model.whole):
+            raise Refused('not-continuous ' + self.cell(of.decisions[model.whole.index(True)]))
+        try:
+            return '\n'.join(price_lines(model, ready.row_numbers, self.budget))
+        except Stuck as stuck:
+            raise Refused(self.stuck(stuck, of.decisions)) from stuck
 
     # Searches.
     def do_solve(self, sheet_name):
