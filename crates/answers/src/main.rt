@@ -46,9 +46,7 @@ mod spelling;
 
 use cases::Cases;
 use lines::Line;
-use real_run::{run_for_real, words};
-use solver_io::{DirFolder, InSource, OutSink};
-use std::alloc::AllocError;
+use real_run::run_here;
 use std::io;
 use std::io::{BufRead, BufReader};
 use std::process::ExitCode;
@@ -57,26 +55,7 @@ fn main(rt: HostRuntime) -> ExitCode {
     if print_answers(&rt).is_err() {
         return ExitCode::FAILURE;
     }
-    match end_of_run(&rt) {
-        Ok(code) => code,
-        Err(_) => ExitCode::FAILURE,
-    }
-}
-
-// Runs over the real thing with this program's own words; nothing is left of its standard input.
-fn end_of_run(rt: &HostRuntime) -> Result<ExitCode, AllocError> {
-    let words = words(rt)?;
-    let mut folder = DirFolder::new(rt.clone()?);
-    let mut script = InSource::new(rt.clone()?);
-    let mut out = OutSink::new(rt.clone()?);
-    let code = run_for_real(
-        rt.alloc(),
-        words.as_slice(),
-        &mut folder,
-        &mut script,
-        &mut out,
-    );
-    Ok(code)
+    run_here(rt)
 }
 
 // Prints what comes of each case of standard input.
