@@ -7,7 +7,7 @@ use Rattle.std.proofs.lemmas.List.Elements.{All-from_recursion, recursion_from_A
 use Rattle.optimality.specs.Problem.{Goal, greatest}
 use Rattle.affine_forms.specs.Assigned.{ReachTo}
 use Rattle.affine_forms.specs.Forms.{AffineForm, decision_form}
-use Rattle.linear_models.specs.Agreement.{Fits, IsOwn, SidesReach}
+use Rattle.linear_models.specs.Agreement.{Fits, IsGroupIn, IsOwn, SidesReach}
 use Rattle.linear_models.specs.Conditions.{Condition, Conditions, constraint_of, constraints, goal_or_greatest, objective_where}
 use Rattle.linear_models.specs.Statement.{Constraint}
 use Rattle.lin_model.proofs.RowsLeft.{same_length}
@@ -48,8 +48,8 @@ own_told n row left j b e h = (
 -- all parts of a statement
 pub all_fit : (c : Conditions) (f : AffineForm) (sides : List (AffineForm × AffineForm)) (b : Bool) → c.decisions ≤ 512 → length c.rows ≤ 256 → length sides ≡ length c.rows
     → ((g : AffineForm) → objective_where c.goal f ≡ Some g → ReachTo g.terms c.decisions) → RowsFit c.decisions c.rows sides → All (λ j. j < c.decisions) c.whole
-    → IsTrue b ↔ All (λ j. j < c.decisions) c.binary → IsTrue b ↔ Fits c f sides
-all_fit c f sides b few rows each objective fit whole h = (
+    → All (λ j. j < c.decisions) c.binary → IsTrue b ↔ All (IsGroupIn c.decisions) c.groups → IsTrue b ↔ Fits c f sides
+all_fit c f sides b few rows each objective fit whole binary h = (
   λ t. (
     each,
     record {
@@ -59,11 +59,12 @@ all_fit c f sides b few rows each objective fit whole h = (
       sides = All-from_recursion _ _ (reaches c.decisions (constraints c.rows sides) fit);
       objective = objective;
       whole = whole;
-      binary = h.0 t;
+      binary = binary;
+      groups = h.0 t;
       goal = goal c.goal;
     },
   ),
-  λ p. h.1 p.1.binary,
+  λ p. h.1 p.1.groups,
 )
   where
     goal : (g : Option Goal) → objective_where g f ≡ None → goal_or_greatest g ≡ greatest

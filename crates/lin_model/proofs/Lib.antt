@@ -4,6 +4,8 @@ pub mod Raises
 pub mod Rules
 pub mod RowsLeft
 pub mod Equal
+pub mod Lists
+pub mod Apart
 pub mod Assembled
 pub mod Agreed
 pub mod FitRows

@@ -126,7 +126,7 @@ stopped_all items cs q e (Ok x) is h = absurd is
 stopped_all items cs q e (Err s) is h = subst (λ t. AreBuilt (cs ++ q ∷ []) (Err t)) (sym is) (still_stopped cs q e h)
 
 -- a model by its fields
-pub model_is : (m : Model) (goal : Goal) (objective : AffineForm) (rows : List (AffineForm × Relation)) (whole : List Bool) (bounds : Box)
-    → goal ≡ m.goal → objective ≡ m.objective → rows ≡ m.rows → whole ≡ m.whole → bounds ≡ m.bounds
-    → record { goal = goal; objective = objective; rows = rows; whole = whole; bounds = bounds } ≡ m
-model_is m goal objective rows whole bounds g o r w b = λ i. record { goal = g i; objective = o i; rows = r i; whole = w i; bounds = b i }
+pub model_is : (m : Model) (goal : Goal) (objective : AffineForm) (rows : List (AffineForm × Relation)) (whole : List Bool) (bounds : Box) (groups : List (List ℕ))
+    → goal ≡ m.goal → objective ≡ m.objective → rows ≡ m.rows → whole ≡ m.whole → bounds ≡ m.bounds → groups ≡ m.groups
+    → record { goal = goal; objective = objective; rows = rows; whole = whole; bounds = bounds; groups = groups } ≡ m
+model_is m goal objective rows whole bounds groups g o r w b s = λ i. record { goal = g i; objective = o i; rows = r i; whole = w i; bounds = b i; groups = s i }

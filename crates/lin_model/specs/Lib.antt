@@ -1,4 +1,5 @@
 pub mod Kinds
+pub mod Lists
 pub mod ModelFields
 pub mod Built
 pub mod Inner

@@ -13,6 +13,7 @@ ghost use Rattle.lin_model.specs.Inner.{AreBuilt, AreForms};
 ghost use Rattle.lin_model.specs.Kinds.{goal_of};
 
 use crate::conditions::Conditions;
+use crate::groups::copy_groups;
 use crate::kinds::Goal;
 use crate::model::{FormRow, LinModel};
 use crate::rows::{push_reaching, rows_left};
@@ -68,7 +69,7 @@ fn all_rows(
     }
 }
 
-// The goal, the objective, the rows, the marks and the bounds, as one model.
+// The goal, the objective, the rows, the marks, the bounds and the groups, as one model.
 fn put_together(
     alloc: Global,
     of: &Conditions,
@@ -84,11 +85,13 @@ fn put_together(
     let whole = marks(alloc, of, sides)?;
     let bounds = bounds(alloc, of, sides)?;
     let left = objective_left(alloc, of.goal(), objective)?;
-    Ok(LinModel::new(goal_left(of.goal()), left, rows, whole, bounds))
+    let groups = copy_groups(alloc, of.groups())?;
+    Ok(LinModel::new(goal_left(of.goal()), left, rows, whole, bounds, groups))
 }
 
 /// The linear model of a statement with its objective and the two sides of each row as forms. A row whose left side is
-/// a decision and whose right side is a number is a bound of that decision. Without a goal the objective is not read.
+/// a decision and whose right side is a number is a bound of that decision. The decisions of a group of N are to be
+/// whole, different, at least 1 and at most N. Without a goal the objective is not read.
 pub fn linear(
     alloc: Global,
     of: &Conditions,

@@ -2,6 +2,7 @@
 ghost use Rattle.std.specs.Prelude.{◌≡◌};
 ghost use Rattle.std.specs.Option.{option_map};
 ghost use Rattle.lin_model.specs.Kinds.{goal_of, relation_of};
+ghost use Rattle.lin_model.specs.Lists.{lists_of};
 
 use crate::kinds::{Goal, Relation};
 use std::marker::Model;
@@ -43,7 +44,8 @@ impl Condition {
 }
 
 /// All of a statement but its forms. The lists have numbers of decisions: those that are whole, those that are 0 or 1,
-/// and those with a lower bound of their own. Without an objective there is no goal.
+/// those with a lower bound of their own, and groups of N that hold the numbers 1 to N, each once. Without an objective
+/// there is no goal.
 #[derive(Debug, Drop)]
 pub struct Conditions {
     decisions: u16,
@@ -53,12 +55,14 @@ pub struct Conditions {
     binary: Vec<u16>,
     explicit: Vec<u16>,
     not_negative: bool,
+    groups: Vec<Vec<u16>>,
 }
 
 impl Model for Conditions {
     ghost use Rattle.linear_models.specs.Conditions.{Conditions as Stated};
     ghost use Rattle.std.specs.Option.{option_map};
     ghost use Rattle.lin_model.specs.Kinds.{goal_of};
+    ghost use Rattle.lin_model.specs.Lists.{lists_of};
 
     ghost Value = { Stated };
 
@@ -70,6 +74,7 @@ impl Model for Conditions {
       binary = c.binary.items;
       explicit = c.explicit.items;
       not_negative = c.not_negative;
+      groups = lists_of c.groups.items;
     } };
 }
 
@@ -82,6 +87,7 @@ impl Conditions {
         binary: Vec<u16>,
         explicit: Vec<u16>,
         not_negative: bool,
+        groups: Vec<Vec<u16>>,
     ) -> Conditions
         ensures { result ≡ record {
           decisions = decisions;
@@ -91,6 +97,7 @@ impl Conditions {
           binary = binary.items;
           explicit = explicit.items;
           not_negative = not_negative;
+          groups = lists_of groups.items;
         } }
     {
         Conditions {
@@ -101,6 +108,7 @@ impl Conditions {
             binary,
             explicit,
             not_negative,
+            groups,
         }
     }
 
@@ -149,5 +157,12 @@ impl Conditions {
         ensures { result ≡ self.now.not_negative }
     {
         self.not_negative
+    }
+
+    /// The groups of decisions that hold the numbers from 1 to as many as they are, each once.
+    pub fn groups(&self) -> &[Vec<u16>]
+        ensures { lists_of result.now ≡ self.now.groups }
+    {
+        &self.groups
     }
 }

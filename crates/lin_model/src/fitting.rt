@@ -3,12 +3,15 @@ ghost use Rattle.std.specs.Prelude.{◌≡◌, ◌↔◌, ◌<◌, All, IsTrue, 
 ghost use Rattle.std.specs.Option.{option_map};
 ghost use Rattle.affine_forms.specs.Assigned.{ReachTo};
 ghost use Rattle.affine_forms.specs.Forms.{AffineForm, decision_form};
-ghost use Rattle.linear_models.specs.Agreement.{Fits, IsOwn};
+ghost use Rattle.linear_models.specs.Agreement.{Fits, IsGroupIn, IsOwn};
 ghost use Rattle.linear_models.specs.Conditions.{constraint_of, objective_where};
+ghost use Rattle.linear_models.specs.Statement.{IsOnce};
 ghost use Rattle.lin_model.specs.Inner.{RowFits, RowsFit};
 ghost use Rattle.lin_model.specs.Kinds.{goal_of};
+ghost use Rattle.lin_model.specs.Lists.{lists_of};
 
 use crate::conditions::{Condition, Conditions};
+use crate::groups::is_in;
 use crate::kinds::Goal;
 use affine_forms::Form;
 
@@ -76,9 +79,41 @@ fn objective_fits(goal: Option<Goal>, objective: &Form, n: u16) -> bool
     }
 }
 
+// Whether no number stands in the list twice.
+fn are_once(list: &[u16]) -> bool
+    ensures { IsTrue result ↔ IsOnce list.now }
+{
+    for (place, decision) in list.iter().enumerate() {
+        if is_in(*decision, &list[place + 1..]) {
+            return false;
+        }
+    }
+    true
+}
+
+// Whether the group is of the first n decisions, none of them twice.
+fn group_fits(group: &[u16], n: u16) -> bool
+    ensures { IsTrue result ↔ IsGroupIn n group.now }
+{
+    are_below(group, n) && are_once(group)
+}
+
+// Whether all groups are.
+fn groups_fit(groups: &[Vec<u16>], n: u16) -> bool
+    ensures { IsTrue result ↔ All (IsGroupIn n) (lists_of groups.now) }
+{
+    for group in groups {
+        if !group_fits(group, n) {
+            return false;
+        }
+    }
+    true
+}
+
 impl Conditions {
     /// Whether they make a statement with this objective and these sides: at most 512 decisions and 256 rows with two
-    /// sides each, numbers of decisions, and forms in them; and where a row's left side is a decision, its form is that one.
+    /// sides each, numbers of decisions, in a group none twice, and forms in them; and where a row's left side is a decision,
+    /// its form is that one.
     /// It is the test for what `linear` requires of conditions that no statement gives, as those of tests.
     pub fn fits(&self, objective: &Form, sides: &[(Form, Form)]) -> bool
         ensures { IsTrue result ↔ Fits self.now objective.now sides.now }
@@ -102,6 +137,9 @@ impl Conditions {
         if !are_below(self.whole(), n) {
             return false;
         }
-        are_below(self.binary(), n)
+        if !are_below(self.binary(), n) {
+            return false;
+        }
+        groups_fit(self.groups(), n)
     }
 }

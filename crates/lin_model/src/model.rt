@@ -2,8 +2,10 @@
 ghost use Rattle.std.specs.Prelude.{◌≡◌, IfOk};
 ghost use Rattle.linear_models.specs.Model.{IsValid};
 ghost use Rattle.lin_model.specs.Kinds.{goal_of, relation_of};
+ghost use Rattle.lin_model.specs.Lists.{lists_of};
 
 use crate::bounds::BoundBox;
+use crate::groups::copy_groups;
 use crate::kinds::{Goal, Relation};
 use affine_forms::Form;
 use memory::Memory;
@@ -58,7 +60,8 @@ impl FormRow {
     }
 }
 
-/// An objective, rows, whole marks and bounds: one mark and one bound on either side for each decision.
+/// An objective, rows, whole marks, bounds and groups: one mark and one bound on either side for each decision. The
+/// decisions of a group hold different numbers.
 #[derive(Drop)]
 pub struct LinModel {
     goal: Goal,
@@ -66,6 +69,7 @@ pub struct LinModel {
     rows: Vec<FormRow>,
     whole: Vec<bool>,
     bounds: BoundBox,
+    groups: Vec<Vec<u16>>,
 }
 
 impl Model for LinModel {
@@ -86,6 +90,7 @@ impl LinModel {
         rows: Vec<FormRow>,
         whole: Vec<bool>,
         bounds: BoundBox,
+        groups: Vec<Vec<u16>>,
     ) -> LinModel
         requires valid { IsValid (record {
           goal = goal_of goal;
@@ -93,6 +98,7 @@ impl LinModel {
           rows = rows.items;
           whole = whole.items;
           bounds = bounds;
+          groups = lists_of groups.items;
         }) }
         ensures { result ≡ record {
           goal = goal_of goal;
@@ -100,6 +106,7 @@ impl LinModel {
           rows = rows.items;
           whole = whole.items;
           bounds = bounds;
+          groups = lists_of groups.items;
         } }
     {
         LinModel {
@@ -108,6 +115,7 @@ impl LinModel {
             rows,
             whole,
             bounds,
+            groups,
         }
     }
 
@@ -144,6 +152,14 @@ impl LinModel {
         &self.bounds
     }
 
+    /// The groups of decisions that hold different numbers: each has a whole mark and two bounds.
+    pub fn groups(&self) -> &[Vec<u16>]
+        ensures groups { lists_of result.now ≡ self.now.groups }
+        ensures valid { IsValid self.now }
+    {
+        &self.groups
+    }
+
     /// An equal model.
     pub fn copy(&self) -> Result<LinModel, Memory>
         ensures { IfOk result (λ copy. copy ≡ self.now) }
@@ -153,12 +169,14 @@ impl LinModel {
         let rows = copy_rows(alloc, &self.rows)?;
         let whole = Vec::from_slice(alloc, &self.whole)?;
         let bounds = self.bounds.copy(alloc)?;
+        let groups = copy_groups(alloc, &self.groups)?;
         Ok(LinModel {
             goal: self.goal,
             objective,
             rows,
             whole,
             bounds,
+            groups,
         })
     }
 }

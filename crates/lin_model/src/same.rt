@@ -1,6 +1,7 @@
 // Whether two linear models are equal.
 ghost use Rattle.std.specs.Prelude.{◌≡◌, ◌↔◌, IsTrue};
 ghost use Rattle.lin_model.specs.Kinds.{goal_of};
+ghost use Rattle.lin_model.specs.Lists.{lists_of};
 
 use crate::bounds::BoundBox;
 use crate::kinds::Goal;
@@ -71,6 +72,26 @@ fn same_marks(one: &[bool], other: &[bool]) -> bool
     one == other
 }
 
+fn same_group(one: &[u16], other: &[u16]) -> bool
+    ensures { IsTrue result ↔ (one.now ≡ other.now) }
+{
+    one == other
+}
+
+fn same_groups(one: &[Vec<u16>], other: &[Vec<u16>]) -> bool
+    ensures { IsTrue result ↔ (lists_of one.now ≡ lists_of other.now) }
+{
+    if one.len() != other.len() {
+        return false;
+    }
+    for (place, group) in one.iter().enumerate() {
+        if !same_group(group, &other[place]) {
+            return false;
+        }
+    }
+    true
+}
+
 impl LinModel {
     /// Whether the two are equal.
     pub fn same(&self, other: &LinModel) -> bool
@@ -81,5 +102,6 @@ impl LinModel {
             && same_rows(self.rows(), other.rows())
             && same_marks(self.whole(), other.whole())
             && same_box(self.bounds(), other.bounds())
+            && same_groups(self.groups(), other.groups())
     }
 }

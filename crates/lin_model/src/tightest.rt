@@ -1,29 +1,24 @@
 // The bounds that a statement gives its decisions.
-ghost use Rattle.std.specs.Prelude.{◌≡◌, ◌||◌, IfOk, None, length, flat_map, map};
+ghost use Rattle.std.specs.Prelude.{◌≡◌, ◌||◌, IfOk, None, length, flat_map, map, pos};
 ghost use Rattle.std.specs.List.{range_with_len};
 ghost use Rattle.fractions.specs.Floor.{floor_ℚ};
 ghost use Rattle.fractions.specs.Rational.{zero_ℚ};
 ghost use Rattle.fractions.specs.Whole.{whole_ℚ};
 ghost use Rattle.linear_models.specs.Conditions.{constraint_of, constraints};
-ghost use Rattle.linear_models.specs.Statement.{is_in};
-ghost use Rattle.linear_models.specs.Bounds.{bounded_by, greatest_of, highest, highs_in, is_marked, is_number, least_of, lower_bounds, lowest, lows_in, upper_bounds, where_so};
+ghost use Rattle.linear_models.specs.Statement.{is_grouped, is_in};
+ghost use Rattle.linear_models.specs.Bounds.{bounded_by, greatest_of, highest, highs_in, is_marked, is_number, least_of, lower_bounds, lowest, lows_in, size_in, upper_bounds, where_so};
 ghost use Rattle.linear_models.specs.Linear.{linear};
 ghost use Rattle.lin_model.specs.Inner.{lowered, raised, without_objective};
+ghost use Rattle.lin_model.specs.Lists.{lists_of};
 
 use crate::bounds::{BoundBox, greater, lesser};
 use crate::conditions::{Condition, Conditions};
+use crate::groups::{is_grouped, is_in};
 use crate::kinds::Relation;
 use affine_forms::Form;
 use frac128::Frac;
 use memory::Memory;
 use std::alloc::Global;
-
-// Whether the number is in the list.
-fn is_in(decision: u16, list: &[u16]) -> bool
-    ensures { result ≡ is_in decision list.now }
-{
-    list.iter().any(|other| *other == decision)
-}
 
 // The decision that a row bounds: its left side is that decision, and its right side a number.
 pub(crate) fn decision_of(row: &Condition, right: &Form) -> Option<u16>
@@ -118,15 +113,45 @@ fn lowered_by_rows(rows: &[Condition], sides: &[(Form, Form)], decision: u16) ->
     greatest
 }
 
-// A bound raised to 0 where that is so.
-fn raised_where(so: bool, least: Option<Frac>) -> Option<Frac>
-    ensures { result ≡ raised least (where_so so zero_ℚ) }
+// A bound raised to a number where that is so.
+fn raised_where(so: bool, number: Frac, least: Option<Frac>) -> Option<Frac>
+    ensures { result ≡ raised least (where_so so number) }
 {
     if so {
-        Some(greater(least, Frac::zero()))
+        Some(greater(least, number))
     } else {
         least
     }
+}
+
+// A bound lowered to a number where that is so.
+fn lowered_where(so: bool, number: Frac, greatest: Option<Frac>) -> Option<Frac>
+    ensures { result ≡ lowered greatest (where_so so number) }
+{
+    if so {
+        Some(lesser(greatest, number))
+    } else {
+        greatest
+    }
+}
+
+// How many decisions a group has, as a number.
+fn size(group: &[u16]) -> Frac
+    ensures { result ≡ whole_ℚ (pos (length group.now)) }
+{
+    Frac::from_whole(group.len() as i64)
+}
+
+// A bound lowered to the size of each group that has the decision.
+#[tactic(auto, using(crate::proofs::Rules::raising))]
+fn lowered_by_groups(start: Option<Frac>, groups: &[Vec<u16>], decision: u16) -> Option<Frac>
+    ensures { result ≡ lowered start (flat_map (size_in decision) (lists_of groups.now)) }
+{
+    let mut greatest = start;
+    for group in groups {
+        greatest = lowered_where(is_in(decision, group), size(group), greatest);
+    }
+    greatest
 }
 
 // No bound, raised to each lower bound of a decision.
@@ -136,8 +161,11 @@ fn raised_by_all(of: &Conditions, sides: &[(Form, Form)], decision: u16) -> Opti
     ensures { result ≡ raised None (lower_bounds (without_objective of.now sides.now) decision) }
 {
     let rows = raised_by_rows(of.rows(), sides, decision);
-    let binary = raised_where(is_in(decision, of.binary()), rows);
-    raised_where(of.not_negative() && !is_in(decision, of.explicit()), binary)
+    let zero = Frac::zero();
+    let binary = raised_where(is_in(decision, of.binary()), zero, rows);
+    let signed = of.not_negative() && !is_in(decision, of.explicit());
+    let positive = raised_where(signed, zero, binary);
+    raised_where(is_grouped(decision, of.groups()), Frac::one(), positive)
 }
 
 // The tightest lower bound of a decision.
@@ -155,10 +183,8 @@ fn lowered_by_all(of: &Conditions, sides: &[(Form, Form)], decision: u16) -> Opt
     ensures { result ≡ lowered None (upper_bounds (without_objective of.now sides.now) decision) }
 {
     let rows = lowered_by_rows(of.rows(), sides, decision);
-    if is_in(decision, of.binary()) {
-        return Some(lesser(rows, Frac::one()));
-    }
-    rows
+    let binary = lowered_where(is_in(decision, of.binary()), Frac::one(), rows);
+    lowered_by_groups(binary, of.groups(), decision)
 }
 
 // The tightest upper bound of a decision.
@@ -182,9 +208,11 @@ fn rounded_down(x: Frac) -> Frac
 
 // Whether a decision is to be whole.
 fn is_marked(of: &Conditions, decision: u16) -> bool
-    ensures { result ≡ is_in decision of.now.whole || is_in decision of.now.binary }
+    ensures { result ≡ (is_in decision of.now.whole || is_in decision of.now.binary)
+        || is_grouped decision of.now.groups }
 {
-    is_in(decision, of.whole()) || is_in(decision, of.binary())
+    let named = is_in(decision, of.whole()) || is_in(decision, of.binary());
+    named || is_grouped(decision, of.groups())
 }
 
 // A decision's least value, rounded up where it is to be whole.

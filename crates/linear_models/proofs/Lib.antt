@@ -10,6 +10,8 @@ pub mod Wholes
 pub mod Tightest
 pub mod Members
 pub mod Sides
+pub mod Groups
 pub mod Agreement
 pub mod SameAnswers
+pub mod ValidGroups
 pub mod Valid

@@ -113,6 +113,7 @@ points_are_permitted m a =
               least = λ i b e. subst (λ k. b ≤ℚ at a k) (omega arith) (lows.0 bounds.0 i b e);
               greatest = λ i b e. subst (λ k. at a k ≤ℚ b) (omega arith) (highs.0 bounds.1 i b e);
             };
+            different = p.different;
           },
       λ p. record {
         one_each = p.one_each;
@@ -126,6 +127,8 @@ points_are_permitted m a =
         whole = All-from_recursion (Has IsWhole a) _ (whole_back 0 m.whole a (omega (arith, p.one_each)) (λ i e. subst (λ k. IsWhole (at a k)) (omega arith) (p.whole i e)));
         binary = λ k d h. absurd (omega arith);
         not_negative = λ k d h. absurd (omega arith);
+        numbered = λ k d h. absurd (omega arith);
+        different = p.different;
         reached = reaches m.goal m.objective a;
       },
     )

@@ -12,7 +12,7 @@ use Rattle.fractions.proofs.Floor.{floor_is_greatest}
 use Rattle.optimality.specs.Optimal.{IsWhole}
 use Rattle.linear_models.proofs.Wholes.{whole_is, is_whole}
 use Rattle.linear_models.specs.Box.{lesser, greater}
-use Rattle.linear_models.specs.Bounds.{highest, lowest, up, down, ceiling_ℚ}
+use Rattle.linear_models.specs.Bounds.{highest, lowest, up, down, ceiling_ℚ, where_so}
 
 pub some_is : {x y : ℚ} → Some x ≡ Some y → x ≡ y
 some_is e = cc
@@ -107,3 +107,12 @@ pub rounded_down : (v : Bool) (o : Option ℚ) (x : ℚ) → (v ≡ true → IsW
 rounded_down v None x w = (λ h b e. cc, λ h b e. cc)
 rounded_down v (Some c) x w =
     let u = down_is v c x w in (λ h b e. subst (λ t. x ≤ℚ t) (some_is e) (u.1 (h c refl)), λ h b e. subst (λ t. x ≤ℚ t) (some_is e) (u.0 (h (down v c) refl)))
+
+-- a bound that is there only in some cases
+pub where_below : (b : Bool) (c x : ℚ) → AllBelow (where_so b c) x ↔ (b ≡ true → c ≤ℚ x)
+where_below true c x = (λ h e. h.0, λ h. (h refl, tt))
+where_below false c x = (λ h e. cc, λ h. tt)
+
+pub where_above : (b : Bool) (c x : ℚ) → AllAbove (where_so b c) x ↔ (b ≡ true → x ≤ℚ c)
+where_above true c x = (λ h e. h.0, λ h. (h refl, tt))
+where_above false c x = (λ h e. cc, λ h. tt)

@@ -12,17 +12,18 @@ use Rattle.optimality.specs.Problem.{Relation, Goal, greatest, least, reach}
 use Rattle.optimality.specs.Optimal.{IsWhole}
 use Rattle.affine_forms.specs.Forms.{AffineForm, IsForm, constant_form}
 use Rattle.linear_models.specs.Box.{bound_at}
-use Rattle.linear_models.specs.Model.{IsFormOf, IsValid, is_whole_at}
+use Rattle.linear_models.specs.Model.{IsFormOf, IsGroupOf, IsValid, is_whole_at}
 use Rattle.linear_models.specs.Statement.{Constraint, Statement}
 use Rattle.linear_models.specs.Bounds.{bounded, is_marked, least_of, greatest_of, up, down, highest, lowest, lower_bounds, upper_bounds}
 use Rattle.linear_models.specs.Linear.{linear, form_or_zero, objective_left}
-use Rattle.linear_models.specs.Agreement.{IsStated, SidesReach}
+use Rattle.linear_models.specs.Agreement.{IsGroupIn, IsStated, SidesReach}
 use Rattle.linear_models.proofs.Wholes.{is_whole}
 use Rattle.linear_models.proofs.Members.{made_at, made_past, below_or_not}
 use Rattle.linear_models.proofs.Sides.{row_exact, rows_exact}
 use Rattle.linear_models.proofs.Regular.{parts_hold}
 use Rattle.linear_models.proofs.Reach.{difference_is_form}
 use Rattle.linear_models.proofs.Agreement.{reach_exact, rows_of}
+use Rattle.linear_models.proofs.ValidGroups.{groups_fit}
 
 -- the two sides are forms
 abbrev pub SidesAreForms : Constraint → Type 0
@@ -109,4 +110,5 @@ linear_is_valid s w f o =
       greatest = length-map-range_with_len (greatest_of s) 0 s.decisions ∙ sym n;
       whole_least = whole_bounds s (least_of s) up (λ j. highest (lower_bounds s j)) up_is_whole (λ j. refl);
       whole_greatest = whole_bounds s (greatest_of s) down (λ j. lowest (upper_bounds s j)) down_is_whole (λ j. refl);
+      groups = All-from_recursion (IsGroupOf (linear s)) s.groups (groups_fit s s.groups (recursion_from_All (IsGroupIn s.decisions) s.groups w.groups) (λ j e. e));
     }

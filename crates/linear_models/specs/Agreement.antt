@@ -6,7 +6,7 @@ use Rattle.optimality.specs.Laws.{Agree, SameAnswers}
 use Rattle.affine_forms.specs.Forms.{AffineForm, decision_form}
 use Rattle.affine_forms.specs.Assigned.{ReachTo}
 use Rattle.linear_models.specs.Model.{Model, IsPoint, problem_of}
-use Rattle.linear_models.specs.Statement.{Constraint, Statement, stated}
+use Rattle.linear_models.specs.Statement.{Constraint, Statement, stated, IsOnce}
 use Rattle.linear_models.specs.Linear.{linear}
 use Rattle.linear_models.specs.Conditions.{Conditions, statement_of}
 
@@ -19,6 +19,11 @@ pub record SidesReach (n : ℕ) (r : Constraint) : Type 0 where
   pub left : ReachTo r.left.terms n
   pub right : ReachTo r.right.terms n
 
+-- the group is of the first n decisions, none of them twice
+pub record IsGroupIn (n : ℕ) (group : List ℕ) : Type 0 where
+  pub below : All (λ j. j < n) group
+  pub once : IsOnce group
+
 -- numbers are those of decisions, at most 512, there are at most 256 rows, and without an objective the goal is the greatest
 pub record IsStated (s : Statement) : Type 0 where
   pub few : s.decisions ≤ 512
@@ -28,6 +33,7 @@ pub record IsStated (s : Statement) : Type 0 where
   pub objective : (f : AffineForm) → s.objective ≡ Some f → ReachTo f.terms s.decisions
   pub whole : All (λ j. j < s.decisions) s.whole
   pub binary : All (λ j. j < s.decisions) s.binary
+  pub groups : All (IsGroupIn s.decisions) s.groups
   pub goal : s.objective ≡ None → s.goal ≡ greatest
 
 -- there are two sides for each row, and with them it is a statement

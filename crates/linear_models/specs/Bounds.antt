@@ -1,12 +1,12 @@
 -- The bounds that a statement gives its decisions, and which of these are to be whole.
-use Rattle.std.specs.Prelude.{ℕ, ◌==◌, Bool, true, false, not, ◌&&◌, ◌||◌, if◌then◌else◌, List, [], ◌∷◌, ◌++◌, Option, Some, None, flat_map}
+use Rattle.std.specs.Prelude.{ℕ, ◌==◌, Bool, true, false, not, ◌&&◌, ◌||◌, if◌then◌else◌, List, [], ◌∷◌, ◌++◌, length, Option, Some, None, flat_map, pos}
 use Rattle.std.specs.Option.{option_map}
 use Rattle.fractions.specs.Rational.{ℚ, neg_ℚ, zero_ℚ, one_ℚ}
 use Rattle.fractions.specs.Whole.{whole_ℚ}
 use Rattle.fractions.specs.Floor.{floor_ℚ}
 use Rattle.optimality.specs.Problem.{Relation, at_most, equal, at_least}
 use Rattle.linear_models.specs.Box.{lesser, greater}
-use Rattle.linear_models.specs.Statement.{Constraint, Statement, is_in}
+use Rattle.linear_models.specs.Statement.{Constraint, Statement, is_in, is_grouped}
 
 -- the decision that the row bounds: its left side is that decision, and its right side a number
 abbrev pub bounded_by : Option ℕ → List (ℕ × ℚ) → Option ℕ
@@ -42,12 +42,17 @@ highs_in j r = if is_number j (bounded r) then highs r.relation r.right.constant
 abbrev pub where_so : Bool → ℚ → List ℚ
 where_so b c = if b then c ∷ [] else []
 
--- all lower bounds of a decision, and all upper ones
+-- how many decisions the group has, where it has this one
+abbrev pub size_in : ℕ → List ℕ → List ℚ
+size_in j group = where_so (is_in j group) (whole_ℚ (pos (length group)))
+
+-- all lower bounds of a decision, and all upper ones: one in a group of N is between 1 and N
 abbrev pub lower_bounds : Statement → ℕ → List ℚ
-lower_bounds s j = flat_map (lows_in j) s.rows ++ (where_so (is_in j s.binary) zero_ℚ ++ where_so (s.not_negative && not (is_in j s.explicit)) zero_ℚ)
+lower_bounds s j =
+    flat_map (lows_in j) s.rows ++ (where_so (is_in j s.binary) zero_ℚ ++ (where_so (s.not_negative && not (is_in j s.explicit)) zero_ℚ ++ where_so (is_grouped j s.groups) one_ℚ))
 
 abbrev pub upper_bounds : Statement → ℕ → List ℚ
-upper_bounds s j = flat_map (highs_in j) s.rows ++ where_so (is_in j s.binary) one_ℚ
+upper_bounds s j = flat_map (highs_in j) s.rows ++ (where_so (is_in j s.binary) one_ℚ ++ flat_map (size_in j) s.groups)
 
 -- the greatest of some numbers, where there is one
 abbrev pub highest : List ℚ → Option ℚ
@@ -72,7 +77,7 @@ down true x = whole_ℚ (floor_ℚ x)
 down false x = x
 
 abbrev pub is_marked : Statement → ℕ → Bool
-is_marked s j = is_in j s.whole || is_in j s.binary
+is_marked s j = (is_in j s.whole || is_in j s.binary) || is_grouped j s.groups
 
 abbrev pub least_of : Statement → ℕ → Option ℚ
 least_of s j = option_map (up (is_marked s j)) (highest (lower_bounds s j))

@@ -18,6 +18,7 @@ pub record Conditions : Type 0 where
   pub binary : List ℕ
   pub explicit : List ℕ
   pub not_negative : Bool
+  pub groups : List (List ℕ)
 
 abbrev pub constraint_of : Condition → AffineForm × AffineForm → Constraint
 constraint_of c sides = record { own = c.own; left = sides.0; relation = c.relation; right = sides.1 }
@@ -47,4 +48,5 @@ statement_of c f sides = record {
   binary = c.binary;
   explicit = c.explicit;
   not_negative = c.not_negative;
+  groups = c.groups;
 }

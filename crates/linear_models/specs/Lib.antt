@@ -1,9 +1,9 @@
 pub mod Worths
 pub mod Box
+pub mod Statement
 pub mod Model
 pub mod Standard
 pub mod Laws
-pub mod Statement
 pub mod Bounds
 pub mod Linear
 pub mod Conditions

@@ -45,6 +45,7 @@ linear s = record {
   rows = flat_map exact (rows_left s);
   whole = map (is_marked s) (range_with_len 0 s.decisions);
   bounds = record { least = map (least_of s) (range_with_len 0 s.decisions); greatest = map (greatest_of s) (range_with_len 0 s.decisions) };
+  groups = s.groups;
 }
 
 -- ---- numbers that aren't narrow

@@ -1,21 +1,24 @@
--- Linear models: rows of forms in a relation to 0, whole marks, bounds and an objective. (Chvatal, Linear Programming, chapters 1 and 8.)
-use Rattle.std.specs.Prelude.{◌≡◌, ◌≤◌, ℕ, suc, Bool, true, false, List, [], ◌∷◌, ◌++◌, map, length, All, Option, Some, None, slice_index_or}
+-- Linear models: rows of forms in a relation to 0, whole marks, bounds, groups and an objective. (Chvatal, Linear Programming, chapters 1 and 8.)
+use Rattle.std.specs.Prelude.{◌≡◌, ◌<◌, ◌≤◌, ℕ, suc, Bool, true, false, List, [], ◌∷◌, ◌++◌, map, length, All, Option, Some, None, slice_index, slice_index_or}
 use Rattle.fractions.specs.Rational.{ℚ, zero_ℚ}
 use Rattle.fractions.specs.Vectors.{at}
 use Rattle.optimality.specs.Problem.{Assignment, Worth, Relation, at_most, at_least, Row, Goal, greatest, least, reach, Problem}
+use Rattle.optimality.specs.Groups.{AreDifferent}
 use Rattle.optimality.specs.Optimal.{Stand, IsWhole}
 use Rattle.affine_forms.specs.Forms.{AffineForm, IsForm, constant_form, negated}
 use Rattle.affine_forms.specs.Assigned.{ReachTo}
 use Rattle.linear_models.specs.Worths.{form_at, worth_of}
 use Rattle.linear_models.specs.Box.{Box, InBox, bound_at}
+use Rattle.linear_models.specs.Statement.{IsOnce}
 
--- one mark for each decision; each row's form is in its relation to 0
+-- one mark for each decision; each row's form is in its relation to 0; the decisions of each group hold different numbers
 pub record Model : Type 0 where
   pub goal : Goal
   pub objective : AffineForm
   pub rows : List (AffineForm × Relation)
   pub whole : List Bool
   pub bounds : Box
+  pub groups : List (List ℕ)
 
 -- the decision is to be whole
 abbrev pub is_whole_at : List Bool → ℕ → Bool
@@ -27,12 +30,13 @@ RowHolds a row = Stand row.1 (form_at row.0 a) zero_ℚ
 abbrev pub AreWhole : List Bool → Assignment → Type 0
 AreWhole marks a = (j : ℕ) → is_whole_at marks j ≡ true → IsWhole (at a j)
 
--- a number for each decision that meets all rows, marks and bounds
+-- a number for each decision that meets all rows, marks and bounds; no two decisions of a group hold the same one
 pub record IsPoint (m : Model) (a : Assignment) : Type 0 where
   pub one_each : length a ≡ length m.whole
   pub rows : All (RowHolds a) m.rows
   pub whole : AreWhole m.whole a
   pub bounds : InBox m.bounds a
+  pub different : All (AreDifferent a) m.groups
 
 -- ---- the problem that a model is
 abbrev pub row_of_form : AffineForm × Relation → Row
@@ -67,6 +71,8 @@ problem_of m = record {
   whole = marked 0 m.whole;
   binary = [];
   not_negative = [];
+  numbered = [];
+  different = m.groups;
   objective = Some (objective_of m.goal m.objective);
   goal = m.goal;
 }
@@ -87,7 +93,14 @@ pub record IsFormOf (n : ℕ) (f : AffineForm) : Type 0 where
 abbrev pub AreWholeBounds : List Bool → List (Option ℚ) → Type 0
 AreWholeBounds marks bounds = (j : ℕ) (b : ℚ) → is_whole_at marks j ≡ true → bound_at bounds j ≡ Some b → IsWhole b
 
--- at most 512 decisions and 257 rows, forms in these decisions, and for each of them a mark and a bound on either side
+-- the decisions of a group are other ones, to be whole, and have two bounds
+pub record IsGroupOf (m : Model) (group : List ℕ) : Type 0 where
+  pub once : IsOnce group
+  pub marked : (i : ℕ) → i < length group → is_whole_at m.whole (slice_index group i) ≡ true
+  pub least : (i : ℕ) → i < length group → (b : ℚ) × (bound_at m.bounds.least (slice_index group i) ≡ Some b)
+  pub greatest : (i : ℕ) → i < length group → (b : ℚ) × (bound_at m.bounds.greatest (slice_index group i) ≡ Some b)
+
+-- at most 512 decisions and 257 rows, forms in these decisions, for each of them a mark and a bound on either side, and groups of them
 pub record IsValid (m : Model) : Type 0 where
   pub few : length m.whole ≤ 512
   pub few_rows : length m.rows ≤ 257
@@ -97,3 +110,4 @@ pub record IsValid (m : Model) : Type 0 where
   pub greatest : length m.bounds.greatest ≡ length m.whole
   pub whole_least : AreWholeBounds m.whole m.bounds.least
   pub whole_greatest : AreWholeBounds m.whole m.bounds.greatest
+  pub groups : All (IsGroupOf m) m.groups

@@ -1,3 +1,6 @@
 pub mod Problem
+pub mod Groups
 pub mod Optimal
 pub mod Laws
+pub mod EachOnce
+pub mod Examples

@@ -3,6 +3,7 @@
 use Rattle.std.specs.Prelude.{◌≡◌, ◌⊎◌, ℕ, Option, Some, None, All, length, slice_get, ⊤}
 use Rattle.fractions.specs.Rational.{ℚ, denominator, zero_ℚ, one_ℚ, ◌≤ℚ◌, ◌<ℚ◌}
 use Rattle.optimality.specs.Problem.{Assignment, Worth, Relation, at_most, equal, at_least, Row, Goal, greatest, least, reach, Problem}
+use Rattle.optimality.specs.Groups.{HoldsEachOnce, AreDifferent}
 
 -- two numbers are in the relation
 abbrev pub Stand : Relation → ℚ → ℚ → Type 0
@@ -38,13 +39,15 @@ Reaches least objective a = ⊤
 Reaches (reach v) None a = ⊤
 Reaches (reach v) (Some f) a = f a ≡ Some v
 
--- the assignment has a number for each decision, and every row, mark and wanted value holds under it
+-- the assignment has a number for each decision, and every row, mark, group and wanted value holds under it
 pub record Permitted (p : Problem) (a : Assignment) : Type 0 where
   pub one_each : length a ≡ p.decisions
   pub rows : All (Meets a) p.rows
   pub whole : All (Has IsWhole a) p.whole
   pub binary : All (Has IsZeroOrOne a) p.binary
   pub not_negative : All (Has IsNotNegative a) p.not_negative
+  pub numbered : All (HoldsEachOnce a) p.numbered
+  pub different : All (AreDifferent a) p.different
   pub reached : Reaches p.goal p.objective a
 
 -- x is a better number than y

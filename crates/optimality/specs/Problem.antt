@@ -29,12 +29,15 @@ pub data Goal : Type 0 where
   least : Goal
   reach : ℚ → Goal
 
--- decisions are numbered from 0; the three lists name those that are whole, binary and not negative
+-- decisions are numbered from 0; three lists name those that are whole, binary and not negative. The decisions of each group of `numbered` hold the numbers
+-- from 1 on, each once; those of each group of `different` hold different numbers
 pub record Problem : Type 0 where
   pub decisions : ℕ
   pub rows : List Row
   pub whole : List ℕ
   pub binary : List ℕ
   pub not_negative : List ℕ
+  pub numbered : List (List ℕ)
+  pub different : List (List ℕ)
   pub objective : Option Worth
   pub goal : Goal

@@ -1,6 +1,8 @@
 //! What permitted, better, optimal, infeasible and unbounded mean, for any problem.
 #![tactic(auto)]
 
+ghost use Rattle.optimality.specs.EachOnce.{DifferentInRangeIsEachOnce};
+ghost use Rattle.optimality.specs.Examples.{DifferentTwo, NumberedThree};
 ghost use Rattle.optimality.specs.Laws.{AnswersExclude, OneBestValue, ReachedIsOptimal, SameAnswersHold};
 
 /// No problem has two of the answers optimal, infeasible and unbounded.
@@ -22,4 +24,19 @@ pub fn one_best_value()
 /// answer of a problem without one.
 pub fn agreeing_problems_are_answered_alike()
     ensures { SameAnswersHold }
+{}
+
+/// N decisions hold the numbers 1 to N, each once, exactly where they hold different whole numbers from 1 to N.
+pub fn different_in_range_is_each_once()
+    ensures { DifferentInRangeIsEachOnce }
+{}
+
+/// Three decisions that hold the numbers 1 to 3, each once.
+pub fn three_are_numbered()
+    ensures { NumberedThree }
+{}
+
+/// Two decisions that are different.
+pub fn two_are_different()
+    ensures { DifferentTwo }
 {}

@@ -17,9 +17,10 @@ returns-then-not-rows_fit c =
 
 pub returns : goal.returns
 returns c =
-    all_fit c.args.self.now c.args.objective.now c.args.sides.now c.are_below-2.result (omega (arith, c.decisions-n.ensures, c.if-n-gt512.false)) (omega (arith, ap length c.rows.ensures, c.if-rows-gt256.false))
+    all_fit c.args.self.now c.args.objective.now c.args.sides.now c.groups_fit.result (omega (arith, c.decisions-n.ensures, c.if-n-gt512.false)) (omega (arith, ap length c.rows.ensures, c.if-rows-gt256.false))
     (c.if-sides-rows.false ∙ ap length c.rows-2.ensures)
     ((rw (c.decisions-n.ensures, c.goal.ensures) at c.objective_fits.ensures).0 c.if-not-objective_fits.false)
     ((rw (c.decisions-n.ensures, c.rows-3.ensures) at c.rows_fit.ensures).0 c.if-not-rows_fit.false)
     ((rw (c.decisions-n.ensures, c.whole.ensures) at c.are_below.ensures).0 c.if-not-are_below.false)
-    (rw (c.decisions-n.ensures, c.binary.ensures) at c.are_below-2.ensures)
+    ((rw (c.decisions-n.ensures, c.binary.ensures) at c.are_below-2.ensures).0 c.if-not-are_below-2.false)
+    (rw (c.decisions-n.ensures, c.groups.ensures) at c.groups_fit.ensures)
