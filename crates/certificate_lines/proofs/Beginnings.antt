@@ -4,7 +4,7 @@ use Rattle.std.specs.Prelude.{IsSome, is_some}
 use Rattle.std.specs.List.{AllByRecursion}
 use Rattle.fractions.specs.Rational.{ℚ, zero_ℚ}
 use Rattle.frac128.proofs.NarrowLaws.{narrow-zero}
-use Rattle.opt_certificate.specs.Certificate.{Tree, split, best, empty, Claim, optimal, infeasible, unbounded}
+use Rattle.opt_certificate.specs.Certificate.{Tree, split, best, empty, clash, Claim, optimal, infeasible, unbounded}
 use Rattle.certificate_lines.specs.Line.{Line, claim_line, point_line, ray_line, split_line, best_line, end_line, said_optimal, said_infeasible, IsLine, AreNumbers, AreMultipliers}
 use Rattle.certificate_lines.specs.Cert.{Cert, IsCert, HasParts, claim_lines, tree_lines, node_lines, cert_lines}
 use Rattle.certificate_lines.specs.Machine.{State, at_claim, at_point, at_start, at_ray, at_trees, at_end, run}
@@ -112,6 +112,13 @@ same_start (best a) (best b) xs ys e = let q : a ≡ b = cc in record { tree = a
 same_start (empty a) (empty b) xs ys e = let q : a ≡ b = cc in record { tree = ap empty q; rest = cc }
 same_start (best a) (empty b) xs ys e = cc
 same_start (empty a) (best b) xs ys e = cc
+same_start (clash i j) (clash a b) xs ys e = let q : i ≡ a = cc in let r : j ≡ b = cc in record { tree = ap₂ clash q r; rest = cc }
+same_start (clash i j) (best b) xs ys e = cc
+same_start (clash i j) (empty b) xs ys e = cc
+same_start (best a) (clash i j) xs ys e = cc
+same_start (empty a) (clash i j) xs ys e = cc
+same_start (clash a b) (split j f l u) xs ys e = let q = heads _ _ _ _ e in absurd (cc)
+same_start (split j f l u) (clash a b) xs ys e = let q = heads _ _ _ _ e in absurd (cc)
 same_start (best a) (split j f l u) xs ys e = let q = heads _ _ _ _ e in absurd (cc)
 same_start (empty a) (split j f l u) xs ys e = let q = heads _ _ _ _ e in absurd (cc)
 same_start (split j f l u) (best b) xs ys e = let q = heads _ _ _ _ e in absurd (cc)

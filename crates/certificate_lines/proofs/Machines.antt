@@ -2,8 +2,8 @@
 use Rattle.std.proofs.Common.{◌≡◌, ◌∙◌, ℕ, zero, suc, List, [], ◌∷◌, ◌++◌, length, Option, Some, None, refl, sym, ap, ap₂, subst, append_assoc, ℤ, arith}
 use Rattle.fractions.specs.Rational.{ℚ}
 use Rattle.std.specs.List.{AllByRecursion}
-use Rattle.opt_certificate.specs.Certificate.{Tree, split, best, empty, Claim, optimal, infeasible, unbounded}
-use Rattle.certificate_lines.specs.Line.{Line, claim_line, point_line, ray_line, split_line, best_line, empty_line, end_line, said_optimal, said_infeasible, said_unbounded, IsLine}
+use Rattle.opt_certificate.specs.Certificate.{Tree, split, best, empty, clash, Claim, optimal, infeasible, unbounded}
+use Rattle.certificate_lines.specs.Line.{Line, claim_line, point_line, ray_line, split_line, best_line, empty_line, clash_line, end_line, said_optimal, said_infeasible, said_unbounded, IsLine}
 use Rattle.certificate_lines.specs.Cert.{Cert, IsCert, HasParts, claim_lines, tree_lines, node_lines, cert_lines}
 use Rattle.certificate_lines.specs.Machine.{State, at_claim, at_point, at_start, at_ray, at_trees, at_end, step, run}
 
@@ -24,6 +24,7 @@ run-tree (split j f lower upper) n ls =
     ∙ run-tree upper n ls
 run-tree (best ys) n ls = refl
 run-tree (empty ys) n ls = refl
+run-tree (clash i j) n ls = refl
 
 pub run-parts : (claim : Claim) (tree : Option Tree) (v : Option ℚ) → HasParts claim tree v
     → run (claim_lines claim v ++ (node_lines claim tree ++ (end_line ∷ []))) (Some at_claim) ≡ Some at_end
@@ -74,6 +75,8 @@ forest (best_line ys ∷ ls) zero e = stopped ls e
 forest (best_line ys ∷ ls) (suc n) e = with_leaf n (best ys) _ ls refl (forest ls n e)
 forest (empty_line ys ∷ ls) zero e = stopped ls e
 forest (empty_line ys ∷ ls) (suc n) e = with_leaf n (empty ys) _ ls refl (forest ls n e)
+forest (clash_line i j ∷ ls) zero e = stopped ls e
+forest (clash_line i j ∷ ls) (suc n) e = with_leaf n (clash i j) _ ls refl (forest ls n e)
 forest (end_line ∷ ls) zero e = record { trees = []; count = refl; lines = ap (λ r. end_line ∷ r) (run-at_end ls e) }
 forest (end_line ∷ ls) (suc n) e = stopped ls e
 forest (claim_line s ∷ ls) n e = stopped ls e
@@ -110,6 +113,7 @@ ray_read a (point_line xs ∷ ls) e = stopped ls e
 ray_read a (split_line j f ∷ ls) e = stopped ls e
 ray_read a (best_line ys ∷ ls) e = stopped ls e
 ray_read a (empty_line ys ∷ ls) e = stopped ls e
+ray_read a (clash_line i j ∷ ls) e = stopped ls e
 ray_read a (end_line ∷ ls) e = stopped ls e
 
 start_read : (ls : List Line) → run ls (Some at_start) ≡ Some at_end → Read (claim_line said_unbounded ∷ ls)
@@ -120,6 +124,7 @@ start_read (ray_line xs ∷ ls) e = stopped ls e
 start_read (split_line j f ∷ ls) e = stopped ls e
 start_read (best_line ys ∷ ls) e = stopped ls e
 start_read (empty_line ys ∷ ls) e = stopped ls e
+start_read (clash_line i j ∷ ls) e = stopped ls e
 start_read (end_line ∷ ls) e = stopped ls e
 
 point_read : (v : Option ℚ) (ls : List Line) → run ls (Some at_point) ≡ Some at_end → Read (claim_line (said_optimal v) ∷ ls)
@@ -130,6 +135,7 @@ point_read v (ray_line xs ∷ ls) e = stopped ls e
 point_read v (split_line j f ∷ ls) e = stopped ls e
 point_read v (best_line ys ∷ ls) e = stopped ls e
 point_read v (empty_line ys ∷ ls) e = stopped ls e
+point_read v (clash_line i j ∷ ls) e = stopped ls e
 point_read v (end_line ∷ ls) e = stopped ls e
 
 read : (ls : List Line) → run ls (Some at_claim) ≡ Some at_end → Read ls
@@ -142,6 +148,7 @@ read (ray_line xs ∷ ls) e = stopped ls e
 read (split_line j f ∷ ls) e = stopped ls e
 read (best_line ys ∷ ls) e = stopped ls e
 read (empty_line ys ∷ ls) e = stopped ls e
+read (clash_line i j ∷ ls) e = stopped ls e
 read (end_line ∷ ls) e = stopped ls e
 
 -- lines that are read to the end are those of a certificate

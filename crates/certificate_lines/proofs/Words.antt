@@ -9,7 +9,7 @@ use Rattle.fractions.proofs.Order.{eq_iff}
 use Rattle.frac128.specs.Narrow.{IsNarrow, IsNarrowWhole}
 use Rattle.frac128.specs.Printed.{printed}
 use Rattle.frac128.proofs.NarrowLaws.{narrow-whole}
-use Rattle.certificate_lines.specs.Line.{Line, claim_line, point_line, ray_line, split_line, best_line, empty_line, end_line, Said, said_optimal, said_infeasible, said_unbounded, IsLine, IsSaid, AreMultipliers, IsSplit, whole_text, pair_text, pair_words, value_words, said_words, first_word, other_words, spaced, line_text}
+use Rattle.certificate_lines.specs.Line.{Line, claim_line, point_line, ray_line, split_line, best_line, empty_line, clash_line, end_line, Said, said_optimal, said_infeasible, said_unbounded, IsLine, IsSaid, AreMultipliers, IsPair, IsSplit, whole_text, pair_text, pair_words, value_words, said_words, first_word, other_words, spaced, line_text}
 use Rattle.certificate_lines.specs.Cutting.{Starts, at_once, behind, Lacks}
 use Rattle.certificate_lines.proofs.Cuts.{cut, cut_start, all_map, all-append, heads, tails, none_there}
 use Rattle.certificate_lines.proofs.Numbers.{NumberByte, number_bytes, printed_one, whole_one}
@@ -73,6 +73,7 @@ others-are (ray_line xs) h = numbers-are xs h.narrow
 others-are (split_line j f) h = (whole_word (pos (suc j)) (next_narrow j h.decision), (whole_word f h.floor, tt))
 others-are (best_line ys) h = pair_words-are 1 ys (omega (arith, h.few)) h.narrow
 others-are (empty_line ys) h = pair_words-are 1 ys (omega (arith, h.few)) h.narrow
+others-are (clash_line i j) h = (whole_word (pos (suc i)) (next_narrow i h.one), (whole_word (pos (suc j)) (next_narrow j h.other), tt))
 others-are end_line h = tt
 
 pub first-is : (l : Line) → IsWord (first_word l)
@@ -82,6 +83,7 @@ first-is (ray_line xs) = word (codes "ray") refl
 first-is (split_line j f) = word (codes "split") refl
 first-is (best_line ys) = word (codes "best") refl
 first-is (empty_line ys) = word (codes "empty") refl
+first-is (clash_line i j) = word (codes "clash") refl
 first-is end_line = word (codes "end") refl
 
 spaced-lacks : (ws : List (List ℕ)) → AllByRecursion IsWord ws → Lacks 10 (spaced ws)
@@ -186,6 +188,12 @@ same_split i j f g h k e =
     let r : i ≡ j = cc in
     ap₂ split_line r (whole_one f g h.floor k.floor (heads _ _ _ _ (tails _ _ _ _ e)))
 
+same_decision : (i j : ℕ) → i < 2 ^ 16 → j < 2 ^ 16 → whole_text (pos (suc i)) ≡ whole_text (pos (suc j)) → i ≡ j
+same_decision i j h k e = let q : pos (suc i) ≡ pos (suc j) = whole_one _ _ (next_narrow i h) (next_narrow j k) e in cc
+
+same_clash : (i j a b : ℕ) → IsPair i j → IsPair a b → other_words (clash_line i j) ≡ other_words (clash_line a b) → clash_line i j ≡ clash_line a b
+same_clash i j a b h k e = ap₂ clash_line (same_decision i a h.one k.one (heads _ _ _ _ e)) (same_decision j b h.other k.other (heads _ _ _ _ (tails _ _ _ _ e)))
+
 -- the two first bytes of a word as one number: the lines' first words differ in them
 abbrev pub two_bytes : List ℕ → ℕ
 two_bytes [] = 0
@@ -199,6 +207,7 @@ by_words (ray_line xs) (ray_line ys) h k e f = ap ray_line (same_numbers xs ys h
 by_words (split_line i f) (split_line j g) h k e p = same_split i j f g h k p
 by_words (best_line ys) (best_line zs) h k e f = ap best_line (same_multipliers ys zs h k f)
 by_words (empty_line ys) (empty_line zs) h k e f = ap empty_line (same_multipliers ys zs h k f)
+by_words (clash_line i j) (clash_line a b) h k e f = same_clash i j a b h k f
 by_words end_line end_line h k e f = refl
 by_words l m h k e f = let q = ap two_bytes e in absurd (omega (arith, q))
 

@@ -2,8 +2,8 @@
 use Rattle.std.specs.Prelude.{◌≡◌, ℕ, List, [], ◌∷◌, ◌++◌, Option, Some, None}
 use Rattle.std.specs.List.{AllByRecursion}
 use Rattle.fractions.specs.Rational.{ℚ}
-use Rattle.opt_certificate.specs.Certificate.{Tree, split, best, empty, Claim, optimal, infeasible, unbounded}
-use Rattle.certificate_lines.specs.Line.{Line, claim_line, point_line, ray_line, split_line, best_line, empty_line, end_line, said_optimal, said_infeasible, said_unbounded, IsLine, text_of, weight}
+use Rattle.opt_certificate.specs.Certificate.{Tree, split, best, empty, clash, Claim, optimal, infeasible, unbounded}
+use Rattle.certificate_lines.specs.Line.{Line, claim_line, point_line, ray_line, split_line, best_line, empty_line, clash_line, end_line, said_optimal, said_infeasible, said_unbounded, IsLine, text_of, weight}
 
 -- a tree or none, a claim, and the objective's value at the claimed point where it is told
 pub record Cert : Type 0 where
@@ -22,6 +22,7 @@ abbrev pub tree_lines : Tree → List Line
 tree_lines (split j f lower upper) = split_line j f ∷ (tree_lines lower ++ tree_lines upper)
 tree_lines (best ys) = best_line ys ∷ []
 tree_lines (empty ys) = empty_line ys ∷ []
+tree_lines (clash i j) = clash_line i j ∷ []
 
 -- no nodes stand behind the claim that the objective has no end
 abbrev pub node_lines : Claim → Option Tree → List Line

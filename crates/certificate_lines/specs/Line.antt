@@ -20,6 +20,7 @@ pub data Line : Type 0 where
   split_line : (decision : ℕ) (floor : ℤ) → Line
   best_line : (multipliers : List ℚ) → Line
   empty_line : (multipliers : List ℚ) → Line
+  clash_line : (first second : ℕ) → Line
   end_line : Line
 
 -- ---- spelling
@@ -54,6 +55,7 @@ first_word (ray_line xs) = codes "ray"
 first_word (split_line j f) = codes "split"
 first_word (best_line ys) = codes "best"
 first_word (empty_line ys) = codes "empty"
+first_word (clash_line i j) = codes "clash"
 first_word end_line = codes "end"
 
 -- the other words; decisions and rows are counted from 1
@@ -64,6 +66,7 @@ other_words (ray_line xs) = map printed xs
 other_words (split_line j f) = whole_text (pos (suc j)) ∷ whole_text f ∷ []
 other_words (best_line ys) = pair_words 1 ys
 other_words (empty_line ys) = pair_words 1 ys
+other_words (clash_line i j) = whole_text (pos (suc i)) ∷ whole_text (pos (suc j)) ∷ []
 other_words end_line = []
 
 -- words, each behind a space
@@ -98,6 +101,11 @@ pub record IsSplit (j : ℕ) (f : ℤ) : Type 0 where
   pub floor : IsNarrowWhole f
   pub above : IsNarrowWhole (f +ℤ pos 1)
 
+-- two decisions below 65,536
+pub record IsPair (i j : ℕ) : Type 0 where
+  pub one : i < 2 ^ 16
+  pub other : j < 2 ^ 16
+
 abbrev pub IsSaid : Said → Type 0
 IsSaid (said_optimal v) = IfSome v IsNarrow
 IsSaid said_infeasible = Unit {0}
@@ -111,13 +119,15 @@ IsLine (ray_line xs) = AreNumbers xs
 IsLine (split_line j f) = IsSplit j f
 IsLine (best_line ys) = AreMultipliers ys
 IsLine (empty_line ys) = AreMultipliers ys
+IsLine (clash_line i j) = IsPair i j
 IsLine end_line = Unit {0}
 
 -- ---- weight
--- 1 for a leaf, and its greatest row
+-- 1 for a leaf, and its greatest row where it has rows
 abbrev pub line_weight : Line → ℕ
 line_weight (best_line ys) = 1 + length ys
 line_weight (empty_line ys) = 1 + length ys
+line_weight (clash_line i j) = 1
 line_weight (claim_line s) = 0
 line_weight (point_line xs) = 0
 line_weight (ray_line xs) = 0

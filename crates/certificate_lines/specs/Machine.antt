@@ -1,6 +1,6 @@
 -- Reading lines from the first one on: what is still to come.
 use Rattle.std.specs.Prelude.{ℕ, zero, suc, List, [], ◌∷◌, Option, Some, None}
-use Rattle.certificate_lines.specs.Line.{Line, claim_line, point_line, ray_line, split_line, best_line, empty_line, end_line, Said, said_optimal, said_infeasible, said_unbounded}
+use Rattle.certificate_lines.specs.Line.{Line, claim_line, point_line, ray_line, split_line, best_line, empty_line, clash_line, end_line, Said, said_optimal, said_infeasible, said_unbounded}
 
 -- the claim; the point, and a tree; the point, and a direction; the direction; so many trees, and the last line; nothing
 pub data State : Type 0 where
@@ -34,6 +34,7 @@ abbrev pub step_in_trees : ℕ → Line → Option State
 step_in_trees n (split_line j f) = after_split n
 step_in_trees n (best_line ys) = after_leaf n
 step_in_trees n (empty_line ys) = after_leaf n
+step_in_trees n (clash_line i j) = after_leaf n
 step_in_trees n end_line = after_end n
 step_in_trees n (claim_line s) = None
 step_in_trees n (point_line xs) = None
@@ -46,6 +47,7 @@ if_claim (ray_line xs) = None
 if_claim (split_line j f) = None
 if_claim (best_line ys) = None
 if_claim (empty_line ys) = None
+if_claim (clash_line i j) = None
 if_claim end_line = None
 
 abbrev pub if_point : State → Line → Option State
@@ -55,6 +57,7 @@ if_point s (ray_line xs) = None
 if_point s (split_line j f) = None
 if_point s (best_line ys) = None
 if_point s (empty_line ys) = None
+if_point s (clash_line i j) = None
 if_point s end_line = None
 
 abbrev pub if_ray : Line → Option State
@@ -64,6 +67,7 @@ if_ray (point_line xs) = None
 if_ray (split_line j f) = None
 if_ray (best_line ys) = None
 if_ray (empty_line ys) = None
+if_ray (clash_line i j) = None
 if_ray end_line = None
 
 -- what is to come after one more line; none where it can't stand there

@@ -5,7 +5,7 @@ use Rattle.std.specs.List.{AllByRecursion}
 use Rattle.std.proofs.lemmas.List.Elements.{recursion_from_All}
 use Rattle.fractions.specs.Rational.{ℚ}
 use Rattle.frac128.specs.Narrow.{IsNarrow}
-use Rattle.opt_certificate.specs.Certificate.{Tree, split, best, empty, Claim, optimal, infeasible, unbounded}
+use Rattle.opt_certificate.specs.Certificate.{Tree, split, best, empty, clash, Claim, optimal, infeasible, unbounded}
 use Rattle.opt_certificate.specs.Nodes.{Node, HasNarrowFloor, IsListed, listing, size}
 use Rattle.opt_certificate.specs.Trees.{IsTree}
 use Rattle.certificate_lines.specs.Line.{AreNumbers, end_line, IsLine}
@@ -23,6 +23,7 @@ tree_is_lines k (split j f l u) h n e = (
 )
 tree_is_lines k (best ys) h n e = let few = h.0.1 in (record { narrow = recursion_from_All IsNarrow ys h.0.0; last = e; few = omega (arith, few) }, tt)
 tree_is_lines k (empty ys) h n e = let few = h.0.1 in (record { narrow = recursion_from_All IsNarrow ys h.0.0; last = e; few = omega (arith, few) }, tt)
+tree_is_lines k (clash i j) h n e = (record { one = h.0.0; other = h.0.1 }, tt)
 
 numbers_fit : (xs : List ℚ) → 0 < length xs → All IsNarrow xs → AreNumbers xs
 numbers_fit xs s n = record { some = s; narrow = recursion_from_All IsNarrow xs n }

@@ -3,8 +3,8 @@ use Rattle.std.proofs.Common.{◌≡◌, ◌∙◌, ℕ, suc, ◌+◌, ◌^◌, 
 use Rattle.std.proofs.lemmas.List.{length-set, get_or-take, take-set, drop-set, take-take}
 use Rattle.std.specs.List.{AllByRecursion}
 use Rattle.std.proofs.lemmas.List.Elements.{All-from_recursion}
-use Rattle.opt_certificate.specs.Certificate.{Tree, split, best, empty}
-use Rattle.opt_certificate.specs.Nodes.{Node, split_at, best_leaf, empty_leaf, listing, size, HasNarrowFloor, IsListed}
+use Rattle.opt_certificate.specs.Certificate.{Tree, split, best, empty, clash}
+use Rattle.opt_certificate.specs.Nodes.{Node, split_at, best_leaf, empty_leaf, clash_leaf, listing, size, HasNarrowFloor, IsListed}
 use Rattle.opt_certificate.specs.Trees.{node_of, IsTree}
 use Rattle.opt_certificate.specs.declared.tree.TreeNode.{TreeNode}
 use Rattle.certificate_lines.specs.Line.{Line, split_line, IsLine}
@@ -19,6 +19,7 @@ no_tree : (t : Tree) (ls : List Line) → [] ≡ tree_lines t ++ ls → ⊥
 no_tree (split j f a b) ls e = none_there _ _ (sym e)
 no_tree (best ys) ls e = none_there _ _ (sym e)
 no_tree (empty ys) ls e = none_there _ _ (sym e)
+no_tree (clash i j) ls e = none_there _ _ (sym e)
 
 pub placed_none : (k : ℕ) → ArePlaced k [] [] []
 placed_none k [] e = (refl, refl)
@@ -74,18 +75,29 @@ placed_next k node made lines nodes starts left h p [] e = none_there _ _ e
 placed_next k (split_at i g x y) made lines nodes starts left h p (split j f a b ∷ ts) e = split_placed k i g x y j f a b ts made lines nodes starts left h p e
 placed_next k (split_at i g x y) made lines nodes starts left h p (best ys ∷ ts) e = let q = heads _ _ _ _ e in absurd (cc q)
 placed_next k (split_at i g x y) made lines nodes starts left h p (empty ys ∷ ts) e = let q = heads _ _ _ _ e in absurd (cc q)
+placed_next k (split_at i g x y) made lines nodes starts left h p (clash a b ∷ ts) e = let q = heads _ _ _ _ e in absurd (cc q)
 placed_next k (best_leaf zs) made lines nodes starts left h p (split j f a b ∷ ts) e = let q = heads _ _ _ _ e in absurd (cc q)
 placed_next k (best_leaf zs) made lines nodes starts left h p (best ys ∷ ts) e =
     let q = heads _ _ _ _ e in
     let same : zs ≡ ys = cc q in
     leaf_placed k (best_leaf ys) made (best ys) ts lines nodes starts left h (p.0 ∙ ap best_leaf same) p.1 (tails _ _ _ _ e) refl refl
 placed_next k (best_leaf zs) made lines nodes starts left h p (empty ys ∷ ts) e = let q = heads _ _ _ _ e in absurd (cc q)
+placed_next k (best_leaf zs) made lines nodes starts left h p (clash a b ∷ ts) e = let q = heads _ _ _ _ e in absurd (cc q)
 placed_next k (empty_leaf zs) made lines nodes starts left h p (split j f a b ∷ ts) e = let q = heads _ _ _ _ e in absurd (cc q)
 placed_next k (empty_leaf zs) made lines nodes starts left h p (best ys ∷ ts) e = let q = heads _ _ _ _ e in absurd (cc q)
 placed_next k (empty_leaf zs) made lines nodes starts left h p (empty ys ∷ ts) e =
     let q = heads _ _ _ _ e in
     let same : zs ≡ ys = cc q in
     leaf_placed k (empty_leaf ys) made (empty ys) ts lines nodes starts left h (p.0 ∙ ap empty_leaf same) p.1 (tails _ _ _ _ e) refl refl
+placed_next k (empty_leaf zs) made lines nodes starts left h p (clash a b ∷ ts) e = let q = heads _ _ _ _ e in absurd (cc q)
+placed_next k (clash_leaf i j) made lines nodes starts left h p (split d f a b ∷ ts) e = let q = heads _ _ _ _ e in absurd (cc q)
+placed_next k (clash_leaf i j) made lines nodes starts left h p (best ys ∷ ts) e = let q = heads _ _ _ _ e in absurd (cc q)
+placed_next k (clash_leaf i j) made lines nodes starts left h p (empty ys ∷ ts) e = let q = heads _ _ _ _ e in absurd (cc q)
+placed_next k (clash_leaf i j) made lines nodes starts left h p (clash a b ∷ ts) e =
+    let q = heads _ _ _ _ e in
+    let one : i ≡ a = cc q in
+    let other : j ≡ b = cc q in
+    leaf_placed k (clash_leaf a b) made (clash a b) ts lines nodes starts left h (p.0 ∙ ap₂ clash_leaf one other) p.1 (tails _ _ _ _ e) refl refl
 
 -- ---- nodes whose places are set from the place on
 pub record PlacedFrom (old now : List TreeNode) (place : ℕ) (starts : List ℕ) : Type 0 where
@@ -136,6 +148,7 @@ floors-right [] h = tt
 floors-right (split_at j f x y ∷ ns) h = ((h.0.floor, h.0.above), floors-right ns h.1)
 floors-right (best_leaf ys ∷ ns) h = (tt, floors-right ns h.1)
 floors-right (empty_leaf ys ∷ ns) h = (tt, floors-right ns h.1)
+floors-right (clash_leaf i j ∷ ns) h = (tt, floors-right ns h.1)
 
 pub listed_tree : (nodes : List Node) (t : Option Tree) → nodes ≡ nodes_of_trees 0 (trees_in t) → IsListed nodes t
 listed_tree nodes None e = e

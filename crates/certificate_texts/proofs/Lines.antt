@@ -11,10 +11,10 @@ use Rattle.fractions.specs.Rational.{ℚ}
 use Rattle.frac128.specs.Narrow.{IsNarrow, IsNarrowWhole}
 use Rattle.frac128.specs.Printed.{printed}
 use Rattle.certificate_lines.specs.Cutting.{Lacks, Starts, ReadAs, behind}
-use Rattle.certificate_lines.specs.Line.{Line, claim_line, point_line, ray_line, split_line, best_line, empty_line, end_line, Said, said_optimal, said_infeasible, said_unbounded, AreNumbers, IsSaid, IsSplit, first_word, line_text, pair_words, said_words, spaced, value_words, whole_text}
+use Rattle.certificate_lines.specs.Line.{Line, claim_line, point_line, ray_line, split_line, best_line, empty_line, clash_line, end_line, Said, said_optimal, said_infeasible, said_unbounded, AreNumbers, IsPair, IsSaid, IsSplit, first_word, line_text, pair_words, said_words, spaced, value_words, whole_text}
 use Rattle.certificate_lines.proofs.Cuts.{cut_start, none_there, tails}
 use Rattle.certificate_lines.proofs.Words.{first-is, lacks-32, next_narrow, others-are, spaced-starts, two_bytes, whole_word}
-use Rattle.certificate_texts.specs.Lines.{BeginsWith, IsLight, behind_first}
+use Rattle.certificate_texts.specs.Lines.{BeginsWith, IsLight, behind_first, decision_text}
 use Rattle.certificate_texts.specs.Lists.{AreRows}
 use Rattle.certificate_texts.proofs.Reading.{behind_is, behind_start}
 
@@ -34,6 +34,10 @@ from_best most l h = let q = ap two_bytes h.first in absurd (omega (arith, q))
 from_empty : (most : ℕ) (l : Line) → BeginsWith (codes "empty") most l → (ys : List ℚ) × (AreRows most ys × (behind_first l ≡ spaced (pair_words 1 ys)))
 from_empty most (empty_line ys) h = let w = h.is.light in (ys, (record { are = h.is.is; few = omega arith }, refl))
 from_empty most l h = let q = ap two_bytes h.first in absurd (omega (arith, q))
+
+from_clash : (most : ℕ) (l : Line) → BeginsWith (codes "clash") most l → (i : ℕ) × (j : ℕ) × IsPair i j × (behind_first l ≡ 32 ∷ (decision_text i ++ (32 ∷ (decision_text j ++ []))))
+from_clash most (clash_line i j) h = (i, j, h.is.is, refl)
+from_clash most l h = let q = ap two_bytes h.first in absurd (omega (arith, q))
 
 from_end : (most : ℕ) (l : Line) → BeginsWith (codes "end") most l → behind_first l ≡ []
 from_end most end_line h = refl
@@ -103,6 +107,30 @@ is_split most j f text first rest second h t r a b = (
   t ∙ ap₂ (λ x y. 32 ∷ (x ++ y)) a (r ∙ ap (λ y. 32 ∷ y) (b ∙ sym (append-nil (whole_text f)))),
 )
 
+-- ---- two decisions of a group
+pub record ClashCut (first rest : List ℕ) : Type 0 where
+  pub one : ℕ
+  pub other : ℕ
+  pub pair : IsPair one other
+  pub first_is : first ≡ decision_text one
+  pub rest_is : rest ≡ 32 ∷ decision_text other
+
+pub clash_cut : (most : ℕ) (l : Line) (text first rest : List ℕ) → BeginsWith (codes "clash") most l → text ≡ behind_first l → text ≡ 32 ∷ (first ++ rest) → Lacks 32 first → Starts 32 rest → ClashCut first rest
+clash_cut most l text first rest h e t k s =
+    let f = from_clash most l h in
+    let c = cut_start 32 first (decision_text f.0) rest (32 ∷ (decision_text f.1 ++ [])) k (lacks-32 _ (whole_word (pos (suc f.0)) (next_narrow f.0 f.2.one))) s (behind _) (tails _ _ _ _ (sym t ∙ e ∙ f.3)) in
+    record { one = f.0; other = f.1; pair = f.2; first_is = c.front; rest_is = c.back ∙ ap (λ r. 32 ∷ r) (append-nil (decision_text f.1)) }
+
+pub clash_some : (most : ℕ) (l : Line) (text : List ℕ) → BeginsWith (codes "clash") most l → text ≡ behind_first l → text ≢ []
+clash_some most l text h e n = none_there _ _ (sym (from_clash most l h).3 ∙ sym e ∙ n)
+
+pub is_clash : (most i j : ℕ) (text first rest second : List ℕ) → i < 2 ^ 16 → j < 2 ^ 16 → text ≡ 32 ∷ (first ++ rest) → rest ≡ 32 ∷ second → first ≡ decision_text i → second ≡ decision_text j
+    → ReadAs (BeginsWith (codes "clash") most) behind_first (Some (clash_line i j)) text
+is_clash most i j text first rest second h k t r a b = (
+  record { is = record { is = record { one = h; other = k }; light = omega arith }; first = refl },
+  t ∙ ap₂ (λ x y. 32 ∷ (x ++ y)) a (r ∙ ap (λ y. 32 ∷ y) (b ∙ sym (append-nil (decision_text j)))),
+)
+
 -- a number less 1, as the code reads it
 pub difference_read : (d : ℤ) → IsNarrowWhole d → pos 1 ≤ℤ d → to_z w128 (of_z w128 (to_z w128 (of_z w128 d) -ℤ pos 1)) ≡ d -ℤ pos 1
 difference_read (pos k) n l = ap (λ z. to_z w128 (of_z w128 (z -ℤ pos 1))) (read_back (pos k) n) ∙ read_back (pos k -ℤ pos 1) (omega (arith, ints, n, l))
@@ -118,6 +146,10 @@ split_found most z d f g text first rest second e h l m n o t a r b =
     let p = decision_found z d e l m in
     is_split most (nat_abs z) g text first rest second (record { decision = p.1; floor = subst IsNarrowWhole (sym h) n; above = subst (λ x. IsNarrowWhole (x +ℤ pos 1)) (sym h) o })
     t r (a ∙ ap whole_text (sym p.0)) (b ∙ ap whole_text (sym h))
+
+-- the decision that is counted so, from what the code reads of its number
+pub decision_read : (z d : ℤ) (text : List ℕ) → z ≡ d -ℤ pos 1 → pos 1 ≤ℤ d → d ≤ℤ pos 65536 → text ≡ whole_text d → ReadAs (λ (j : ℕ). j < 2 ^ 16) decision_text (Some (nat_abs z)) text
+decision_read z d text e l m t = let p = decision_found z d e l m in (p.1, t ∙ ap whole_text (sym p.0))
 
 -- ---- a claim
 optimal_lacks : Lacks 32 (codes "optimal")
@@ -159,8 +191,8 @@ by_word most w text word rest None t l s q r = λ k h e.
 by_word most w text word rest (Some k) t l s q r = (r.0.is, t ∙ ap₂ (λ x y. x ++ y) (q ∙ sym r.0.first) r.1)
 
 pub no_line : (most : ℕ) (text word rest : List ℕ) → text ≡ word ++ rest → Lacks 32 word → Starts 32 rest → word ≢ codes "cert" → word ≢ codes "point" → word ≢ codes "ray" → word ≢ codes "split"
-    → word ≢ codes "best" → word ≢ codes "empty" → word ≢ codes "end" → ReadAs (IsLight most) line_text None text
-no_line most text word rest t l s a b d f g i j k h e =
+    → word ≢ codes "best" → word ≢ codes "empty" → word ≢ codes "clash" → word ≢ codes "end" → ReadAs (IsLight most) line_text None text
+no_line most text word rest t l s a b d f g i n j k h e =
     let c = cut_start 32 word (first_word k) rest (behind_first k) l (lacks-32 _ (first-is k)) s (spaced-starts _) (sym t ∙ e) in
     by_line k c.front
   where
@@ -171,6 +203,7 @@ no_line most text word rest t l s a b d f g i j k h e =
     by_line (split_line x y) q = f q
     by_line (best_line x) q = g q
     by_line (empty_line x) q = i q
+    by_line (clash_line x y) q = n q
     by_line end_line q = j q
 
 -- ---- words that differ from one that is written out

@@ -2,9 +2,9 @@
 use Rattle.std.proofs.Common.{◌≡◌, ◌≢◌, ◌∙◌, ℕ, suc, ◌+◌, Bool, true, false, cond, List, [], ◌∷◌, ◌++◌, map, Option, Some, None, refl, sym, ap, ap₂, append_assoc, append-nil, ℤ, pos}
 use Rattle.fractions.specs.Rational.{ℚ, zero_ℚ, eq_ℚ}
 use Rattle.fractions.proofs.Order.{eq_iff}
-use Rattle.opt_certificate.specs.Certificate.{Tree, split, best, empty, Claim, optimal, infeasible, unbounded}
+use Rattle.opt_certificate.specs.Certificate.{Tree, split, best, empty, clash, Claim, optimal, infeasible, unbounded}
 use Rattle.opt_certificate.specs.Nodes.{Node, listing, size, IsListed}
-use Rattle.certificate_lines.specs.Line.{Line, split_line, end_line, pair_text, pair_words, value_words, spaced, text_of}
+use Rattle.certificate_lines.specs.Line.{Line, split_line, clash_line, end_line, pair_text, pair_words, value_words, spaced, text_of}
 use Rattle.certificate_lines.specs.Cert.{claim_lines, tree_lines, node_lines, cert_text}
 use Rattle.certificate_texts.specs.Nodes.{node_line, listed_lines, listed_text}
 use Rattle.std.specs.Prelude.{codes}
@@ -41,6 +41,7 @@ listed-tree k (split j f l u) =
     ap (λ r. split_line j f ∷ r) (map-append (listing (k + 1) l) (listing (k + (1 + size l)) u) ∙ ap₂ (λ x y. x ++ y) (listed-tree (k + 1) l) (listed-tree (k + (1 + size l)) u))
 listed-tree k (best ys) = refl
 listed-tree k (empty ys) = refl
+listed-tree k (clash i j) = refl
 
 listed : (nodes : List Node) (t : Option Tree) (c : Claim) → IsListed nodes t → listed_lines c nodes ≡ node_lines c t
 listed nodes None (optimal a) h = ap (map node_line) h
@@ -68,6 +69,12 @@ pub split_written : (j : ℕ) (floor y z : ℤ) (old a b d e : List ℕ) → a �
     → e ≡ old ++ text_of (split_line j floor ∷ [])
 split_written j floor y z old a b d e f g h k same fold =
     k ∙ ap (λ r. r ++ (10 ∷ [])) (h ∙ ap₂ (λ r w. r ++ (32 ∷ printed (whole_ℚ w))) (g ∙ ap₂ (λ r w. r ++ (32 ∷ printed (whole_ℚ w))) f same) fold)
+    ∙ simp append_assoc
+
+pub clash_written : (i j : ℕ) (y z : ℤ) (old a b d e : List ℕ) → a ≡ old ++ codes "clash" → b ≡ a ++ (32 ∷ printed (whole_ℚ z)) → d ≡ b ++ (32 ∷ printed (whole_ℚ y)) → e ≡ d ++ (10 ∷ []) → z ≡ pos (suc i) → y ≡ pos (suc j)
+    → e ≡ old ++ text_of (clash_line i j ∷ [])
+clash_written i j y z old a b d e f g h k same other =
+    k ∙ ap (λ r. r ++ (10 ∷ [])) (h ∙ ap₂ (λ r w. r ++ (32 ∷ printed (whole_ℚ w))) (g ∙ ap₂ (λ r w. r ++ (32 ∷ printed (whole_ℚ w))) f same) other)
     ∙ simp append_assoc
 
 pub lines_written : (cl ns : List Line) (old a b e : List ℕ) → a ≡ old ++ text_of cl → b ≡ a ++ text_of ns → e ≡ b ++ text_of (end_line ∷ []) → e ≡ old ++ text_of (cl ++ (ns ++ (end_line ∷ [])))

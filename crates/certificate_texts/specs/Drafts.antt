@@ -2,7 +2,7 @@
 use Rattle.std.specs.Prelude.{◌≡◌, ◌≢◌, ◌<◌, ◌≤◌, ◌+◌, ◌^◌, ℕ, suc, Bool, true, false, List, [], ◌∷◌, ◌++◌, length, map, Some, IsSome}
 use Rattle.fractions.specs.Rational.{ℚ}
 use Rattle.opt_certificate.specs.Certificate.{Claim, optimal, infeasible, unbounded}
-use Rattle.opt_certificate.specs.Nodes.{Node, split_at, best_leaf, empty_leaf}
+use Rattle.opt_certificate.specs.Nodes.{Node, split_at, best_leaf, empty_leaf, clash_leaf}
 use Rattle.opt_certificate.specs.Trees.{node_of}
 use Rattle.certificate_lines.specs.Line.{Line, claim_line, point_line, end_line, said_optimal, said_unbounded, IsLine, line_text, line_weight, weight}
 use Rattle.certificate_lines.specs.Cert.{claim_lines}
@@ -79,6 +79,7 @@ abbrev pub IsLeaf : Node → ℕ → Type 0
 IsLeaf (split_at j f lower upper) rows = ⊥
 IsLeaf (best_leaf ys) rows = rows ≡ length ys
 IsLeaf (empty_leaf ys) rows = rows ≡ length ys
+IsLeaf (clash_leaf i j) rows = rows ≡ 0
 
 -- one line more is read
 pub record Follows (d : Draft) (l : Line) (e : Draft) : Type 0 where

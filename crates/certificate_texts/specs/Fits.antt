@@ -3,8 +3,8 @@ use Rattle.std.specs.Prelude.{◌≢◌, ◌<◌, ◌^◌, List, [], ◌∷◌, 
 use Rattle.std.specs.List.{All}
 use Rattle.fractions.specs.Rational.{ℚ, zero_ℚ}
 use Rattle.frac128.specs.Narrow.{IsNarrow}
-use Rattle.opt_certificate.specs.Certificate.{Tree, split, best, empty, Claim, optimal, infeasible, unbounded}
-use Rattle.opt_certificate.specs.Nodes.{Node, split_at, best_leaf, empty_leaf}
+use Rattle.opt_certificate.specs.Certificate.{Tree, split, best, empty, clash, Claim, optimal, infeasible, unbounded}
+use Rattle.opt_certificate.specs.Nodes.{Node, split_at, best_leaf, empty_leaf, clash_leaf}
 use Rattle.certificate_lines.specs.Cert.{Cert, HasParts}
 
 -- ---- conditions on a certificate under which it has a text of its own
@@ -23,6 +23,7 @@ abbrev pub LeavesEndOtherwise : Tree → Type 0
 LeavesEndOtherwise (split j f lower upper) = LeavesEndOtherwise lower × LeavesEndOtherwise upper
 LeavesEndOtherwise (best ys) = EndsOtherwise ys
 LeavesEndOtherwise (empty ys) = EndsOtherwise ys
+LeavesEndOtherwise (clash i j) = Unit {0}
 
 -- there is a tree with each claim but that of no end, and a value with that of an optimal point alone; no list of the claim is
 -- empty, and no leaf's multipliers end with 0
@@ -36,6 +37,7 @@ abbrev pub NodeFits : Node → Type 0
 NodeFits (split_at j f lower upper) = j < 2 ^ 16
 NodeFits (best_leaf ys) = All IsNarrow ys × (length ys < 2 ^ 64)
 NodeFits (empty_leaf ys) = All IsNarrow ys × (length ys < 2 ^ 64)
+NodeFits (clash_leaf i j) = (i < 2 ^ 16) × (j < 2 ^ 16)
 
 -- of a claim with its value and its nodes, as far as they are written
 abbrev pub IsFit : Claim → Option ℚ → List Node → Type 0

@@ -1,7 +1,7 @@
 -- Trees one after the other, as their lines and as their nodes. No public clause cites this module.
 use Rattle.std.specs.Prelude.{◌≡◌, ◌+◌, ℕ, List, [], ◌∷◌, ◌++◌, Option, Some, None}
 use Rattle.opt_certificate.specs.Certificate.{Tree}
-use Rattle.opt_certificate.specs.Nodes.{Node, split_at, best_leaf, empty_leaf, listing, size}
+use Rattle.opt_certificate.specs.Nodes.{Node, split_at, best_leaf, empty_leaf, clash_leaf, listing, size}
 use Rattle.certificate_lines.specs.Line.{Line}
 use Rattle.certificate_lines.specs.Cert.{tree_lines}
 
@@ -30,6 +30,7 @@ abbrev pub PartsSet : Node → List ℕ → Node → List ℕ → Type 0
 PartsSet (split_at j f a b) starts node left = (rest : List ℕ) (upper lower : ℕ) → starts ≡ rest ++ (upper ∷ lower ∷ []) → (node ≡ split_at j f lower upper) × (left ≡ rest)
 PartsSet (best_leaf ys) starts node left = (node ≡ best_leaf ys) × (left ≡ starts)
 PartsSet (empty_leaf ys) starts node left = (node ≡ empty_leaf ys) × (left ≡ starts)
+PartsSet (clash_leaf i j) starts node left = (node ≡ clash_leaf i j) × (left ≡ starts)
 
 -- from the place k on the nodes of these lines have the places of their parts, and these are the places where trees begin
 abbrev pub ArePlaced : ℕ → List Line → List Node → List ℕ → Type 0

@@ -1,6 +1,6 @@
 -- The lines that the code reads, as those of certificates. No public clause cites this module.
-use Rattle.std.specs.Prelude.{◌≡◌, ◌≤◌, ℕ, suc, List}
-use Rattle.certificate_lines.specs.Line.{Line, claim_line, point_line, ray_line, split_line, best_line, empty_line, end_line, Said, said_optimal, said_infeasible, said_unbounded, IsLine, line_weight, first_word, other_words, spaced}
+use Rattle.std.specs.Prelude.{◌≡◌, ◌≤◌, ℕ, suc, pos, List}
+use Rattle.certificate_lines.specs.Line.{Line, claim_line, point_line, ray_line, split_line, best_line, empty_line, clash_line, end_line, Said, said_optimal, said_infeasible, said_unbounded, IsLine, line_weight, first_word, other_words, spaced, whole_text}
 use Rattle.certificate_texts.specs.declared.line.Said.{Said as Claimed}
 use Rattle.certificate_texts.specs.declared.line.Said.TheVariants as claims
 use Rattle.certificate_texts.specs.declared.line.Line.{Line as OneLine}
@@ -20,7 +20,12 @@ line_of (lines.Ray xs) = ray_line xs.items
 line_of (lines.Split j f) = split_line j f
 line_of (lines.Best ys) = best_line ys.items
 line_of (lines.Empty ys) = empty_line ys.items
+line_of (lines.Clash i j) = clash_line i j
 line_of lines.End = end_line
+
+-- a decision, counted from 1
+abbrev pub decision_text : ℕ → List ℕ
+decision_text j = whole_text (pos (suc j))
 
 -- it can stand in a certificate, and is no leaf of more rows than these
 pub record IsLight (most : ℕ) (l : Line) : Type 0 where

@@ -2,8 +2,8 @@
 use Rattle.std.specs.Prelude.{ℕ, List, [], ◌∷◌, ◌++◌, map, Option}
 use Rattle.fractions.specs.Rational.{ℚ}
 use Rattle.opt_certificate.specs.Certificate.{Claim, optimal, infeasible, unbounded}
-use Rattle.opt_certificate.specs.Nodes.{Node, split_at, best_leaf, empty_leaf}
-use Rattle.certificate_lines.specs.Line.{Line, split_line, best_line, empty_line, end_line, text_of}
+use Rattle.opt_certificate.specs.Nodes.{Node, split_at, best_leaf, empty_leaf, clash_leaf}
+use Rattle.certificate_lines.specs.Line.{Line, split_line, best_line, empty_line, clash_line, end_line, text_of}
 use Rattle.certificate_lines.specs.Cert.{claim_lines}
 
 -- a node's line, without the places of its parts
@@ -11,6 +11,7 @@ abbrev pub node_line : Node → Line
 node_line (split_at j f lower upper) = split_line j f
 node_line (best_leaf ys) = best_line ys
 node_line (empty_leaf ys) = empty_line ys
+node_line (clash_leaf i j) = clash_line i j
 
 -- the lines of all nodes, where the claim has a tree
 abbrev pub listed_lines : Claim → List Node → List Line

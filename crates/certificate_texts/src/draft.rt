@@ -206,6 +206,7 @@ impl Draft {
                 let rows = multipliers.len();
                 self.take_leaf(TreeNode::Empty(multipliers), rows)
             }
+            Line::Clash(one, other) => self.take_leaf(TreeNode::Clash(one, other), 0),
             Line::End => Ok(self.take_end()),
         }
     }

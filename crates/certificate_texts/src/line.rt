@@ -3,7 +3,7 @@ ghost use Rattle.std.specs.Prelude.{◌<◌, ◌^◌, IfOk, codes, map, option_m
 ghost use Rattle.frac128.specs.Printed.{printed};
 ghost use Rattle.certificate_lines.specs.Cutting.{ReadAs, Starts};
 ghost use Rattle.certificate_lines.specs.Line.{AreNumbers, line_text, spaced};
-ghost use Rattle.certificate_texts.specs.Lines.{BeginsWith, IsLight, behind_first, line_of};
+ghost use Rattle.certificate_texts.specs.Lines.{BeginsWith, IsLight, behind_first, decision_text, line_of};
 
 use crate::claim::read_claim;
 use crate::cutting::cut;
@@ -30,6 +30,7 @@ pub(crate) enum Line {
     Split(u16, i128),
     Best(Vec<Frac>),
     Empty(Vec<Frac>),
+    Clash(u16, u16),
     End,
 }
 
@@ -146,6 +147,41 @@ fn read_empty(
     Ok(Some(Line::Empty(multipliers)))
 }
 
+// A decision, counted from 1.
+fn read_decision(text: &[u8], room: &mut String) -> Result<Option<u16>, Memory>
+    ensures { IfOk result (λ o. ReadAs (λ j. j < 2 ^ 16) decision_text o text.now) }
+{
+    let Some(decision) = read_whole(text, room)? else {
+        return Ok(None);
+    };
+    if decision < 1 || decision > MOST_DECISION {
+        return Ok(None);
+    }
+    Ok(Some((decision - 1) as u16))
+}
+
+// The two decisions behind `clash`.
+fn read_clash(text: &[u8], most: usize, room: &mut String) -> Result<Option<Line>, Memory>
+    requires { Starts 32 text.now }
+    ensures { IfOk result (λ o. ReadAs (BeginsWith (codes "clash") most) behind_first
+        (option_map line_of o) text.now) }
+{
+    let [_, behind @ ..] = text else {
+        return Ok(None);
+    };
+    let (first, rest) = cut(behind, b' ');
+    let [_, second @ ..] = rest else {
+        return Ok(None);
+    };
+    let Some(one) = read_decision(first, room)? else {
+        return Ok(None);
+    };
+    let Some(other) = read_decision(second, room)? else {
+        return Ok(None);
+    };
+    Ok(Some(Line::Clash(one, other)))
+}
+
 // Nothing stands behind `end`.
 fn read_end(text: &[u8], most: usize) -> Option<Line>
     ensures { ReadAs (BeginsWith (codes "end") most) behind_first (option_map line_of result) text.now }
@@ -185,6 +221,9 @@ pub(crate) fn read_line(
     }
     if word == "empty".as_bytes() {
         return read_empty(alloc, behind, most, room);
+    }
+    if word == "clash".as_bytes() {
+        return read_clash(behind, most, room);
     }
     if word == "end".as_bytes() {
         return Ok(read_end(behind, most));

@@ -10,7 +10,7 @@ ghost use Rattle.opt_certificate.specs.Trees.{node_of};
 ghost use Rattle.certificate_lines.specs.Cert.{Cert, cert_text, cert_weight, claim_lines};
 ghost use Rattle.certificate_lines.specs.Heads.{most_weight};
 ghost use Rattle.certificate_lines.specs.Laws.{IsReadBack};
-ghost use Rattle.certificate_lines.specs.Line.{pair_words, spaced, split_line, text_of, value_words};
+ghost use Rattle.certificate_lines.specs.Line.{clash_line, pair_words, spaced, split_line, text_of, value_words};
 ghost use Rattle.certificate_texts.specs.Fits.{HasText, IsFit, NodeFits};
 ghost use Rattle.certificate_texts.specs.Nodes.{listed_text, node_line};
 
@@ -94,6 +94,19 @@ fn write_split(decision: u16, floor: i128, to: &mut String) -> Result<(), Memory
     Ok(())
 }
 
+// The line of two decisions of a group.
+fn write_clash(one: u16, other: u16, to: &mut String) -> Result<(), Memory>
+    ensures text { OnOk result (string_bytes to.new
+        ≡ string_bytes to.old ++ text_of (clash_line one other ∷ [])) }
+    ensures decisions { (one < 2 ^ 16) × (other < 2 ^ 16) }
+{
+    to.push_str("clash")?;
+    write_number(whole(i128::from(one) + 1), to)?;
+    write_number(whole(i128::from(other) + 1), to)?;
+    to.push_str("\n")?;
+    Ok(())
+}
+
 // A node's line.
 fn write_node(node: &TreeNode, to: &mut String) -> Result<(), Memory>
     requires { HasNarrowFloor (node_of node.now) }
@@ -118,6 +131,7 @@ fn write_node(node: &TreeNode, to: &mut String) -> Result<(), Memory>
             to.push_str("\n")?;
             Ok(())
         }
+        TreeNode::Clash(one, other) => write_clash(*one, *other, to),
     }
 }
 

@@ -1,14 +1,16 @@
 -- Answers at leaves.
-use Rattle.std.proofs.Common.{◌≡◌, ◌≤◌, Bool, true, false, sym, List, length, subst}
-use Rattle.std.specs.Prelude.{Result, Ok}
+use Rattle.std.proofs.Common.{◌≡◌, ◌↔◌, ◌≤◌, ℕ, Bool, true, false, refl, sym, List, length, subst}
+use Rattle.std.proofs.lemmas.Bool.{false≢true}
+use Rattle.std.specs.Prelude.{IsTrue, Result, Ok}
 use Rattle.fractions.specs.Rational.{ℚ}
 use Rattle.linear_models.specs.Box.{Box}
 use Rattle.linear_models.specs.Model.{Model}
 use Rattle.std.proofs.Common.{Option, Some}
 use Rattle.linear_programs.specs.Program.{Program, Bounds, IsContradictory}
 use Rattle.opt_certificate.specs.Certificate.{ProvesBest, ProvesEmpty}
+use Rattle.opt_certificate.specs.Clashes.{IsClash}
 use Rattle.opt_certificate.specs.Checks.{ColumnsAreNarrow, NodeProves, NodeIsNarrow}
-use Rattle.opt_certificate.specs.Nodes.{Node, best_leaf, empty_leaf}
+use Rattle.opt_certificate.specs.Nodes.{Node, best_leaf, empty_leaf, clash_leaf}
 use Rattle.opt_certificate.specs.Sums.{StaysNarrow, whole_bound, bound_sum}
 use Rattle.opt_certificate.specs.declared.node.LeafStop.{LeafStop}
 use Rattle.opt_certificate.specs.Judged.{Judged, LeafJudged}
@@ -43,3 +45,10 @@ pub of_empty_node : (m : Model) (box : Box) (node : Node) (target : Option ℚ) 
 of_empty_node m box node target ys zs r e g j =
     subst (λ (node : Node). LeafJudged (NodeProves m target (box, node)) (NodeIsNarrow m (box, node)) r) (sym e)
     (subst (λ (ys : List ℚ). LeafJudged (ProvesEmpty m box ys) (NodeIsNarrow m (box, empty_leaf ys)) r) g j)
+
+pub of_clash_node : (m : Model) (box : Box) (node : Node) (target : Option ℚ) (i j : ℕ) (said : Bool) → node ≡ clash_leaf i j → IsTrue said ↔ IsClash m.groups box i j → LeafJudged (NodeProves m target (box, node)) (NodeIsNarrow m (box, node)) (Ok said)
+of_clash_node m box node target i j said e h = subst (λ (node : Node). LeafJudged (NodeProves m target (box, node)) (NodeIsNarrow m (box, node)) (Ok said)) (sym e) (cases said h)
+  where
+    cases : (b : Bool) → IsTrue b ↔ IsClash m.groups box i j → LeafJudged (NodeProves m target (box, clash_leaf i j)) (NodeIsNarrow m (box, clash_leaf i j)) (Ok b)
+    cases true h = (h.0 refl, tt)
+    cases false h = λ p. false≢true (h.1 p)

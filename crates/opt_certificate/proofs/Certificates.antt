@@ -28,7 +28,7 @@ not_better least f a b x y e q h w =
 not_better (reach v) f a b x y e q h w = w
 
 tree_holds : (m : Model) (target : Option ℚ) (t : Tree) (a : Assignment) → IsValid m → IsPoint m a → Proves m target m.bounds t → Below target (form_at (maximised m.goal m.objective) a)
-tree_holds m target t a v p h = tree_proves m target m.bounds t a v record { least = v.least; greatest = v.greatest } p.one_each p.rows p.whole p.bounds h
+tree_holds m target t a v p h = tree_proves m target m.bounds t a v record { least = v.least; greatest = v.greatest } p.one_each p.rows p.whole p.different p.bounds h
 
 pub certificates_hold : CertificatesHold
 certificates_hold m tree (optimal a) v h = record {
@@ -36,4 +36,4 @@ certificates_hold m tree (optimal a) v h = record {
   best = λ b pb w. not_better m.goal m.objective a b w.mine w.other (sym w.mine_is) (sym w.other_is) (tree_holds m (Some (form_at (maximised m.goal m.objective) a)) h.1.0 b v ((points_are_permitted m b).0 pb) h.1.2) w.better;
 }
 certificates_hold m tree infeasible v h = λ a p. tree_holds m None h.0 a v ((points_are_permitted m a).0 p) h.2
-certificates_hold m tree (unbounded a d) v h = way_out m a d h.0 h.1
+certificates_hold m tree (unbounded a d) v h = way_out m a d v h.0 h.1

@@ -10,7 +10,7 @@ use Rattle.linear_models.specs.Box.{Box}
 use Rattle.affine_forms.specs.Forms.{AffineForm}
 use Rattle.linear_models.specs.Worths.{form_at}
 use Rattle.linear_models.specs.Model.{Model, IsPoint, maximised}
-use Rattle.opt_certificate.specs.Certificate.{Tree, split, best, empty, optimal, infeasible, unbounded, Proves, ProvesTarget, IsWayOut, lower_child, upper_child}
+use Rattle.opt_certificate.specs.Certificate.{Tree, split, best, empty, clash, optimal, infeasible, unbounded, Proves, ProvesTarget, IsWayOut, lower_child, upper_child}
 use Rattle.opt_certificate.specs.Nodes.{Node, listing, boxed, IsListed}
 use Rattle.opt_certificate.specs.Sums.{form_sum, StaysNarrow}
 use Rattle.opt_certificate.specs.Checks.{NodeProves, RowsAreNarrow, StepsAreNarrow, without_constant, Checked, IsWideAt, TreeChecked}
@@ -34,6 +34,7 @@ nodes_are m target box (split j f l u) =
     (λ h. (h.0, a.0 (p.0 h.1).0, b.0 (p.0 h.1).1), λ h. (h.0, p.1 (a.1 h.1, b.1 h.2)))
 nodes_are m target box (best ys) = (λ h. h.0, λ h. (h, tt))
 nodes_are m target box (empty ys) = (λ h. h.0, λ h. (h, tt))
+nodes_are m target box (clash i j) = (λ h. h.0, λ h. (h, tt))
 
 pub proves_there : (m : Model) (target : Option ℚ) (t : Tree) → All (NodeProves m target) (boxed m.bounds t) → Proves m target m.bounds t
 proves_there m target t h = (nodes_are m target m.bounds t).0 (recursion_from_All (NodeProves m target) (boxed m.bounds t) h)
@@ -50,6 +51,7 @@ no_tree m target nodes None e l h = cc
 no_tree m target nodes (Some (split j f lo up)) e l h = cc
 no_tree m target nodes (Some (best ys)) e l h = cc
 no_tree m target nodes (Some (empty ys)) e l h = cc
+no_tree m target nodes (Some (clash i j)) e l h = cc
 
 pub some_tree : (nodes : List Node) (t : Option Tree) → ¬ (nodes ≡ []) → IsListed nodes t → (u : Tree) × (nodes ≡ listing 0 u)
 some_tree nodes None n l = absurd (n l)
@@ -91,10 +93,10 @@ infeasible_checked m tree (Err stops.Memory) c = tt
 
 -- the claim's own sums
 pub worth_wide : (m : Model) (tree : Option Tree) (f : AffineForm) (a : Assignment) → f ≡ maximised m.goal m.objective → narrow (form_sum f a) ≡ None → IsWideAt m tree (optimal a) 0
-worth_wide m tree f a e s = inl (refl, λ n. clash (sym (ap (λ (f : AffineForm). narrow (form_sum f a)) (sym e) ∙ s) ∙ n.1.1))
+worth_wide m tree f a e s = inl (refl, λ n. never (sym (ap (λ (f : AffineForm). narrow (form_sum f a)) (sym e) ∙ s) ∙ n.1.1))
   where
-    clash : {x : ℚ} → None ≡ Some x → ⊥
-    clash q = cc
+    never : {x : ℚ} → None ≡ Some x → ⊥
+    never q = cc
 
 pub unbounded_checked : (m : Model) (tree : Option Tree) (f : AffineForm) (a d : Assignment) → f ≡ maximised m.goal m.objective → IsPoint m a × RowsAreNarrow m a
     → IsWayOut m d × (StepsAreNarrow m d × StaysNarrow (form_sum (without_constant f) d)) → Checked m tree (unbounded a d) (Ok true)
@@ -111,7 +113,7 @@ no_nodes (x ∷ nodes) ns e h = absurd (omega (arith, h))
 
 pub some_nodes : (nodes : List TreeNode) (ns : List Node) → map node_of nodes ≡ ns → ¬ (length nodes ≡ 0) → ¬ (ns ≡ [])
 some_nodes [] ns e n q = n refl
-some_nodes (x ∷ nodes) ns e n q = clash (e ∙ q)
+some_nodes (x ∷ nodes) ns e n q = never (e ∙ q)
   where
-    clash : map node_of (x ∷ nodes) ≡ [] → ⊥
-    clash e = cc
+    never : map node_of (x ∷ nodes) ≡ [] → ⊥
+    never e = cc

@@ -3,8 +3,8 @@ use Rattle.std.proofs.Common.{◌≡◌, ℕ, ◌+◌, ◌<◌, ◌≤◌, refl,
 use Rattle.std.specs.Prelude.{ℤ}
 use Rattle.std.proofs.Math.Seq.{drop-cons}
 use Rattle.std.proofs.lemmas.List.{drop-drop, drop_at}
-use Rattle.opt_certificate.specs.Certificate.{Tree, split, best, empty}
-use Rattle.opt_certificate.specs.Nodes.{Node, split_at, best_leaf, empty_leaf, size, listing}
+use Rattle.opt_certificate.specs.Certificate.{Tree, split, best, empty, clash}
+use Rattle.opt_certificate.specs.Nodes.{Node, split_at, best_leaf, empty_leaf, clash_leaf, size, listing}
 use Rattle.std.proofs.lemmas.List.{get_or-map, length-map}
 use Rattle.opt_certificate.specs.Trees.{node_of}
 use Rattle.opt_certificate.specs.declared.tree.TreeNode.{TreeNode}
@@ -14,6 +14,7 @@ pub some_size : (t : Tree) → 0 < size t
 some_size (split j f l u) = omega arith
 some_size (best ys) = omega arith
 some_size (empty ys) = omega arith
+some_size (clash i j) = omega arith
 
 -- the parts of a split
 pub lower_is : (nodes : List Node) (k : ℕ) (j : ℕ) (f : ℤ) (l u : Tree) (rest : List Node) → drop k nodes ≡ listing k (split j f l u) ++ rest
@@ -53,6 +54,7 @@ pub splits : (nodes : List Node) (k j : ℕ) (f : ℤ) (lower upper : ℕ) (t : 
     → drop k nodes ≡ listing k t ++ rest → Splits nodes k j f lower upper t rest
 splits nodes k j f lower upper (best ys) rest h e d = let q = first_is nodes k (split_at j f lower upper) (best_leaf ys) rest h e d in absurd (cc)
 splits nodes k j f lower upper (empty ys) rest h e d = let q = first_is nodes k (split_at j f lower upper) (empty_leaf ys) rest h e d in absurd (cc)
+splits nodes k j f lower upper (clash x y) rest h e d = let q = first_is nodes k (split_at j f lower upper) (clash_leaf x y) rest h e d in absurd (cc)
 splits nodes k j f lower upper (split i g l u) rest h e d =
     let q : split_at j f lower upper ≡ split_at i g (k + 1) (k + (1 + size l)) = first_is nodes k (split_at j f lower upper) (split_at i g (k + 1) (k + (1 + size l))) _ h e d in
     let a : j ≡ i = cc in
@@ -85,11 +87,19 @@ pub best_size : (nodes : List Node) (k : ℕ) (ys : List Rattle.fractions.specs.
 best_size nodes k ys (split i g l u) rest h e d = let q = first_is nodes k (best_leaf ys) (split_at i g (k + 1) (k + (1 + size l))) _ h e d in absurd (cc)
 best_size nodes k ys (best zs) rest h e d = refl
 best_size nodes k ys (empty zs) rest h e d = refl
+best_size nodes k ys (clash x y) rest h e d = refl
 
 pub empty_size : (nodes : List Node) (k : ℕ) (ys : List Rattle.fractions.specs.Rational.ℚ) (t : Tree) (rest : List Node) → k < length nodes → empty_leaf ys ≡ get_or nodes k (empty_leaf ys) → drop k nodes ≡ listing k t ++ rest → size t ≡ 1
 empty_size nodes k ys (split i g l u) rest h e d = let q = first_is nodes k (empty_leaf ys) (split_at i g (k + 1) (k + (1 + size l))) _ h e d in absurd (cc)
 empty_size nodes k ys (best zs) rest h e d = refl
 empty_size nodes k ys (empty zs) rest h e d = refl
+empty_size nodes k ys (clash x y) rest h e d = refl
+
+pub clash_size : (nodes : List Node) (k i j : ℕ) (t : Tree) (rest : List Node) → k < length nodes → clash_leaf i j ≡ get_or nodes k (clash_leaf i j) → drop k nodes ≡ listing k t ++ rest → size t ≡ 1
+clash_size nodes k i j (split a g l u) rest h e d = let q = first_is nodes k (clash_leaf i j) (split_at a g (k + 1) (k + (1 + size l))) _ h e d in absurd (cc)
+clash_size nodes k i j (best zs) rest h e d = refl
+clash_size nodes k i j (empty zs) rest h e d = refl
+clash_size nodes k i j (clash x y) rest h e d = refl
 
 -- a step along the upper parts ends where the tree does
 pub same_end : (nodes : List Node) (k j : ℕ) (f : ℤ) (lower upper : ℕ) (u : Tree) (others : List Node) (s : Splits nodes k j f lower upper u others) (n : ℕ) → k + size u ≡ n → upper + size s.up ≡ n

@@ -39,10 +39,10 @@ judged_unless true h f g = g (h.0 refl)
 judged_unless false h f g = f (λ q. false≢true (h.1 q))
 
 pub none_wide : (c : Calculation ℚ) → narrow c ≡ None → ¬ (StaysNarrow c)
-none_wide c e s = clash (sym e ∙ s.1)
+none_wide c e s = never (sym e ∙ s.1)
   where
-    clash : None ≡ Some s.0 → ⊥
-    clash q = cc
+    never : None ≡ Some s.0 → ⊥
+    never q = cc
 
 not_below : (x y : ℚ) → ¬ (x <ℚ y) → y ≤ℚ x
 not_below x y n = elim (le_or_lt y x) [ inl h ↦ h | inr h ↦ absurd (n h) ]

@@ -1,6 +1,8 @@
 pub mod Parts
 pub mod Multiples
 pub mod WaysOut
+pub mod Clashes
+pub mod Shared
 pub mod Trees
 pub mod Certificates
 pub mod Totals

@@ -1,6 +1,6 @@
 -- Nodes are those of one tree at most.
 use Rattle.std.proofs.Common.{◌≡◌, ℕ, ◌+◌, refl, sym, ap, ap₂, ◌∙◌, List, [], ◌∷◌, ◌++◌, append_assoc, append-nil, Some, None}
-use Rattle.opt_certificate.specs.Certificate.{Tree, split, best, empty}
+use Rattle.opt_certificate.specs.Certificate.{Tree, split, best, empty, clash}
 use Rattle.opt_certificate.specs.Nodes.{Node, split_at, size, listing, ListedOnce}
 
 -- two lists of nodes that begin with a tree begin with the same one, and go on alike
@@ -19,6 +19,13 @@ same_start k (best a) (best b) xs ys e = let q : a ≡ b = cc in record { tree =
 same_start k (empty a) (empty b) xs ys e = let q : a ≡ b = cc in record { tree = ap empty q; rest = cc }
 same_start k (best a) (empty b) xs ys e = cc
 same_start k (empty a) (best b) xs ys e = cc
+same_start k (clash a b) (clash x y) xs ys e = let p : a ≡ x = cc in let q : b ≡ y = cc in record { tree = ap₂ clash p q; rest = cc }
+same_start k (clash a b) (best x) xs ys e = cc
+same_start k (clash a b) (empty x) xs ys e = cc
+same_start k (best a) (clash x y) xs ys e = cc
+same_start k (empty a) (clash x y) xs ys e = cc
+same_start k (clash a b) (split j f l u) xs ys e = let q = heads _ _ _ _ e in absurd (cc)
+same_start k (split j f l u) (clash a b) xs ys e = let q = heads _ _ _ _ e in absurd (cc)
 same_start k (best a) (split j f l u) xs ys e = let q = heads _ _ _ _ e in absurd (cc)
 same_start k (empty a) (split j f l u) xs ys e = let q = heads _ _ _ _ e in absurd (cc)
 same_start k (split j f l u) (best b) xs ys e = let q = heads _ _ _ _ e in absurd (cc)
@@ -38,6 +45,7 @@ none_listed : (t : Tree) → [] ≡ listing 0 t → ⊥
 none_listed (split j f l u) e = cc
 none_listed (best ys) e = cc
 none_listed (empty ys) e = cc
+none_listed (clash i j) e = cc
 
 pub listed_once : ListedOnce
 listed_once nodes None None a b = refl

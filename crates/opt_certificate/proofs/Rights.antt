@@ -3,8 +3,8 @@ use Rattle.std.proofs.Common.{◌≡◌, ℕ, suc, ◌+◌, ◌-◌, ◌<◌, �
 use Rattle.std.specs.Prelude.{ℤ, All}
 use Rattle.std.proofs.Math.Seq.{drop-cons}
 use Rattle.std.proofs.lemmas.List.{drop-drop, drop_at}
-use Rattle.opt_certificate.specs.Certificate.{Tree, split, best, empty}
-use Rattle.opt_certificate.specs.Nodes.{Node, split_at, best_leaf, empty_leaf, size, listing, HasNarrowFloor, IsListed}
+use Rattle.opt_certificate.specs.Certificate.{Tree, split, best, empty, clash}
+use Rattle.opt_certificate.specs.Nodes.{Node, split_at, best_leaf, empty_leaf, clash_leaf, size, listing, HasNarrowFloor, IsListed}
 use Rattle.opt_certificate.specs.Parts.{Part, PartsFrom, IsRight}
 use Rattle.opt_certificate.specs.Trees.{IsTree}
 use Rattle.opt_certificate.proofs.Walks.{length-listing}
@@ -53,6 +53,9 @@ best_right nodes k ys h e = record { part = record { tree = best ys; rest = drop
 pub empty_right : (nodes : List Node) (k : ℕ) (ys : List Rattle.fractions.specs.Rational.ℚ) → k < length nodes → empty_leaf ys ≡ get_or nodes k (empty_leaf ys) → IsRight nodes k
 empty_right nodes k ys h e = record { part = record { tree = empty ys; rest = drop (k + 1) nodes; is = front nodes k (empty_leaf ys) h e }; floor = floor_of_split nodes k (empty_leaf ys) h e tt }
 
+pub clash_right : (nodes : List Node) (k i j : ℕ) → k < length nodes → clash_leaf i j ≡ get_or nodes k (clash_leaf i j) → IsRight nodes k
+clash_right nodes k i j h e = record { part = record { tree = clash i j; rest = drop (k + 1) nodes; is = front nodes k (clash_leaf i j) h e }; floor = floor_of_split nodes k (clash_leaf i j) h e tt }
+
 -- ---- in a listed tree a tree begins at each place
 everywhere : (nodes : List Node) (k : ℕ) (t : Tree) (rest : List Node) → drop k nodes ≡ listing k t ++ rest → (i : ℕ) → k ≤ i → i < k + size t → Part nodes i
 everywhere nodes k (split j f l u) rest e i low high =
@@ -67,6 +70,7 @@ everywhere nodes k (split j f l u) rest e i low high =
     chosen (inr q) a b = b q
 everywhere nodes k (best ys) rest e i low high = let q : i ≡ k = omega arith in subst (Part nodes) (sym q) record { tree = best ys; rest = rest; is = e }
 everywhere nodes k (empty ys) rest e i low high = let q : i ≡ k = omega arith in subst (Part nodes) (sym q) record { tree = empty ys; rest = rest; is = e }
+everywhere nodes k (clash x y) rest e i low high = let q : i ≡ k = omega arith in subst (Part nodes) (sym q) record { tree = clash x y; rest = rest; is = e }
 
 pub tree_right : (nodes : List Node) → IsTree nodes → (i : ℕ) → i < length nodes → IsRight nodes i
 tree_right nodes t i h = record { part = part t.tree t.listed; floor = λ d. t.floors i d h }

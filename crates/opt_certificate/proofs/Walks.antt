@@ -7,8 +7,8 @@ use Rattle.std.proofs.Math.Seq.{drop-cons}
 use Rattle.fractions.specs.Rational.{ℚ}
 use Rattle.linear_models.specs.Box.{Box}
 use Rattle.linear_models.specs.Model.{Model}
-use Rattle.opt_certificate.specs.Certificate.{Tree, split, best, empty, lower_child, upper_child}
-use Rattle.opt_certificate.specs.Nodes.{Node, split_at, best_leaf, empty_leaf, size, listing, boxed}
+use Rattle.opt_certificate.specs.Certificate.{Tree, split, best, empty, clash, lower_child, upper_child}
+use Rattle.opt_certificate.specs.Nodes.{Node, split_at, best_leaf, empty_leaf, clash_leaf, size, listing, boxed}
 use Rattle.opt_certificate.specs.Checks.{NodeProves, NodeIsNarrow}
 use Rattle.linear_models.specs.Laws.{IsBoxOf}
 use Rattle.opt_certificate.specs.Walk.{parts_of}
@@ -142,14 +142,17 @@ top n nodes all k boxes node h e w = cases w.pending w.stack w.listed w.rest w.s
     cases ((b, split j f l u) ∷ ps) s d r z = parts j f l u b ps s d r z.0 z.1
     cases ((b, best ys) ∷ ps) s d r z = leaf b (best_leaf ys) ps s d r z.1 (λ b. refl)
     cases ((b, empty ys) ∷ ps) s d r z = leaf b (empty_leaf ys) ps s d r z.1 (λ b. refl)
+    cases ((b, clash i j) ∷ ps) s d r z = leaf b (clash_leaf i j) ps s d r z.1 (λ b. refl)
 
 -- ---- how many there are
 pub length-listing : (k : ℕ) (t : Tree) → length (listing k t) ≡ size t
 length-listing k (split j f l u) = omega (arith, length-append (listing (k + 1) l) (listing (k + (1 + size l)) u), length-listing (k + 1) l, length-listing (k + (1 + size l)) u)
 length-listing k (best ys) = refl
 length-listing k (empty ys) = refl
+length-listing k (clash i j) = refl
 
 pub length-boxed : (box : Box) (t : Tree) → length (boxed box t) ≡ size t
 length-boxed box (split j f l u) = omega (arith, length-append (boxed (lower_child box j f) l) (boxed (upper_child box j f) u), length-boxed (lower_child box j f) l, length-boxed (upper_child box j f) u)
 length-boxed box (best ys) = refl
 length-boxed box (empty ys) = refl
+length-boxed box (clash i j) = refl

@@ -13,12 +13,15 @@ use Rattle.linear_models.specs.Worths.{form_at}
 use Rattle.linear_models.specs.Box.{Box, bound_at, lower_part, upper_part}
 use Rattle.linear_models.specs.Model.{Model, IsPoint, is_whole_at, maximised, problem_of, IsValid}
 use Rattle.linear_models.specs.Standard.{standard}
+use Rattle.opt_certificate.specs.Clashes.{IsClash}
 
--- a split: the decision is at most the floor, or at least the floor and 1; a leaf: multipliers of the rows of its box's standard program
+-- a split: the decision is at most the floor, or at least the floor and 1; a leaf: multipliers of the rows of its box's standard program, or two decisions of a
+-- group that are fixed to one number
 pub data Tree : Type 0 where
   split : (decision : ℕ) (floor : ℤ) (lower upper : Tree) → Tree
   best : (multipliers : List ℚ) → Tree
   empty : (multipliers : List ℚ) → Tree
+  clash : (first second : ℕ) → Tree
 
 -- what is claimed: the point is optimal, there is no point, or the objective improves without end from the point along the direction
 pub data Claim : Type 0 where
@@ -45,12 +48,13 @@ ProvesBest m (Some b) box ys = (length ys ≤ length (standard m box false).rows
 abbrev pub ProvesEmpty : Model → Box → List ℚ → Type 0
 ProvesEmpty m box ys = (length ys ≤ length (standard m box false).rows) × IsContradictory (standard m box false) ys
 
--- at a split: the decision is to be whole, and each part is proved
+-- at a split: the decision is to be whole, and each part is proved; at a clash leaf: the two decisions clash in the box
 abbrev pub Proves : Model → Option ℚ → Box → Tree → Type 0
 Proves m target box (split j f lower upper) =
     (is_whole_at m.whole j ≡ true) × Proves m target (lower_child box j f) lower × Proves m target (upper_child box j f) upper
 Proves m target box (best ys) = ProvesBest m target box ys
 Proves m target box (empty ys) = ProvesEmpty m box ys
+Proves m target box (clash i j) = IsClash m.groups box i j
 
 -- a direction that keeps every row and bound however far it is followed, and improves the objective
 pub record IsWayOut (m : Model) (d : Assignment) : Type 0 where

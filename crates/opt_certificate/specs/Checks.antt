@@ -8,7 +8,8 @@ use Rattle.linear_models.specs.Model.{Model, is_whole_at, maximised}
 use Rattle.linear_programs.specs.Program.{Program}
 use Rattle.linear_models.specs.Standard.{standard}
 use Rattle.opt_certificate.specs.Certificate.{Tree, Claim, optimal, infeasible, unbounded, ProvesBest, ProvesEmpty, ProvesTarget, Certifies}
-use Rattle.opt_certificate.specs.Nodes.{Node, split_at, best_leaf, empty_leaf, boxed_or_none}
+use Rattle.opt_certificate.specs.Clashes.{IsClash}
+use Rattle.opt_certificate.specs.Nodes.{Node, split_at, best_leaf, empty_leaf, clash_leaf, boxed_or_none}
 use Rattle.opt_certificate.specs.Sums.{column_sum, bound_sum, whole_bound, form_sum, StaysNarrow}
 use Rattle.opt_certificate.specs.declared.checking.CheckStop.{CheckStop}
 use Rattle.opt_certificate.specs.declared.checking.CheckStop.TheVariants as stops
@@ -18,16 +19,18 @@ abbrev pub NodeProves : Model → Option ℚ → Box × Node → Type 0
 NodeProves m target (box, split_at j f lower upper) = is_whole_at m.whole j ≡ true
 NodeProves m target (box, best_leaf ys) = ProvesBest m target box ys
 NodeProves m target (box, empty_leaf ys) = ProvesEmpty m box ys
+NodeProves m target (box, clash_leaf i j) = IsClash m.groups box i j
 
 -- each coefficient of a combination is summed over narrow numbers
 abbrev pub ColumnsAreNarrow : Program → List ℚ → Type 0
 ColumnsAreNarrow p ys = (j : ℕ) → j < length p.objective → StaysNarrow (column_sum j ys p.rows)
 
--- the sums of a leaf's combination are; a split has none
+-- the sums of a leaf's combination are; a split and a clash have none
 abbrev pub NodeIsNarrow : Model → Box × Node → Type 0
 NodeIsNarrow m (box, split_at j f lower upper) = Unit {0}
 NodeIsNarrow m (box, best_leaf ys) = let p = standard m box false in ColumnsAreNarrow p ys × StaysNarrow (whole_bound ys p)
 NodeIsNarrow m (box, empty_leaf ys) = let p = standard m box false in ColumnsAreNarrow p ys × StaysNarrow (bound_sum ys p.rows)
+NodeIsNarrow m (box, clash_leaf i j) = Unit {0}
 
 -- the sums of the rows at a point are
 abbrev pub RowsAreNarrow : Model → Assignment → Type 0

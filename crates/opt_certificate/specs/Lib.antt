@@ -1,3 +1,4 @@
+pub mod Clashes
 pub mod Certificate
 pub mod Nodes
 pub mod Sums

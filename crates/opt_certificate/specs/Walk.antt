@@ -4,7 +4,7 @@ use Rattle.fractions.specs.Rational.{ℚ}
 use Rattle.linear_models.specs.Box.{Box}
 use Rattle.linear_models.specs.Model.{Model}
 use Rattle.opt_certificate.specs.Certificate.{lower_child, upper_child}
-use Rattle.opt_certificate.specs.Nodes.{Node, split_at, best_leaf, empty_leaf}
+use Rattle.opt_certificate.specs.Nodes.{Node, split_at, best_leaf, empty_leaf, clash_leaf}
 use Rattle.opt_certificate.specs.Checks.{NodeProves, NodeIsNarrow}
 use Rattle.opt_certificate.specs.declared.node.LeafStop.{LeafStop}
 use Rattle.opt_certificate.specs.declared.node.LeafStop.TheVariants as leaf
@@ -16,6 +16,7 @@ abbrev pub parts_of : Box → Node → List Box
 parts_of box (split_at j f lower upper) = upper_child box j f ∷ lower_child box j f ∷ []
 parts_of box (best_leaf ys) = []
 parts_of box (empty_leaf ys) = []
+parts_of box (clash_leaf i j) = []
 
 -- the last waiting box is the node's; after a yes its parts wait in its place
 abbrev pub Stepped : Model → Option ℚ → List Box → Box → Node → List Box → Result Bool LeafStop → Type 0

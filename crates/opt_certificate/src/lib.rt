@@ -2,9 +2,12 @@
 #![tactic(auto)]
 
 ghost use Rattle.opt_certificate.specs.Certificate.{CertificatesHold};
+ghost use Rattle.opt_certificate.specs.Clashes.{ClashLeavesNoPoint};
 ghost use Rattle.opt_certificate.specs.Nodes.{ListedOnce};
 
 mod checking;
+mod clash;
+mod groups;
 mod leaf;
 mod node;
 mod point;
@@ -24,4 +27,9 @@ pub fn certificates_hold()
 /// Nodes are those of one tree at most.
 pub fn nodes_list_one_tree()
     ensures { ListedOnce }
+{}
+
+/// A box in which two decisions of a group are fixed to one number has no point whose groups are different.
+pub fn clash_leaves_no_point()
+    ensures { ClashLeavesNoPoint }
 {}

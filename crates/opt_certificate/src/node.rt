@@ -10,6 +10,7 @@ ghost use Rattle.opt_certificate.specs.Trees.{node_of};
 ghost use Rattle.opt_certificate.specs.declared.node.LeafStop.TheVariants as stops;
 ghost use Rattle.linear_models.specs.Laws.{IsBoxOf};
 
+use crate::clash::is_clash;
 use crate::leaf::{is_best, is_contradictory};
 use crate::tree::TreeNode;
 use frac128::{Frac, Wide};
@@ -86,7 +87,8 @@ fn is_marked(marks: &[bool], decision: u16) -> bool
 }
 
 /// Whether the node proves what is asked of it: that no point of its box has a greater objective than `most`, or without
-/// that number that the box has no point. A split is to be of a decision that is whole.
+/// that number that the box has no point. A split is to be of a decision that is whole, and a clash of two decisions of one
+/// group that are fixed to one number.
 pub(crate) fn node_proves(
     alloc: Global,
     of: &LinModel,
@@ -106,5 +108,6 @@ pub(crate) fn node_proves(
             Some(number) => proves_best(alloc, of, within, multipliers, number),
         },
         TreeNode::Empty(multipliers) => proves_empty(alloc, of, within, multipliers),
+        TreeNode::Clash(one, other) => Ok(is_clash(of.groups(), within, *one, *other)),
     }
 }

@@ -13,6 +13,7 @@ ghost use Rattle.opt_certificate.specs.Judged.{Judged};
 ghost use Rattle.opt_certificate.specs.Rows.{RowIsNarrow, RowStands, based};
 ghost use Rattle.opt_certificate.specs.Sums.{form_sum};
 
+use crate::groups::are_different;
 use crate::sums::terms_sum;
 use frac128::{Frac, Wide};
 use lin_model::{FormRow, LinModel, Relation};
@@ -126,6 +127,9 @@ pub(crate) fn is_point(of: &LinModel, point: &[Frac]) -> Result<bool, Wide>
         return Ok(false);
     }
     if !are_below(of.bounds().greatest(), point) {
+        return Ok(false);
+    }
+    if !are_different(of.groups(), point) {
         return Ok(false);
     }
     rows_stand(of.rows(), point, true)

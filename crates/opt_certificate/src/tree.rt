@@ -10,12 +10,13 @@ use frac128::Frac;
 use std::marker::Model;
 
 /// A node: a split names its decision, its floor, and the places of its lower and its upper part; a leaf has the
-/// multipliers of the rows of its box's standard program.
+/// multipliers of the rows of its box's standard program, or names two decisions of a group that are fixed to one number.
 #[derive(Debug, Drop)]
 pub enum TreeNode {
     Split(u16, i128, u32, u32),
     Best(Vec<Frac>),
     Empty(Vec<Frac>),
+    Clash(u16, u16),
 }
 
 /// No node, or the nodes of one binary tree in preorder.
@@ -71,6 +72,7 @@ fn part_end(nodes: &[TreeNode], start: usize) -> usize
             TreeNode::Split(_, _, _, upper) => place = *upper as usize,
             TreeNode::Best(_) => return place + 1,
             TreeNode::Empty(_) => return place + 1,
+            TreeNode::Clash(_, _) => return place + 1,
         }
     }
 }
@@ -118,6 +120,7 @@ fn is_right(nodes: &[TreeNode], place: usize) -> bool
         }
         TreeNode::Best(_) => true,
         TreeNode::Empty(_) => true,
+        TreeNode::Clash(_, _) => true,
     }
 }
 

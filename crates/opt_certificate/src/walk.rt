@@ -79,6 +79,7 @@ fn step(
         }
         TreeNode::Best(_) => Ok(true),
         TreeNode::Empty(_) => Ok(true),
+        TreeNode::Clash(_, _) => Ok(true),
     }
 }
 

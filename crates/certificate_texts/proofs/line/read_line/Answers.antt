@@ -11,4 +11,5 @@ returns c =
     (differs c.cut.result.0.now c.as_bytes-4.result.now (codes "split") c.eq-4.result c.eq-4.ensures c.if-eq-4.false c.as_bytes-4.ensures.value)
     (differs c.cut.result.0.now c.as_bytes-5.result.now (codes "best") c.eq-5.result c.eq-5.ensures c.if-eq-5.false c.as_bytes-5.ensures.value)
     (differs c.cut.result.0.now c.as_bytes-6.result.now (codes "empty") c.eq-6.result c.eq-6.ensures c.if-eq-6.false c.as_bytes-6.ensures.value)
-    (differs c.cut.result.0.now c.as_bytes-7.result.now (codes "end") c.eq-7.result c.eq-7.ensures c.if-eq-7.false c.as_bytes-7.ensures.value)
+    (differs c.cut.result.0.now c.as_bytes-7.result.now (codes "clash") c.eq-7.result c.eq-7.ensures c.if-eq-7.false c.as_bytes-7.ensures.value)
+    (differs c.cut.result.0.now c.as_bytes-8.result.now (codes "end") c.eq-8.result c.eq-8.ensures c.if-eq-8.false c.as_bytes-8.ensures.value)

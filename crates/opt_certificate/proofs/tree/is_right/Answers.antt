@@ -4,10 +4,10 @@ use Rattle.std.specs.Int.{w128}
 use Rattle.std.proofs.lemmas.Int.{to_z-of_z, ints}
 use Rattle.std.proofs.lemmas.List.{length-map}
 use Rattle.std.proofs.lemmas.Bool.{false≢true}
-use Rattle.opt_certificate.specs.Nodes.{split_at, best_leaf, empty_leaf}
+use Rattle.opt_certificate.specs.Nodes.{split_at, best_leaf, empty_leaf, clash_leaf}
 use Rattle.opt_certificate.specs.Trees.{node_of}
 use Rattle.opt_certificate.proofs.Ends.{node_read, read_within}
-use Rattle.opt_certificate.proofs.Rights.{best_right, empty_right, right_floor, split_right, split_tested}
+use Rattle.opt_certificate.proofs.Rights.{best_right, clash_right, empty_right, right_floor, split_right, split_tested}
 use Rattle.opt_certificate.proofs.Wholes.{not_narrow}
 use Rattle.opt_certificate.proofs.tree.is_right.Goals as goal
 
@@ -22,6 +22,14 @@ returns-in-Empty c =
     let ns = map node_of c.args.nodes.now in
     let h : c.args.place < length ns = read_within c.args.nodes.now c.args.place c.requires.within in
     (λ e. empty_right ns c.args.place c.in-Empty.field-0.items h (node_read c.args.nodes.now c.args.place c.index-nodes-place.result (empty_leaf c.in-Empty.field-0.items) c.requires.within c.index-nodes-place.is (ap node_of c.in-Empty.is)), λ r. refl)
+
+pub returns-in-Clash : goal.returns-in-Clash
+returns-in-Clash c =
+    let ns = map node_of c.args.nodes.now in
+    let h : c.args.place < length ns = read_within c.args.nodes.now c.args.place c.requires.within in (
+      λ e. clash_right ns c.args.place c.in-Clash.field-0 c.in-Clash.field-1 h (node_read c.args.nodes.now c.args.place c.index-nodes-place.result (clash_leaf c.in-Clash.field-0 c.in-Clash.field-1) c.requires.within c.index-nodes-place.is (ap node_of c.in-Clash.is)),
+      λ r. refl,
+    )
 
 pub returns-then-not-is_narrow_floor : goal.returns-then-not-is_narrow_floor
 returns-then-not-is_narrow_floor c =

@@ -1,8 +1,8 @@
 use Rattle.std.proofs.Common.{◌+◌, ◌-◌, ◌<◌, ◌≤◌, ap, arith, length, map}
 use Rattle.std.proofs.lemmas.List.{length-map}
-use Rattle.opt_certificate.specs.Nodes.{split_at, best_leaf, empty_leaf, size}
+use Rattle.opt_certificate.specs.Nodes.{split_at, best_leaf, empty_leaf, clash_leaf, size}
 use Rattle.opt_certificate.specs.Trees.{node_of}
-use Rattle.opt_certificate.proofs.Ends.{splits, node_read, read_within, best_size, empty_size, same_end}
+use Rattle.opt_certificate.proofs.Ends.{splits, node_read, read_within, best_size, empty_size, clash_size, same_end}
 use Rattle.opt_certificate.proofs.tree.part_end.Goals as goal
 
 pub loop-place-smaller : goal.loop-place-smaller
@@ -53,3 +53,12 @@ returns-in-Empty c = λ t rest q.
     let i = c.loop-place.invariant.same_end t rest q in
     let e = node_read c.args.nodes.now k c.index-nodes-place.result (empty_leaf c.in-Empty.field-0.items) c.loop-place.invariant.within c.index-nodes-place.is (ap node_of c.in-Empty.is) in
     omega (arith, i.3, empty_size ns k c.in-Empty.field-0.items i.0 i.1 h e i.2)
+
+pub returns-in-Clash : goal.returns-in-Clash
+returns-in-Clash c = λ t rest q.
+    let ns = map node_of c.args.nodes.now in
+    let k = c.loop-place.place in
+    let h : k < length ns = read_within c.args.nodes.now k c.loop-place.invariant.within in
+    let i = c.loop-place.invariant.same_end t rest q in
+    let e = node_read c.args.nodes.now k c.index-nodes-place.result (clash_leaf c.in-Clash.field-0 c.in-Clash.field-1) c.loop-place.invariant.within c.index-nodes-place.is (ap node_of c.in-Clash.is) in
+    omega (arith, i.3, clash_size ns k c.in-Clash.field-0 c.in-Clash.field-1 i.0 i.1 h e i.2)
