@@ -8,7 +8,7 @@ use Rattle.node_pick.specs.Messages.{Message, Hears, question, news}
 use Rattle.node_pick.specs.declared.info.NodeInfo.{NodeInfo}
 use Rattle.node_pick.specs.declared.info.NodeEvent.TheVariants as events
 use Rattle.linear_models.specs.Model.{Model}
-use Rattle.searches.specs.Trees.{Part, Node, End, empty, beaten, whole, split, endless, new_nodes, info}
+use Rattle.searches.specs.Trees.{Part, Node, End, empty, beaten, whole, split, clash, endless, new_nodes, info}
 use Rattle.searches.specs.Trails.{State, node_program, Becomes, goes_on, ends, Grows, opens, pivots, SearchUnit, opening, pivot, IsOver, without_place}
 use Rattle.searches.specs.Trails as trails
 use Rattle.searches.specs.Messages.{end_messages}
@@ -39,6 +39,7 @@ new_count n node empty = omega arith
 new_count n node (beaten v) = omega arith
 new_count n node (whole x v) = omega arith
 new_count n node (split j f v) = omega arith
+new_count n node (clash i j v) = omega arith
 new_count n node (endless x d) = omega arith
 
 counted : (m : Model) (s t : State) (node : Node) (k : ℕ) (d : Dictionary) → Becomes m s node k d t → t.count ≤ s.count + 2

@@ -13,7 +13,7 @@ use Rattle.node_pick.specs.declared.info.NodeEvent.{NodeEvent}
 use Rattle.linear_models.specs.Model.{Model}
 use Rattle.searches.specs.Trees.{Part, Node, End, info}
 use Rattle.searches.specs.Trees as trees
-use Rattle.searches.specs.Trails.{State, node_program, ended, ends, Grows, opens, pivots, SearchUnit, Leads, stays, grows}
+use Rattle.searches.specs.Trails.{State, box_of, node_program, ended, ends, Grows, opens, pivots, SearchUnit, Leads, stays, grows}
 use Rattle.searches.specs.Messages.{news_of}
 use Rattle.search_ends.specs.Ends.{IsEndOf}
 use Rattle.branch_bound.specs.declared.frontier.Found.{Found}
@@ -23,7 +23,7 @@ use Rattle.branch_bound.specs.States.{waiting_of, found_of, value_of, IsListed, 
 
 -- ---- the end of a node
 pub became_end : (m : Model) (s t : State) (node : Node) (k : ℕ) (d : Dictionary) (p : Program) (best : Option ℚ) (e : End) (heard : List Message → Type 0) (v : NodeEvent)
-    → p ≡ node_program m s.way node → option_map (λ (f : trees.Found). f.value) s.found ≡ best → IsEndOf m best p d e → t ≡ ended s node k e → v ≡ news_of node.number s.count e → heard (news v ∷ [])
+    → p ≡ node_program m s.way node → option_map (λ (f : trees.Found). f.value) s.found ≡ best → IsEndOf m (box_of m node) best p d e → t ≡ ended s node k e → v ≡ news_of node.number s.count e → heard (news v ∷ [])
     → Became m s node k d t heard
 became_end m s t node k d p best e heard v q f h z y n =
     subst (λ (x : State). Became m s node k d x heard) (sym z) record {

@@ -11,7 +11,7 @@ use Rattle.node_pick.specs.Rules.{free}
 use Rattle.node_pick.specs.declared.info.NodeInfo.{NodeInfo}
 use Rattle.linear_models.specs.Model.{Model}
 use Rattle.searches.specs.Trees.{Part}
-use Rattle.searches.specs.Trails.{State, start, stays, Trail, without_place, node_program}
+use Rattle.searches.specs.Trails.{State, start, stays, Trail, without_place, box_of, node_program}
 use Rattle.branch_bound.specs.declared.frontier.Visit.{Visit}
 use Rattle.branch_bound.specs.declared.frontier.Found.{Found}
 use Rattle.branch_bound.specs.declared.frontier.Way.{Way}
@@ -68,6 +68,7 @@ removed_orderly b m is p v s e o = record {
 pub opened_ready : (model : Model) (b m : Frontier) (of : NodeInfo) (w : Work) (p : ℕ) (v : Vec NodeInfo Global) → IsPrepared model m of w → IsSame b m → IsOrderly b → slice_get b.waiting.items p ≡ Some w.info
     → vec_len v + 1 ≡ vec_len m.waiting → vec_capacity v ≡ vec_capacity m.waiting → IsReady model (record m { waiting = v }) w
 opened_ready model b m of w p v r s o c l k = record {
+  within = r.within ∙ ap (λ (i : NodeInfo). box_of model (waiting_of m.paths.paths i)) (sym r.info);
   program = r.program ∙ ap (λ (i : NodeInfo). node_program model (option_map way_of m.way) (waiting_of m.paths.paths i)) (sym r.info);
   reached = subst (λ (d : Dictionary). IsReached w.program d) (sym r.first) (reached_first w.program);
   columns = r.columns;

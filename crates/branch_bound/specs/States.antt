@@ -102,8 +102,9 @@ abbrev pub with_opened : trails.State → trees.Node → ℕ → trails.State
 with_opened s node k = record s { opened = record { node = node; pivots = k } ∷ s.opened }
 
 -- ---- the node that is worked on
--- its program with a dictionary of that program's run, and room for its end
+-- its box, its program with a dictionary of that program's run, and room for its end
 pub record IsReady (m : Model) (f : Frontier) (w : Work) : Type 0 where
+  pub within : w.within ≡ trails.box_of m (waiting_of f.paths.paths w.info)
   pub program : w.program ≡ trails.node_program m (option_map way_of f.way) (waiting_of f.paths.paths w.info)
   pub reached : IsReached w.program w.dict
   pub columns : length w.program.columns ≡ length m.whole
@@ -122,6 +123,7 @@ IsReadyIf m f (Some w) = IsReady m f w × IsNext w.dict w.next
 pub record IsPrepared (m : Model) (f : Frontier) (of : NodeInfo) (w : Work) : Type 0 where
   pub info : w.info ≡ of
   pub pivots : w.pivots ≡ 0
+  pub within : w.within ≡ trails.box_of m (waiting_of f.paths.paths of)
   pub program : w.program ≡ trails.node_program m (option_map way_of f.way) (waiting_of f.paths.paths of)
   pub first : w.dict ≡ first_of_program w.program
   pub columns : length w.program.columns ≡ length m.whole

@@ -12,7 +12,7 @@ ghost use Rattle.branch_bound.specs.Told.{IsAsked};
 use crate::frontier::{Frontier, reserve};
 use crate::work::Work;
 use frac128::Frac;
-use lin_model::LinModel;
+use lin_model::{BoundBox, LinModel};
 use linear_programs::Standard;
 use memory::Memory;
 use node_pick::{NodeEvent, NodeInfo, Picker};
@@ -31,24 +31,39 @@ fn copy_node(info: &NodeInfo) -> NodeInfo
     }
 }
 
-// The program of a node.
-fn program_of(
+// The box of a node.
+fn part_of(
     alloc: Global,
     model: &LinModel,
     frontier: &mut Frontier,
     info: &NodeInfo,
-) -> Result<Standard, Memory>
+) -> Result<BoundBox, Memory>
     requires { info.now.number < length frontier.old.paths.paths }
-    ensures program { IfOk result (λ p. p ≡ trails.node_program model.now
-        (option_map way_of frontier.old.way) (waiting_of frontier.old.paths.paths info.now)) }
-    ensures columns { IfOk result (λ p. length p.columns ≡ length model.now.whole) }
+    ensures part { IfOk result (λ b. b
+        ≡ trails.box_of model.now (waiting_of frontier.old.paths.paths info.now)) }
     ensures same { frontier.new ≡ frontier.old }
 {
-    let _whole = model.whole();
-    let part = frontier
+    frontier
         .paths
-        .box_of(alloc, model.bounds(), info.number as usize)?;
-    model.standard(alloc, &part, frontier.way.is_some())
+        .box_of(alloc, model.bounds(), info.number as usize)
+}
+
+// The program of a node, in its box.
+fn program_of(
+    alloc: Global,
+    model: &LinModel,
+    frontier: &Frontier,
+    within: &BoundBox,
+    info: &NodeInfo,
+) -> Result<Standard, Memory>
+    requires { within.now
+        ≡ trails.box_of model.now (waiting_of frontier.now.paths.paths info.now) }
+    ensures program { IfOk result (λ p. p ≡ trails.node_program model.now
+        (option_map way_of frontier.now.way) (waiting_of frontier.now.paths.paths info.now)) }
+    ensures columns { IfOk result (λ p. length p.columns ≡ length model.now.whole) }
+{
+    let _whole = model.whole();
+    model.standard(alloc, within, frontier.way.is_some())
 }
 
 /// Takes all the memory that the work on a node needs, for its end too.
@@ -59,7 +74,8 @@ fn prepare(model: &LinModel, frontier: &mut Frontier, info: NodeInfo) -> Result<
 {
     let alloc = *frontier.waiting.allocator();
     reserve(frontier)?;
-    let program = program_of(alloc, model, frontier, &info)?;
+    let within = part_of(alloc, model, frontier, &info)?;
+    let program = program_of(alloc, model, frontier, &within, &info)?;
     let dict = start(alloc, &program)?;
     let decisions = model.whole().len();
     let point = vec![in alloc; Frac::zero(); decisions]?;
@@ -67,6 +83,7 @@ fn prepare(model: &LinModel, frontier: &mut Frontier, info: NodeInfo) -> Result<
     Ok(Work {
         info,
         pivots: 0,
+        within,
         program,
         dict,
         next: Pivot { row: 0, column: 0 },

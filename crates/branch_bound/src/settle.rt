@@ -27,7 +27,7 @@ fn best_value(frontier: &Frontier) -> Option<Frac>
     }
 }
 
-// The node ends without a point, or with one that is no better than the one found.
+// The node ends without a point, with one that is no better than the one found, or at a clash.
 fn close(frontier: &mut Frontier, info: &NodeInfo, pivots: u64, pick: &mut Box<dyn Picker>)
     requires room { HasRoom frontier.old 2 }
     requires orderly { IsOrderly frontier.old }
@@ -149,6 +149,7 @@ fn finish(frontier: &mut Frontier, work: Work, end: NodeEnd, pick: &mut Box<dyn 
             value,
             pick,
         ),
+        NodeEnd::Clash(_, _, _) => close(frontier, &work.info, work.pivots, pick),
         NodeEnd::Endless => escape(frontier, work, pick),
     }
 }
@@ -174,6 +175,7 @@ pub(crate) fn settle(
     let best = best_value(frontier);
     let run = run_of(
         model,
+        &work.within,
         best,
         &work.program,
         &work.dict,

@@ -6,18 +6,20 @@ ghost use Rattle.search_ends.specs.Ends.{IsNext};
 ghost use Rattle.branch_bound.specs.Steps.{IsPivoted};
 
 use frac128::Frac;
+use lin_model::BoundBox;
 use linear_programs::Standard;
 use node_pick::NodeInfo;
 use search_ends::Pivot;
 use simplex::make_pivot;
 use tableau::Dict;
 
-/// The node that is worked on, the pivots made in it, its program and the dictionary that they have led to, with its next
+/// The node that is worked on, the pivots made in it, its box, its program and the dictionary that they have led to, with its next
 /// pivot, which `settle` writes, and room for a point and a direction.
 #[derive(Drop)]
 pub(crate) struct Work {
     pub info: NodeInfo,
     pub pivots: u64,
+    pub within: BoundBox,
     pub program: Standard,
     pub dict: Dict,
     pub next: Pivot,

@@ -9,11 +9,15 @@ use Rattle.dictionaries.specs.Dictionary.{Dictionary}
 use Rattle.dictionaries.specs.Run.{IsOnTheWay}
 use Rattle.dictionaries.proofs.Reaching.{reached_on_the_way}
 use Rattle.linear_models.specs.Model.{Model, IsValid}
-use Rattle.searches.specs.Trees.{Node, End, empty, beaten, whole, split, endless, lower, upper, part_of, box_along, root, new_nodes, Way, way_at}
-use Rattle.searches.specs.Trails.{State, is_plain, box_of, node_program, Outcome, no_point, best, no_bound, Finishes, at_best, ComesTo, is_split, waiting_after, Becomes, goes_on, ends, ended}
+use Rattle.linear_models.specs.Standard.{standard}
+use Rattle.searches.specs.Trees.{Node, End, empty, beaten, whole, split, clash, endless, lower, upper, part_of, box_along, root, new_nodes, Way, way_at}
+use Rattle.searches.specs.Trails.{State, is_plain, box_of, node_program, Outcome, no_point, best, no_bound, Finishes, at_best, ComesTo, is_split, is_parted, waiting_after, Becomes, goes_on, ends, ended}
+use Rattle.searches.specs.TrueTrees.{IsBasicBest}
+use Rattle.searches.proofs.AlikeSplits.{alike_split, best_in_box}
 use Rattle.searches.proofs.Boxes.{along-append}
+use Rattle.searches.proofs.GroupBounds.{split_bounds}
 use Rattle.searches.proofs.Members.{In, in_after}
-use Rattle.searches.proofs.Ends.{node_box, node_regular}
+use Rattle.searches.proofs.Ends.{all_whole, node_box, node_regular}
 use Rattle.search_bounds.specs.Choices.{IsBounded}
 use Rattle.search_bounds.specs.Trees.{HasBothParts, most_nodes}
 use Rattle.search_bounds.proofs.Floors.{floor_below, next_above}
@@ -21,7 +25,7 @@ use Rattle.search_bounds.proofs.Halves.{Halved, halved}
 use Rattle.search_bounds.proofs.Improving.{nothing_improves}
 use Rattle.search_bounds.proofs.Programs.{bases_of, pivots_few}
 use Rattle.search_bounds.proofs.Spending.{IsSpent, IsSpentNow, IsSpentWith, paid}
-use Rattle.search_bounds.proofs.Splits.{best_in_box, strictly_between}
+use Rattle.search_bounds.proofs.Splits.{alike_parts, strictly_between}
 use Rattle.search_bounds.proofs.Weighing.{reserve, weight, weights, weights_append}
 use Rattle.search_bounds.proofs.Weights.{halves_fit, one_node}
 use Rattle.search_bounds.proofs.WholeBounds.{HasWholeBounds, model_bounds}
@@ -100,22 +104,30 @@ split_one m u s node k d j f value v h p = record {
         omega (arith, a, b, c)
 
 settled : (m : Model) (u : ℕ) (s : State) (node : Node) (k : ℕ) (d : Dictionary) (o : Outcome) (e : End) → IsValid m → IsBounded m → IsSpentWith m u s node k d
-    → Finishes (node_program m s.way node) d o → ComesTo m s.found o e → IsSpent m u (ended s node k e)
+    → Finishes (node_program m s.way node) d o → ComesTo m (box_of m node) s.found o e → IsSpent m u (ended s node k e)
 settled m u s node k d o e v bs h f c = by_end o e f c
   where
     w : IsOnTheWay (node_program m s.way node) d
     w = reached_on_the_way (node_program m s.way node) d (node_regular m s.way node v) (k, h.run)
 
-    by_end : (o : Outcome) (e : End) → Finishes (node_program m s.way node) d o → ComesTo m s.found o e → IsSpent m u (ended s node k e)
+    best_at : (x : List ℚ) (y : ℚ) → Finishes (node_program m s.way node) d (best x y) → IsBasicBest (standard m (box_of m node) (is_plain s.way)) x
+    best_at x y (at_best b) = record { dictionary = d; represents = w.dictionary; is_best = b; point = refl }
+
+    by_end : (o : Outcome) (e : End) → Finishes (node_program m s.way node) d o → ComesTo m (box_of m node) s.found o e → IsSpent m u (ended s node k e)
     by_end o empty f c = closed m u s node k d empty v h refl refl refl
     by_end o (beaten x) f c = closed m u s node k d (beaten x) v h refl refl refl
+    by_end o (clash i j y) f c = closed m u s node k d (clash i j y) v h refl refl refl
     by_end o (whole x y) f c = closed m u s node k d (whole x y) v h refl refl refl
     by_end (no_bound x y) (endless y' z) f c = second m u s node k d y' z v bs h (nothing_improves m s.way node d x y v w f)
     by_end (best x v') (split j g v'') (at_best b) (is_split y t j' n q) =
         split_one m u s node k d j (floor_ℚ (at x j)) v'' v h
         (strictly_between m (box_of m node) x j (floor_ℚ (at x j)) h.fits_too
-        (best_in_box m (is_plain s.way) (box_of m node) x v (node_box m node v) record { dictionary = d; represents = w.dictionary; is_best = b; point = refl })
+        (best_in_box m (is_plain s.way) (box_of m node) x v (node_box m node v) (best_at x v' (at_best b)))
         q.broken.marked (floor_below (at x j) q.broken.broken) (next_above (at x j)))
+    by_end (best x v') (split j g v'') f (is_parted y t a b c' g' n q r p z) =
+        split_one m u s node k d j g v'' v h
+        (alike_parts m (is_plain s.way) (box_of m node) j g v (node_box m node v)
+        (alike_split m (is_plain s.way) (box_of m node) x a b j g v (node_box m node v) (best_at x v' f) (all_whole m x q) r p z (split_bounds m node x a b j v r p)))
     by_end no_point (endless y z) f c = elim c [ ]
     by_end (best x y) (endless y' z) f c = elim c [ ]
     by_end no_point (split j g v') f c = elim c [ ]

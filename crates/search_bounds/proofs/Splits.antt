@@ -1,36 +1,25 @@
 -- A true split leaves a whole value of the decision on either side.
-use Rattle.std.proofs.Common.{◌≡◌, ℕ, sym, ◌∙◌, subst, List, [], ◌∷◌, inr, arith, Bool, true, Some, ℤ, pos, ◌+ℤ◌}
+use Rattle.std.proofs.Common.{◌≡◌, ℕ, sym, ◌∙◌, subst, List, [], ◌∷◌, arith, Bool, true, Some, ℤ, pos, ◌+ℤ◌}
 use Rattle.std.specs.Prelude.{◌<ℤ◌}
 use Rattle.std.proofs.lemmas.Int.{ints}
 use borrow.Author.Differences.{at_most_in}
 use Rattle.fractions.specs.Rational.{ℚ, ◌≤ℚ◌, ◌<ℚ◌}
 use Rattle.fractions.specs.Vectors.{at}
 use Rattle.fractions.specs.Whole.{whole_ℚ}
-use Rattle.fractions.proofs.Order.{lt_of_le_of_lt, lt_of_lt_of_le}
+use Rattle.fractions.proofs.Order.{le_trans, lt_of_le_of_lt, lt_of_lt_of_le}
 use Rattle.fractions.proofs.Whole.{whole-le, whole-lt}
-use Rattle.linear_programs.specs.Program.{Program}
-use Rattle.dictionaries.specs.Reading.{point_of, basic_solution}
-use Rattle.dictionaries.proofs.Ends.{ends_prove}
 use Rattle.linear_models.specs.Box.{Box}
 use Rattle.linear_models.specs.Model.{Model, IsValid, is_whole_at}
-use Rattle.linear_models.specs.Standard.{standard}
 use Rattle.linear_models.specs.Laws.{IsBoxOf, IsBoxPoint}
-use Rattle.linear_models.proofs.Points.{standard_keeps_points}
 use Rattle.searches.specs.Trees.{lower, upper, part_of}
-use Rattle.searches.specs.TrueTrees.{SplitTree, leaf, split_at, IsBasicBest, IsTrueSplit, IsTrueTree}
+use Rattle.searches.specs.TrueTrees.{SplitTree, leaf, split_at, IsSplitAlike, IsTrueSplit, split_between, split_alike, IsTrueTree}
+use Rattle.searches.proofs.AlikeSplits.{best_in_box}
 use Rattle.searches.proofs.Boxes.{along_is_box}
 use Rattle.search_bounds.specs.Trees.{HasBothParts, SplitsInParts}
 use Rattle.search_bounds.specs.Laws.{TrueTreesSplitInParts, TreesAreSmall}
 use Rattle.search_bounds.proofs.Halves.{halved}
 use Rattle.search_bounds.proofs.Nodes.{nodes_few}
 use Rattle.search_bounds.proofs.WholeBounds.{HasWholeBounds, model_bounds}
-
--- the point of a basic optimal solution lies in the box
-pub best_in_box : (m : Model) (plain : Bool) (box : Box) (x : List ℚ) → IsValid m → IsBoxOf m box → IsBasicBest (standard m box plain) x → IsBoxPoint m box x
-best_in_box m plain box x v b h =
-    let p : Program = standard m box plain in
-    let pr = ends_prove.best p h.dictionary (standard_keeps_points.regular m box plain v b).regular record { dictionary = h.represents; feasible = inr h.is_best.phase.1 } h.is_best in
-    ((standard_keeps_points.points m box plain v b).points x).0 (point_of p (basic_solution h.dictionary), pr.is_point, h.point)
 
 below_next : (a f : ℤ) → whole_ℚ a <ℚ whole_ℚ (f +ℤ pos 1) → whole_ℚ a ≤ℚ whole_ℚ f
 below_next a f h = let k : a <ℤ (f +ℤ pos 1) = (whole-lt a (f +ℤ pos 1)).0 h in (whole-le a f).1 (at_most_in a f (omega (arith, ints)))
@@ -51,8 +40,19 @@ strictly_between m box x j f w p e a b = record {
   high = λ c q. let z = w.greatest j e in let k : whole_ℚ z.0 ≡ c = some_is (sym z.1 ∙ q) in subst (λ c. whole_ℚ (f +ℤ pos 1) ≤ℚ c) k (next_below f z.0 (lt_of_lt_of_le _ (at x j) _ a (p.bounds.greatest j (whole_ℚ z.0) z.1)));
 }
 
+-- two decisions are alike there
+pub alike_parts : (m : Model) (plain : Bool) (box : Box) (j : ℕ) (f : ℤ) → IsValid m → IsBoxOf m box → IsSplitAlike m plain box j f → HasBothParts m box j f
+alike_parts m plain box j f v b h = record {
+  marked = h.marked;
+  inside = h.point;
+  in_box = (best_in_box m plain box h.point v b h.best).bounds;
+  low = λ c q. le_trans _ _ _ (h.low.1.least c q) ((whole-le h.low.0 f).1 h.low.2);
+  high = λ c q. le_trans _ _ _ ((whole-le (f +ℤ pos 1) h.high.0).1 h.high.2) (h.high.1.greatest c q);
+}
+
 pub true_split : (m : Model) (plain : Bool) (box : Box) (j : ℕ) (f : ℤ) → IsValid m → IsBoxOf m box → HasWholeBounds m box → IsTrueSplit m plain box j f → HasBothParts m box j f
-true_split m plain box j f v b w h = strictly_between m box h.point j f w (best_in_box m plain box h.point v b h.best) h.marked h.above h.below
+true_split m plain box j f v b w (split_between h) = strictly_between m box h.point j f w (best_in_box m plain box h.point v b h.best) h.marked h.above h.below
+true_split m plain box j f v b w (split_alike h) = alike_parts m plain box j f v b h
 
 pub true_in_parts : (m : Model) (plain : Bool) (box : Box) (t : SplitTree) → IsValid m → IsBoxOf m box → HasWholeBounds m box → IsTrueTree m plain box t → SplitsInParts m box t
 true_in_parts m plain box leaf v b w h = tt

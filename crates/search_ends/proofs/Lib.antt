@@ -1,3 +1,5 @@
 pub mod Floors
 pub mod Lists
+pub mod Pairs
+pub mod Beside
 pub mod Comes

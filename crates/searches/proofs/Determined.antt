@@ -1,10 +1,6 @@
 -- A rule other than the free one leaves one next unit and one state after it, and so one trail of each length.
 use Rattle.std.proofs.Common.{◌≡◌, ◌≢◌, ℕ, suc, zero, ◌<◌, refl, sym, ap, ap₂, ◌∙◌, subst, List, [], ◌∷◌, length, map, arith, ◌⊎◌, inl, inr}
 use Rattle.std.specs.Prelude.{Option, Some, None, slice_get}
-use Rattle.fractions.specs.Rational.{ℚ, ◌≤ℚ◌}
-use Rattle.fractions.specs.Vectors.{at}
-use Rattle.fractions.specs.Floor.{floor_ℚ}
-use Rattle.fractions.proofs.Order.{lt_irrefl, lt_of_lt_of_le}
 use Rattle.linear_programs.specs.Program.{Program}
 use Rattle.dictionaries.specs.Dictionary.{Dictionary, IsOnce, pivoted, first_of_program}
 use Rattle.dictionaries.specs.Narrow.{IsNarrowPivot}
@@ -17,10 +13,11 @@ use Rattle.dictionaries.proofs.Runs.{first_on_the_way, step_on_the_way}
 use Rattle.node_pick.specs.Rules.{Rule, depth_first, best_first, oldest_first, free, NamesAmong, IsRising, Follows}
 use Rattle.node_pick.specs.declared.info.NodeInfo.{NodeInfo}
 use Rattle.linear_models.specs.Model.{Model, IsValid}
-use Rattle.searches.specs.Trees.{Node, info, End, empty, beaten, whole, split, endless, Found}
-use Rattle.searches.specs.Trails.{Outcome, no_point, best, no_bound, Finishes, without_point, at_best, without_bound, decisions_at, decisions_along, ComesTo, is_empty, is_endless, is_beaten, is_whole, is_split, IsBetterThan, IsFirstBroken, State, Work, Becomes, goes_on, ends, ended, without_place, node_program, opening, pivot, SearchUnit, Grows, opens, pivots, stays, grows, Trail}
+use Rattle.searches.specs.Trees.{Node, info, End}
+use Rattle.searches.specs.Trails.{Outcome, no_point, best, no_bound, Finishes, without_point, at_best, without_bound, decisions_at, decisions_along, ComesTo, box_of, State, Work, Becomes, goes_on, ends, ended, without_place, node_program, opening, pivot, SearchUnit, Grows, opens, pivots, stays, grows, Trail}
 use Rattle.searches.specs.Laws.{OneNextState, OneTrail}
 use Rattle.searches.proofs.Numbers.{numbers_rise, list_rises}
+use Rattle.searches.proofs.Comings.{one_end}
 use Rattle.searches.proofs.Ends.{node_regular}
 use Rattle.searches.proofs.Trails.{HoldsWith, trail_stands}
 
@@ -47,7 +44,7 @@ one_place w rule n p q a b r e f g h = cases (three p q)
     cases (inr (inl l)) = absurd (later q p b a f e h g l)
     cases (inr (inr k)) = k
 
--- ---- one outcome, and one end
+-- ---- one outcome
 has_ended : (p : Program) (d : Dictionary) (o : Outcome) → Finishes p d o → HasEnded d
 has_ended p d o (without_point e) = bland.infeasible e
 has_ended p d o (at_best e) = bland.best e
@@ -68,53 +65,6 @@ one_outcome p d o o' u f g = by_both o o' f g
     by_both (no_bound y k) (no_bound z l) (without_bound c e) (without_bound c' f) =
         ap (λ (c : ℕ). no_bound (decisions_at p d) (decisions_along p d c)) (one_entering d d.objective c c' u e.enters f.enters)
 
-better_not : (found : Option Found) (v : ℚ) (f : Found) → found ≡ Some f → v ≤ℚ f.value → IsBetterThan found v → ⊥
-better_not found v f e l b = lt_irrefl f.value (lt_of_lt_of_le f.value v f.value (subst (λ (u : Option Found). IsBetterThan u v) e b) l)
-
-first_one : (m : Model) (x : List ℚ) (i j : ℕ) → IsFirstBroken m x i → IsFirstBroken m x j → i ≡ j
-first_one m x i j a b = let k = a.least j b.broken in let l = b.least i a.broken in omega (arith, k, l)
-
--- an outcome comes to one end
-one_end : (m : Model) (found : Option Found) (o : Outcome) (e e' : End) → ComesTo m found o e → ComesTo m found o e' → e ≡ e'
-one_end m found o e e' f g = by_both o e e' f g
-  where
-    by_both : (o : Outcome) (e e' : End) → ComesTo m found o e → ComesTo m found o e' → e ≡ e'
-    by_both no_point empty empty is_empty is_empty = refl
-    by_both (no_bound a b) (endless c d) (endless c' d') (is_endless x w) (is_endless x' w') = refl
-    by_both (best a b) (beaten c) (beaten c') (is_beaten x v f q l) (is_beaten x' v' f' q' l') = refl
-    by_both (best a b) (beaten c) (whole y z) (is_beaten x v f q l) (is_whole x' v' h n) = absurd (better_not found b f q l h)
-    by_both (best a b) (beaten c) (split j k z) (is_beaten x v f q l) (is_split x' v' j' h n) = absurd (better_not found b f q l h)
-    by_both (best a b) (whole y z) (beaten c) (is_whole x' v' h n) (is_beaten x v f q l) = absurd (better_not found b f q l h)
-    by_both (best a b) (whole y z) (whole y' z') (is_whole x v h n) (is_whole x' v' h' n') = refl
-    by_both (best a b) (whole y z) (split j k z') (is_whole x v h n) (is_split x' v' j' h' n') = absurd (n j n'.broken)
-    by_both (best a b) (split j k z') (beaten c) (is_split x' v' j' h n) (is_beaten x v f q l) = absurd (better_not found b f q l h)
-    by_both (best a b) (split j k z') (whole y z) (is_split x' v' j' h' n') (is_whole x v h n) = absurd (n j n'.broken)
-    by_both (best a b) (split j k z) (split j' k' z') (is_split x v i h n) (is_split x' v' i' h' n') = ap (λ (q : ℕ). split q (floor_ℚ (at a q)) b) (first_one m a j j' n n')
-    by_both no_point empty (beaten c') _ x7 = elim x7 [ ]
-    by_both no_point empty (whole y z) _ x8 = elim x8 [ ]
-    by_both no_point empty (split j k z) _ x9 = elim x9 [ ]
-    by_both no_point empty (endless c' d') _ x10 = elim x10 [ ]
-    by_both no_point (beaten c) _ x5 _ = elim x5 [ ]
-    by_both no_point (whole y z) _ x6 _ = elim x6 [ ]
-    by_both no_point (split j k z') _ x7 _ = elim x7 [ ]
-    by_both no_point (endless c d) _ x8 _ = elim x8 [ ]
-    by_both (best a b) empty _ x5 _ = elim x5 [ ]
-    by_both (best a b) (beaten c) empty _ x9 = elim x9 [ ]
-    by_both (best a b) (beaten c) (endless c' d') _ x10 = elim x10 [ ]
-    by_both (best a b) (whole y z) empty _ x10 = elim x10 [ ]
-    by_both (best a b) (whole y z) (endless c' d') _ x11 = elim x11 [ ]
-    by_both (best a b) (split j k z') empty _ x11 = elim x11 [ ]
-    by_both (best a b) (split j k z') (endless c' d') _ x12 = elim x12 [ ]
-    by_both (best a b) (endless c d) _ x9 _ = elim x9 [ ]
-    by_both (no_bound a b) empty _ x6 _ = elim x6 [ ]
-    by_both (no_bound a b) (beaten c) _ x7 _ = elim x7 [ ]
-    by_both (no_bound a b) (whole y z) _ x8 _ = elim x8 [ ]
-    by_both (no_bound a b) (split j k z') _ x9 _ = elim x9 [ ]
-    by_both (no_bound a b) (endless c d) empty _ x13 = elim x13 [ ]
-    by_both (no_bound a b) (endless c d) (beaten c') _ x14 = elim x14 [ ]
-    by_both (no_bound a b) (endless c d) (whole y z) _ x15 = elim x15 [ ]
-    by_both (no_bound a b) (endless c d) (split j k z) _ x16 = elim x16 [ ]
-
 -- ---- one next unit
 becomes_one : (m : Model) (s : State) (node : Node) (k : ℕ) (d : Dictionary) (t t' : State) → IsOnce d → Becomes m s node k d t → Becomes m s node k d t' → t ≡ t'
 becomes_one m s node k d t t' u (goes_on n) (goes_on n') = refl
@@ -122,7 +72,7 @@ becomes_one m s node k d t t' u (goes_on n) (ends o e f c) = absurd (n (has_ende
 becomes_one m s node k d t t' u (ends o e f c) (goes_on n) = absurd (n (has_ended _ d o f))
 becomes_one m s node k d t t' u (ends o e f c) (ends o' e' f' c') =
     let q = one_outcome (node_program m s.way node) d o o' u f f' in
-    ap (λ (x : End). ended s node k x) (one_end m s.found o' e e' (subst (λ (x : Outcome). ComesTo m s.found x e) q c) c')
+    ap (λ (x : End). ended s node k x) (one_end m (box_of m node) s.found o' e e' (subst (λ (x : Outcome). ComesTo m (box_of m node) s.found x e) q c) c')
 
 -- of a node that is worked on the next pivot is one, and so is the state after it
 pivots_one : (m : Model) (s : State) (w : Work) (r c r' c' : ℕ) (t t' : State) → IsOnTheWay (node_program m s.way w.node) w.dictionary

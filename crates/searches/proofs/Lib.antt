@@ -3,6 +3,12 @@ pub mod Numbers
 pub mod Once
 pub mod Boxes
 pub mod Ways
+pub mod Alike
+pub mod Fixed
+pub mod GroupBounds
+pub mod Parting
+pub mod AlikeSplits
+pub mod Comings
 pub mod Holds
 pub mod Ends
 pub mod Trails

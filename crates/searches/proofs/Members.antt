@@ -3,7 +3,7 @@ use Rattle.std.proofs.Common.{◌≡◌, ℕ, suc, zero, ◌≤◌, ap, List, []
 use Rattle.std.specs.Prelude.{Some, slice_get}
 use Rattle.std.specs.List.{remove}
 use Rattle.searches.specs.Trails.{waiting_after}
-use Rattle.searches.specs.Trees.{Node, End, empty, beaten, whole, split, endless, new_nodes}
+use Rattle.searches.specs.Trees.{Node, End, empty, beaten, whole, split, clash, endless, new_nodes}
 
 abbrev pub In : List Node → Node → Type 0
 In [] n = ⊥
@@ -41,6 +41,7 @@ pub new_from : (n : ℕ) (node : Node) (e : End) (k : Node) → In (new_nodes n 
 new_from n node empty k h = absurd h
 new_from n node (beaten v) k h = absurd h
 new_from n node (whole x v) k h = absurd h
+new_from n node (clash i j v) k h = absurd h
 new_from n node (split j f v) k (inl e) = let q = ap (λ (u : Node). u.number) e in omega (arith, q)
 new_from n node (split j f v) k (inr (inl e)) = let q = ap (λ (u : Node). u.number) e in omega (arith, q)
 new_from n node (split j f v) k (inr (inr h)) = absurd h
@@ -53,6 +54,7 @@ in_after empty ns ms n h = in_cases ns ms n h
 in_after (beaten v) ns ms n h = in_cases ns ms n h
 in_after (whole x v) ns ms n h = in_cases ns ms n h
 in_after (split j f v) ns ms n h = in_cases ns ms n h
+in_after (clash i j v) ns ms n h = in_cases ns ms n h
 in_after (endless x w) ns ms n h = inr h
 
 pub new_after : (e : End) (ns ms : List Node) (n : Node) → In ms n → In (waiting_after e ns ms) n
@@ -60,6 +62,7 @@ new_after empty ns ms n h = in_right ns ms n h
 new_after (beaten v) ns ms n h = in_right ns ms n h
 new_after (whole x v) ns ms n h = in_right ns ms n h
 new_after (split j f v) ns ms n h = in_right ns ms n h
+new_after (clash i j v) ns ms n h = in_right ns ms n h
 new_after (endless x w) ns ms n h = h
 
 -- what is left was there

@@ -5,7 +5,7 @@ use Rattle.std.specs.List.{remove}
 use Rattle.node_pick.specs.Rules.{Rule, IsRising}
 use Rattle.node_pick.specs.declared.info.NodeInfo.{NodeInfo}
 use Rattle.linear_models.specs.Model.{Model}
-use Rattle.searches.specs.Trees.{Node, info, End, empty, beaten, whole, split, endless, new_nodes}
+use Rattle.searches.specs.Trees.{Node, info, End, empty, beaten, whole, split, clash, endless, new_nodes}
 use Rattle.searches.specs.Trails.{State, start, Becomes, goes_on, ends, Grows, opens, pivots, Leads, stays, grows, SearchUnit, waiting_after}
 use Rattle.dictionaries.specs.Dictionary.{Dictionary}
 
@@ -33,6 +33,7 @@ parts_rise n node empty = omega arith
 parts_rise n node (beaten v) = omega arith
 parts_rise n node (whole x v) = omega arith
 parts_rise n node (split j f v) = (omega arith, (omega arith, omega arith))
+parts_rise n node (clash i j v) = omega arith
 parts_rise n node (endless x w) = (omega arith, omega arith)
 
 after_rises : (mid high : ℕ) (e : End) (ns ms : List Node) → Rises 0 mid ns → Rises mid high ms → Rises 0 high (waiting_after e ns ms)
@@ -40,6 +41,7 @@ after_rises mid high empty ns ms r q = rises_append 0 mid high ns ms r q
 after_rises mid high (beaten v) ns ms r q = rises_append 0 mid high ns ms r q
 after_rises mid high (whole x v) ns ms r q = rises_append 0 mid high ns ms r q
 after_rises mid high (split j f v) ns ms r q = rises_append 0 mid high ns ms r q
+after_rises mid high (clash i j v) ns ms r q = rises_append 0 mid high ns ms r q
 after_rises mid high (endless x w) ns ms r q = rises_lower 0 mid high ms (omega arith) q
 
 abbrev pub AreNumbered : State → Type 0

@@ -1,11 +1,14 @@
 -- What holds along a whole trail, and that what it answers is true.
-use Rattle.std.proofs.Common.{◌≡◌, ℕ, suc, refl, sym, ap, ◌∙◌, subst, List, [], true, false, inl, inr}
+use Rattle.std.proofs.Common.{◌≡◌, ℕ, suc, refl, sym, ap, ◌∙◌, subst, List, [], ◌∷◌, get_or, true, false, inl, inr}
 use Rattle.std.specs.Prelude.{Option, Some, None, slice_get}
+use Rattle.std.specs.List.{AllByRecursion}
+use Rattle.std.proofs.lemmas.List.Elements.{All-from_recursion, recursion_from_All}
 use Rattle.fractions.specs.Rational.{ℚ, neg_ℚ, ◌≤ℚ◌}
 use Rattle.fractions.proofs.Order.{le_refl, neg_le}
 use Rattle.fractions.proofs.Tests.{lt_iff}
 use Rattle.fractions.proofs.Laws.{neg-neg}
 use Rattle.optimality.specs.Problem.{Assignment, Goal, greatest, least, reach}
+use Rattle.optimality.specs.Groups.{AreDifferent}
 use Rattle.optimality.specs.Optimal.{IsBetter}
 use Rattle.affine_forms.specs.Forms.{AffineForm}
 use Rattle.affine_forms.specs.Assigned.{assigned}
@@ -14,12 +17,12 @@ use Rattle.dictionaries.specs.Dictionary.{Dictionary, pivoted}
 use Rattle.dictionaries.specs.Run.{IsOnTheWay}
 use Rattle.dictionaries.proofs.Runs.{first_on_the_way, step_on_the_way}
 use Rattle.linear_models.specs.Worths.{form_at}
-use Rattle.linear_models.specs.Model.{Model, IsPoint, IsValid, maximised, objective_of}
+use Rattle.linear_models.specs.Model.{Model, IsGroupOf, IsPoint, IsValid, maximised, objective_of}
 use Rattle.linear_models.proofs.Permits.{points_are_permitted}
 use Rattle.opt_certificate.proofs.WaysOut.{way_out}
 use Rattle.node_pick.specs.Rules.{Rule}
 use Rattle.searches.specs.Trees.{Node, Found}
-use Rattle.searches.specs.Trails.{State, Work, without_place, is_plain, node_program, Becomes, goes_on, ends, Grows, opens, pivots, stays, grows, SearchUnit, Trail, IsOver, none_waits, one_is_enough, unbounded_at_once, HasNoObjective}
+use Rattle.searches.specs.Trails.{State, Work, without_place, is_plain, node_program, Becomes, goes_on, ends, Grows, opens, pivots, stays, grows, SearchUnit, Trail, IsOver, none_waits, one_is_enough, unbounded_at_once, HasNoObjective, HasNoMarks}
 use Rattle.searches.specs.Answers.{Answer, optimal, infeasible, Says, best_found, none_found, none_in_second, way_from_found, way_at_once, value_at, IsTrueOf}
 use Rattle.searches.specs.Laws.{AnswersAreTrue}
 use Rattle.searches.proofs.Members.{In, in_rest}
@@ -109,28 +112,33 @@ none_is m s h z n y p = covered (h.covers y ((points_are_permitted m y).0 p))
     covered (waits k i w) = subst (λ (u : List Node). In u k) z i
     covered (reached g q l) = absurd cc
 
-true_answer : (m : Model) (s : State) (a : Answer) → Holds m s → IsOver m s → Says m s a → IsTrueOf m a
-true_answer m s a h o (best_found f n e) = best_is m s f h o n e
-true_answer m s a h o (none_found n e) = by_over o
+-- without whole marks no group has a decision
+without_marks : (m : Model) (x : Assignment) (gs : List (List ℕ)) → HasNoMarks m → AllByRecursion (IsGroupOf m) gs → AllByRecursion (AreDifferent x) gs
+without_marks m x [] t h = tt
+without_marks m x (g ∷ gs) t h = (record { apart = λ i k l n e. absurd (t (get_or g i 0) (h.0.marked i l)) }, without_marks m x gs t h.1)
+
+true_answer : (m : Model) (s : State) (a : Answer) → IsValid m → Holds m s → IsOver m s → Says m s a → IsTrueOf m a
+true_answer m s a v h o (best_found f n e) = best_is m s f h o n e
+true_answer m s a v h o (none_found n e) = by_over o
   where
     by_over : IsOver m s → IsTrueOf m infeasible
     by_over (none_waits z) = none_is m s h z e
     by_over (one_is_enough g t q) = absurd cc
     by_over (unbounded_at_once w t q) = absurd cc
-true_answer m s a h o (none_in_second w n e k) = by_over o
+true_answer m s a v h o (none_in_second w n e k) = by_over o
   where
     by_over : IsOver m s → IsTrueOf m infeasible
     by_over (none_waits z) = none_is m s h z e
     by_over (one_is_enough g t q) = absurd cc
     by_over (unbounded_at_once w' t q) = absurd (k t)
-true_answer m s a h o (way_from_found w f n e) =
-    let p = (h.found_is f e).is_point in let d = (h.way_is w n).is_way in (p, (d, way_out m f.point w.direction p d))
-true_answer m s a h o (way_at_once w t n e) =
+true_answer m s a v h o (way_from_found w f n e) =
+    let p = (h.found_is f e).is_point in let d = (h.way_is w n).is_way in (p, (d, way_out m f.point w.direction v p d))
+true_answer m s a v h o (way_at_once w t n e) =
     let q = (h.way_is w n).is_point in
-    let p : IsPoint m w.point = record { one_each = q.one_each; rows = q.rows; whole = λ j l. absurd (t j l); bounds = q.bounds } in
+    let p : IsPoint m w.point = record { one_each = q.one_each; rows = q.rows; whole = λ j l. absurd (t j l); bounds = q.bounds; different = All-from_recursion (AreDifferent w.point) m.groups (without_marks m w.point m.groups t (recursion_from_All (IsGroupOf m) m.groups v.groups)) } in
     let d = (h.way_is w n).is_way in
-    (p, (d, way_out m w.point w.direction p d))
+    (p, (d, way_out m w.point w.direction v p d))
 
 -- what a search that is over answers is true of the model
 pub answers_are_true : AnswersAreTrue
-answers_are_true m rule us s a v t n o y = true_answer m s a (subst (HoldsWith m s) n (trail_stands m rule us s v t)) o y
+answers_are_true m rule us s a v t n o y = true_answer m s a v (subst (HoldsWith m s) n (trail_stands m rule us s v t)) o y

@@ -17,7 +17,7 @@ use Rattle.dictionaries.specs.Run.{IsOnTheWay}
 use Rattle.dictionaries.proofs.Runs.{first_on_the_way, step_on_the_way}
 use Rattle.dictionaries.proofs.Ends.{ends_prove}
 use Rattle.linear_models.specs.Model.{Model, IsValid}
-use Rattle.linear_models.specs.Standard.{wanted, splits_of}
+use Rattle.linear_models.specs.Standard.{standard, wanted, splits_of}
 use Rattle.linear_models.specs.Laws.{IsBoxPoint}
 use Rattle.linear_models.proofs.Forms.{dot-spread_terms}
 use Rattle.linear_models.proofs.Regular.{wanted_is}
@@ -26,14 +26,16 @@ use Rattle.affine_forms.specs.Assigned.{assigned}
 use Rattle.opt_certificate.specs.Certificate.{IsWayOut}
 use Rattle.opt_certificate.proofs.Multiples.{whole_number}
 use Rattle.node_pick.specs.Rules.{Rule}
-use Rattle.searches.specs.Trees.{Node, End, empty, beaten, whole, split, endless, Part, lower, upper, root, new_nodes, Way, way_at}
-use Rattle.searches.specs.Trails.{State, Opened, Work, start, without_place, is_plain, box_of, node_program, Outcome, no_point, best, no_bound, Finishes, at_best, without_bound, ComesTo, is_split, Becomes, goes_on, ends, ended, Grows, opens, pivots, stays, grows, SearchUnit, Trail}
-use Rattle.searches.specs.TrueTrees.{SplitTree, leaf, IsTrueSplit, IsTrueTree, HasNode, IsNodeOf, TreesAreTrue}
+use Rattle.searches.specs.Trees.{Node, End, empty, beaten, whole, split, clash, endless, Part, lower, upper, root, new_nodes, Way, way_at}
+use Rattle.searches.specs.Trails.{State, Opened, Work, start, without_place, is_plain, box_of, node_program, Outcome, no_point, best, no_bound, Finishes, at_best, without_bound, ComesTo, is_split, is_parted, Becomes, goes_on, ends, ended, Grows, opens, pivots, stays, grows, SearchUnit, Trail}
+use Rattle.searches.specs.TrueTrees.{SplitTree, leaf, IsBasicBest, IsTrueSplit, split_between, split_alike, IsTrueTree, HasNode, IsNodeOf, TreesAreTrue}
 use Rattle.searches.proofs.Members.{In, in_cases, in_place, in_removed}
 use Rattle.searches.proofs.Numbers.{numbers_rise}
 use Rattle.searches.proofs.Once.{others_differ, no_node_twice, IsApart}
 use Rattle.searches.proofs.Splitting.{IsLeaf, grown, leaf_is_node, node_stays, leaf_stays, new_lower, new_upper, none_below, parts_differ, grown_true, with_tree, changed, each_tree}
-use Rattle.searches.proofs.Ends.{node_regular}
+use Rattle.searches.proofs.AlikeSplits.{alike_split}
+use Rattle.searches.proofs.GroupBounds.{split_bounds}
+use Rattle.searches.proofs.Ends.{all_whole, node_box, node_regular}
 use Rattle.searches.proofs.Trails.{HoldsWith, trail_stands}
 
 -- ---- a number that isn't whole lies strictly between its floor and the next
@@ -191,23 +193,27 @@ split_one m s node k j f v trees h below sp = record {
     differ n l (inr (inr (inr i))) z d = absurd i
 
 settled : (m : Model) (s : State) (node : Node) (k : ℕ) (d : Dictionary) (o : Outcome) (e : End) (trees : Bool → SplitTree) → IsValid m → AreTrueWith m s trees node
-    → ((n : Node) → In s.waiting n → n.number < s.count) → IsOnTheWay (node_program m s.way node) d → Finishes (node_program m s.way node) d o → ComesTo m s.found o e → SomeTrees m (ended s node k e)
+    → ((n : Node) → In s.waiting n → n.number < s.count) → IsOnTheWay (node_program m s.way node) d → Finishes (node_program m s.way node) d o → ComesTo m (box_of m node) s.found o e → SomeTrees m (ended s node k e)
 settled m s node k d o e trees v h below w f c = by_end o e f c
   where
-    by_end : (o : Outcome) (e : End) → Finishes (node_program m s.way node) d o → ComesTo m s.found o e → SomeTrees m (ended s node k e)
+    best_at : (x : List ℚ) (y : ℚ) → Finishes (node_program m s.way node) d (best x y) → IsBasicBest (standard m (box_of m node) (is_plain s.way)) x
+    best_at x y (at_best b) = record { dictionary = d; represents = w.dictionary; is_best = b; point = refl }
+
+    by_end : (o : Outcome) (e : End) → Finishes (node_program m s.way node) d o → ComesTo m (box_of m node) s.found o e → SomeTrees m (ended s node k e)
     by_end o empty f c = (trees, closed m s node k empty trees h refl (λ n i. only_old s.waiting n (in_cases s.waiting [] n i)))
     by_end o (beaten x) f c = (trees, closed m s node k (beaten x) trees h refl (λ n i. only_old s.waiting n (in_cases s.waiting [] n i)))
+    by_end o (clash i j y) f c = (trees, closed m s node k (clash i j y) trees h refl (λ n i. only_old s.waiting n (in_cases s.waiting [] n i)))
     by_end o (whole x y) f c = (trees, closed m s node k (whole x y) trees h refl (λ n i. only_old s.waiting n (in_cases s.waiting [] n i)))
     by_end (no_bound x u) (endless y z) f c = (trees, second m s node k y z trees h (not_true s.way (nothing_improves m s.way node d x u v w f)))
     by_end (best x v') (split j g v'') (at_best b) (is_split y u j' t q) = (
       with_tree (is_plain s.way) (grown (trees (is_plain s.way)) node.path j (floor_ℚ (at x j))) trees,
-      split_one m s node k j (floor_ℚ (at x j)) v'' trees h below record {
-        marked = q.broken.marked;
-        point = x;
-        best = record { dictionary = d; represents = w.dictionary; is_best = b; point = refl };
-        above = floor_below (at x j) q.broken.broken;
-        below = next_above (at x j);
-      },
+      split_one m s node k j (floor_ℚ (at x j)) v'' trees h below
+          (split_between record { marked = q.broken.marked; point = x; best = best_at x v' (at_best b); above = floor_below (at x j) q.broken.broken; below = next_above (at x j) }),
+    )
+    by_end (best x v') (split j g v'') f (is_parted y u a b c' g' t n q p z) = (
+      with_tree (is_plain s.way) (grown (trees (is_plain s.way)) node.path j g) trees,
+      split_one m s node k j g v'' trees h below
+          (split_alike (alike_split m (is_plain s.way) (box_of m node) x a b j g v (node_box m node v) (best_at x v' f) (all_whole m x n) q p z (split_bounds m node x a b j v q p))),
     )
     by_end no_point (endless y z) f c = elim c [ ]
     by_end (best x u) (endless y z) f c = elim c [ ]

@@ -1,4 +1,5 @@
 pub mod Trees
+pub mod Alike
 pub mod Trails
 pub mod Answers
 pub mod Laws

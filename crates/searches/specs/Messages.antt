@@ -6,7 +6,7 @@ use Rattle.node_pick.specs.Messages.{Message, question, news}
 use Rattle.node_pick.specs.declared.info.NodeEvent.{NodeEvent}
 use Rattle.node_pick.specs.declared.info.NodeEvent.TheVariants as events
 use Rattle.linear_models.specs.Model.{Model}
-use Rattle.searches.specs.Trees.{Node, End, empty, beaten, whole, split, endless, info}
+use Rattle.searches.specs.Trees.{Node, End, empty, beaten, whole, split, clash, endless, info}
 use Rattle.searches.specs.Trails.{State, SearchUnit, Becomes, goes_on, ends, Grows, opens, pivots, Leads, stays, grows}
 
 -- the end of a node of this number, where the next numbers are from n on: it is split in two parts, its point is a whole one and found, or it is closed
@@ -15,6 +15,7 @@ news_of number n (split j f value) = events.Split number n (n + 1)
 news_of number n (whole point value) = events.Whole number
 news_of number n empty = events.Closed number
 news_of number n (beaten value) = events.Closed number
+news_of number n (clash i j value) = events.Closed number
 news_of number n (endless point direction) = events.Closed number
 
 -- of a node that has come to a dictionary: its end, if it is one

@@ -1,10 +1,11 @@
 -- The trail of a search: its openings and pivots one after the other, and what stands after each.
 -- (Schrijver, Theory of Linear and Integer Programming, chapter 24; Chvatal, Linear Programming, chapter 3.)
-use Rattle.std.specs.Prelude.{◌≡◌, ◌≤◌, ◌⊎◌, ◌+◌, ◌++◌, ℕ, suc, Bool, true, false, List, [], ◌∷◌, length, map, Option, Some, None, slice_get, ⊤}
+use Rattle.std.specs.Prelude.{◌≡◌, ◌≤◌, ◌⊎◌, ◌+◌, ◌++◌, ℕ, suc, ℤ, Bool, true, false, List, [], ◌∷◌, length, map, All, Option, Some, None, slice_get, ⊤}
 use Rattle.std.specs.List.{remove}
 use Rattle.fractions.specs.Rational.{ℚ, ◌<ℚ◌, ◌≤ℚ◌, zero_ℚ}
 use Rattle.fractions.specs.Vectors.{at}
 use Rattle.fractions.specs.Floor.{floor_ℚ}
+use Rattle.optimality.specs.Groups.{AreDifferent}
 use Rattle.optimality.specs.Optimal.{IsWhole}
 use Rattle.affine_forms.specs.Forms.{constant_form}
 use Rattle.linear_programs.specs.Program.{Program, cell_numbers}
@@ -16,7 +17,8 @@ use Rattle.node_pick.specs.Rules.{Rule, Follows}
 use Rattle.linear_models.specs.Box.{Box}
 use Rattle.linear_models.specs.Model.{Model, is_whole_at, maximised}
 use Rattle.linear_models.specs.Standard.{standard}
-use Rattle.searches.specs.Trees.{Node, End, empty, beaten, whole, split, endless, box_along, new_nodes, root, Found, found_at, Way, way_at, info}
+use Rattle.searches.specs.Trees.{Node, End, empty, beaten, whole, split, clash, endless, box_along, new_nodes, root, Found, found_at, Way, way_at, info}
+use Rattle.searches.specs.Alike.{AreFirstAlike, BoundsDiffer, SplitsAt, FloorIs}
 
 -- ---- how the run of a node's program ends
 -- with no point; with a best point and its value; with a point and a direction: all by their decisions
@@ -68,13 +70,22 @@ pub record IsFirstBroken (m : Model) (x : List ℚ) (j : ℕ) : Type 0 where
   pub broken : IsBroken m x j
   pub least : (i : ℕ) → IsBroken m x i → j ≤ i
 
--- an opened node whose run ends with this outcome comes to this end
-pub data ComesTo (m : Model) (found : Option Found) : Outcome → End → Type 0 where
-  is_empty : ComesTo m found no_point empty
-  is_endless : (x way : List ℚ) → ComesTo m found (no_bound x way) (endless x way)
-  is_beaten : (x : List ℚ) (v : ℚ) (f : Found) → found ≡ Some f → v ≤ℚ f.value → ComesTo m found (best x v) (beaten v)
-  is_whole : (x : List ℚ) (v : ℚ) → IsBetterThan found v → ((j : ℕ) → ¬ (IsBroken m x j)) → ComesTo m found (best x v) (whole x v)
-  is_split : (x : List ℚ) (v : ℚ) (j : ℕ) → IsBetterThan found v → IsFirstBroken m x j → ComesTo m found (best x v) (split j (floor_ℚ (at x j)) v)
+-- each decision that is to be whole is
+abbrev pub IsUnbroken : Model → List ℚ → Type 0
+IsUnbroken m x = (j : ℕ) → ¬ (IsBroken m x j)
+
+-- an opened node of this box whose run ends with this outcome comes to this end: where all decisions that are to be whole are, but two of a group hold the same number,
+-- the box is split at one of these whose bounds differ, and without one the node is closed
+pub data ComesTo (m : Model) (box : Box) (found : Option Found) : Outcome → End → Type 0 where
+  is_empty : ComesTo m box found no_point empty
+  is_endless : (x way : List ℚ) → ComesTo m box found (no_bound x way) (endless x way)
+  is_beaten : (x : List ℚ) (v : ℚ) (f : Found) → found ≡ Some f → v ≤ℚ f.value → ComesTo m box found (best x v) (beaten v)
+  is_whole : (x : List ℚ) (v : ℚ) → IsBetterThan found v → IsUnbroken m x → All (AreDifferent x) m.groups → ComesTo m box found (best x v) (whole x v)
+  is_split : (x : List ℚ) (v : ℚ) (j : ℕ) → IsBetterThan found v → IsFirstBroken m x j → ComesTo m box found (best x v) (split j (floor_ℚ (at x j)) v)
+  is_parted : (x : List ℚ) (v : ℚ) (i j c : ℕ) (f : ℤ) → IsBetterThan found v → IsUnbroken m x → AreFirstAlike x m.groups i j → SplitsAt box i j c → FloorIs box c (at x c) f
+      → ComesTo m box found (best x v) (split c f v)
+  is_clash : (x : List ℚ) (v : ℚ) (i j : ℕ) → IsBetterThan found v → IsUnbroken m x → AreFirstAlike x m.groups i j → ¬ (BoundsDiffer box i) → ¬ (BoundsDiffer box j)
+      → ComesTo m box found (best x v) (clash i j v)
 
 -- ---- where a search stands
 -- a node that was opened, and the pivots made in it
@@ -117,6 +128,7 @@ waiting_after empty waiting new = waiting ++ new
 waiting_after (beaten value) waiting new = waiting ++ new
 waiting_after (whole point value) waiting new = waiting ++ new
 waiting_after (split j f value) waiting new = waiting ++ new
+waiting_after (clash i j value) waiting new = waiting ++ new
 
 -- the node has come to its end
 abbrev pub ended : State → Node → ℕ → End → State
@@ -152,7 +164,7 @@ pub data SearchUnit : Type 0 where
 -- the node has come to this dictionary: its run goes on, or it ends
 pub data Becomes (m : Model) (s : State) (node : Node) (k : ℕ) (d : Dictionary) : State → Type 0 where
   goes_on : ¬ (HasEnded d) → Becomes m s node k d (worked s node k d)
-  ends : (o : Outcome) (e : End) → Finishes (node_program m s.way node) d o → ComesTo m s.found o e → Becomes m s node k d (ended s node k e)
+  ends : (o : Outcome) (e : End) → Finishes (node_program m s.way node) d o → ComesTo m (box_of m node) s.found o e → Becomes m s node k d (ended s node k e)
 
 -- one unit: the opening of a waiting node, at a place that the rule allows, or the next pivot of the node that is worked on, each of its numbers narrow
 pub data Grows (m : Model) (rule : Rule) (s : State) : SearchUnit → State → Type 0 where

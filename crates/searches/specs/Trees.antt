@@ -28,12 +28,13 @@ pub record Node : Type 0 where
   pub bound : Option ℚ
 
 -- what becomes of an opened node: its program has no point; its value is not better than that of a point found before; its point is a whole one and is found;
--- it is split at a decision and a floor; its program is unbounded, with a point and a direction
+-- it is split at a decision and a floor; two decisions of a group hold the same number at its point and are fixed to it; its program is unbounded, with a point and a direction
 pub data End : Type 0 where
   empty : End
   beaten : (value : ℚ) → End
   whole : (point : List ℚ) (value : ℚ) → End
   split : (decision : ℕ) (floor : ℤ) (value : ℚ) → End
+  clash : (first second : ℕ) (value : ℚ) → End
   endless : (point direction : List ℚ) → End
 
 -- the root of a tree, by its number
@@ -51,6 +52,7 @@ new_nodes n node (endless point direction) = root n ∷ []
 new_nodes n node empty = []
 new_nodes n node (beaten value) = []
 new_nodes n node (whole point value) = []
+new_nodes n node (clash i j value) = []
 
 -- a whole point, and its value
 pub record Found : Type 0 where
@@ -63,6 +65,7 @@ found_at (whole point value) before = Some record { point = point; value = value
 found_at empty before = before
 found_at (beaten value) before = before
 found_at (split j f value) before = before
+found_at (clash i j value) before = before
 found_at (endless point direction) before = before
 
 -- the point and the direction of an unbounded program, after which the objective is 0
@@ -77,6 +80,7 @@ way_at empty before = before
 way_at (beaten value) before = before
 way_at (split j f value) before = before
 way_at (whole point value) before = before
+way_at (clash i j value) before = before
 
 -- a node as a picker sees it
 abbrev pub info : Node → NodeInfo

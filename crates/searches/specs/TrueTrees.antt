@@ -1,15 +1,17 @@
--- Nodes of true trees: each node that is split is split at a decision that is to be whole, whose number at a basic optimal point of the node's program lies strictly between the two parts.
+-- Nodes of true trees: each node that is split is split at a decision that is to be whole, whose number at a basic optimal point of the node's program lies strictly between the two parts,
+-- or is also that of another decision of its group.
 -- (Schrijver, Theory of Linear and Integer Programming, chapter 24.)
-use Rattle.std.specs.Prelude.{◌≡◌, ◌⊎◌, ℕ, Bool, true, false, List, [], ◌∷◌, All, Option, Some, ℤ, pos, ◌+ℤ◌}
-use Rattle.fractions.specs.Rational.{ℚ, ◌<ℚ◌}
+use Rattle.std.specs.Prelude.{◌≡◌, ◌≢◌, ◌⊎◌, ℕ, Bool, true, false, List, [], ◌∷◌, All, Option, Some, slice_get, ℤ, pos, ◌+ℤ◌, ◌≤ℤ◌}
+use Rattle.fractions.specs.Rational.{ℚ, ◌≤ℚ◌, ◌<ℚ◌}
 use Rattle.fractions.specs.Whole.{whole_ℚ}
 use Rattle.fractions.specs.Vectors.{at}
 use Rattle.linear_programs.specs.Program.{Program}
 use Rattle.dictionaries.specs.Dictionary.{Dictionary, IsDictionaryOf}
 use Rattle.dictionaries.specs.Bland.{IsBestEnd}
 use Rattle.node_pick.specs.Rules.{Rule}
-use Rattle.linear_models.specs.Box.{Box}
-use Rattle.linear_models.specs.Model.{Model, IsValid, is_whole_at}
+use Rattle.linear_models.specs.Box.{Box, bound_at}
+use Rattle.linear_models.specs.Model.{Model, AreWhole, IsValid, is_whole_at}
+use Rattle.linear_models.specs.Statement.{is_in}
 use Rattle.linear_models.specs.Standard.{standard}
 use Rattle.linear_models.specs.Laws.{IsBoxPoint}
 use Rattle.opt_certificate.specs.Certificate.{IsWayOut}
@@ -23,13 +25,40 @@ pub record IsBasicBest (p : Program) (x : List ℚ) : Type 0 where
   pub is_best : IsBestEnd dictionary
   pub point : x ≡ decisions_at p dictionary
 
--- the box may be split so: the decision is to be whole, and its number there is above the floor and below the next whole number
-pub record IsTrueSplit (m : Model) (plain : Bool) (box : Box) (j : ℕ) (f : ℤ) : Type 0 where
+-- the decision is to be whole, and its number there is above the floor and below the next whole number
+pub record IsSplitBetween (m : Model) (plain : Bool) (box : Box) (j : ℕ) (f : ℤ) : Type 0 where
   pub marked : is_whole_at m.whole j ≡ true
   pub point : List ℚ
   pub best : IsBasicBest (standard m box plain) point
   pub above : whole_ℚ f <ℚ at point j
   pub below : at point j <ℚ whole_ℚ (f +ℤ pos 1)
+
+-- a whole number between the decision's bounds in the box
+pub record IsWholeValue (box : Box) (j : ℕ) (z : ℤ) : Type 0 where
+  pub least : (b : ℚ) → bound_at box.least j ≡ Some b → b ≤ℚ whole_ℚ z
+  pub greatest : (b : ℚ) → bound_at box.greatest j ≡ Some b → whole_ℚ z ≤ℚ b
+
+-- all decisions that are to be whole are so there, two of a group hold the same number, and either part holds a whole value of the first one
+pub record IsSplitAlike (m : Model) (plain : Bool) (box : Box) (j : ℕ) (f : ℤ) : Type 0 where
+  pub marked : is_whole_at m.whole j ≡ true
+  pub point : List ℚ
+  pub best : IsBasicBest (standard m box plain) point
+  pub whole : AreWhole m.whole point
+  pub place : ℕ
+  pub group : List ℕ
+  pub group_is : slice_get m.groups place ≡ Some group
+  pub one : is_in j group ≡ true
+  pub partner : ℕ
+  pub other : is_in partner group ≡ true
+  pub differ : j ≢ partner
+  pub same : at point j ≡ at point partner
+  pub low : (z : ℤ) × IsWholeValue box j z × (z ≤ℤ f)
+  pub high : (z : ℤ) × IsWholeValue box j z × ((f +ℤ pos 1) ≤ℤ z)
+
+-- the box may be split so
+pub data IsTrueSplit (m : Model) (plain : Bool) (box : Box) (j : ℕ) (f : ℤ) : Type 0 where
+  split_between : IsSplitBetween m plain box j f → IsTrueSplit m plain box j f
+  split_alike : IsSplitAlike m plain box j f → IsTrueSplit m plain box j f
 
 -- a tree of splits; a leaf isn't split
 pub data SplitTree : Type 0 where

@@ -1,6 +1,7 @@
 //! What a branch and bound search is: its tree, its trail and its answers, in contracts alone, with their laws.
 #![tactic(auto)]
 
+ghost use Rattle.searches.specs.Alike.{AlikeOrDifferent, ClosedAtClash};
 ghost use Rattle.searches.specs.Laws.{AnswersAreTrue, OneAnswer, NoNodeIsOpenedTwice, NumbersRise, OneNextState, OneTrail};
 ghost use Rattle.searches.specs.GoesOn.{SearchGoesOn};
 ghost use Rattle.searches.specs.Slices.{SlicesAgree, SlicesJoin, SlicesPart};
@@ -59,4 +60,14 @@ pub fn slices_part()
 /// However a search was cut, as many units by a rule lead to the same state.
 pub fn slices_agree()
     ensures { SlicesAgree }
+{}
+
+/// At each point all groups are different, or there is one first pair of decisions that hold the same number.
+pub fn alike_or_different()
+    ensures { AlikeOrDifferent }
+{}
+
+/// Where two decisions of a group hold the same number, and the bounds of neither differ, both are fixed to it.
+pub fn closed_at_clash()
+    ensures { ClosedAtClash }
 {}
