@@ -3,8 +3,9 @@ ghost use Rattle.std.specs.Prelude.{◌≡◌, ◌≤◌, IfOk, length, map};
 ghost use Rattle.std.specs.Option.{option_map};
 ghost use Rattle.workbook.specs.declared.adj.TheConstants.{DECISIONS};
 ghost use Rattle.lin_model.specs.Kinds.{goal_of};
+ghost use Rattle.lin_model.specs.Lists.{lists_of};
 ghost use Rattle.sheet_problems.specs.Forms.{condition_of, conditions_of};
-ghost use Rattle.solver_names.specs.Answers.{row_of, statement_of};
+ghost use Rattle.solver_names.specs.Answers.{groups_of, row_of, statement_of};
 
 use lin_model::{Condition, Conditions, Goal};
 use memory::Memory;
@@ -33,6 +34,17 @@ fn goal_wanted(of: &Statement) -> Option<Goal>
     }
 }
 
+// Equal lists of numbers.
+fn copies_of(alloc: Global, groups: &[Vec<u16>]) -> Result<Vec<Vec<u16>>, Memory>
+    ensures { IfOk result (λ copies. lists_of copies.items ≡ groups_of groups.now) }
+{
+    let mut copies = Vec::new(alloc);
+    for group in groups {
+        copies.push(Vec::from_slice(alloc, group)?)?;
+    }
+    Ok(copies)
+}
+
 /// The conditions that a statement makes with the forms of its objective and of its rows' sides.
 pub fn conditions(alloc: Global, of: &Statement) -> Result<Conditions, Memory>
     requires few { length of.now.adj ≤ DECISIONS }
@@ -43,6 +55,7 @@ pub fn conditions(alloc: Global, of: &Statement) -> Result<Conditions, Memory>
     let whole = Vec::from_slice(alloc, &of.whole)?;
     let binary = Vec::from_slice(alloc, &of.binary)?;
     let explicit = Vec::from_slice(alloc, &of.explicit)?;
+    let different = copies_of(alloc, &of.different)?;
     Ok(Conditions::new(
         decisions,
         goal_wanted(of),
@@ -51,5 +64,6 @@ pub fn conditions(alloc: Global, of: &Statement) -> Result<Conditions, Memory>
         binary,
         explicit,
         of.not_negative,
+        different,
     ))
 }

@@ -2,7 +2,7 @@
 use Rattle.std.proofs.Common.{◌≡◌, ◌<◌, ◌≤◌, ◌+◌, ◌-◌, ◌*◌, ◌/◌, ◌%◌, ℕ, zero, suc, Bool, true, false, inl, inr, List, [], ◌∷◌, ◌++◌, map, flat_map, length, take, get_or, refl, sym, ap, ap₂, ◌∙◌, arith, subst, append-nil}
 use Rattle.std.specs.Prelude.{◌&&◌, ◌||◌, ◌==◌, fold, nat_le}
 use Rattle.std.specs.List.{All, insert, list_any, range_with_len}
-use Rattle.std.specs.List.Sorted.{IsNonDecreasingBy, IsPermutation}
+use Rattle.std.specs.List.Sorted.{IsPermutation}
 use Rattle.std.proofs.Math.Bool.{or-true}
 use Rattle.std.proofs.Math.Seq.{take-suc}
 use Rattle.std.proofs.Math.Nat.{div-lt_iff_lt-mul, mod-lt}
@@ -18,7 +18,7 @@ use Rattle.cell_refs.specs.declared.cell.Cell.{Cell}
 use Rattle.cell_refs.specs.Areas.{Area, area_height, area_len, area_width, bottom, cell_at, cells_of, right, within}
 use Rattle.cell_refs.specs.Cells.{is_same_cell}
 use Rattle.solver_names.specs.Constraints.{is_among}
-use Rattle.solver_names.specs.Counts.{AreByTop, IsPlaced, bit, cell_of, in_column, is_covered, on_all_sheets, on_sheet, sum_below}
+use Rattle.solver_names.specs.Counts.{AreByTop, IsPlaced, bit, cell_of, in_column, is_covered, on_all_sheets, on_sheet}
 use Rattle.solver_names.specs.Faults.{other_cell}
 use Rattle.solver_names.specs.Texts.{with_cell}
 use Rattle.solver_names.proofs.CellLists.{other_from, other_later}

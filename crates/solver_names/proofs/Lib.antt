@@ -3,6 +3,7 @@ pub mod PartLists
 pub mod RowLists
 pub mod CellLists
 pub mod MarkedCells
+pub mod DifferentCells
 pub mod Sums
 pub mod ColumnRows
 pub mod Counting
@@ -11,5 +12,6 @@ pub mod Gathered
 pub mod ReadFaults
 pub mod NoFaults
 pub mod Faultless
+pub mod GroupLaws
 pub mod PlacedTrees
 pub mod SideLists

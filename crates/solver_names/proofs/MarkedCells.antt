@@ -1,13 +1,11 @@
 -- The cells that stand on the left of constraints of a code.
 use Rattle.std.proofs.Common.{◌≡◌, ◌<◌, eq-eqb, subst, ◌+◌, ℕ, suc, Bool, true, false, cond, List, [], ◌∷◌, ◌++◌, get_or, length, take, refl, sym, ap, ap₂, ◌∙◌, arith, append-nil}
-use Rattle.std.specs.Prelude.{◌||◌, ◌&&◌, ◌==◌, fold, Contains, flat_map}
-use Rattle.std.specs.List.{list_any, range_with_len}
+use Rattle.std.specs.Prelude.{◌||◌, ◌&&◌, ◌==◌, fold, Contains}
 use Rattle.std.proofs.Math.Seq.{take-suc}
 use Rattle.std.proofs.lemmas.Bool.{eqb-true}
 use Rattle.std.proofs.lemmas.List.Folds.{list_any-append, list_any_at}
 use Rattle.std.proofs.lemmas.Map.Views.{Contains-from_any}
 use Rattle.cell_refs.specs.declared.cell.Cell.{Cell}
-use Rattle.cell_refs.specs.declared.span.Span.{Span}
 use Rattle.cell_refs.specs.Areas.{Area, cells_of, within}
 use Rattle.cell_refs.specs.Cells.{is_same_cell}
 use Rattle.formula_ast.specs.Tree.{Listed}

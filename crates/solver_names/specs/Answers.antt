@@ -1,5 +1,6 @@
 -- What is answered of the names of a sheet.
-use Rattle.std.specs.Prelude.{◌≡◌, ℕ, [], Result, Ok, Err, map, string_bytes, unwrap_or}
+use Rattle.std.specs.Prelude.{◌≡◌, ℕ, List, [], Result, Ok, Err, Vec, map, string_bytes, unwrap_or}
+use Rattle.std.specs.Global.{Global}
 use Rattle.lin_model.specs.Kinds.{goal_of, relation_of}
 use Rattle.workbook.specs.State.{State}
 use Rattle.solver_names.specs.declared.fault.NamesFault.{NamesFault}
@@ -17,6 +18,10 @@ use Rattle.solver_names.specs.Stated.{statement_in}
 abbrev pub row_of : Row → RowOf
 row_of r = record { number = r.k; left = r.left; relation = relation_of r.rel; right = r.right }
 
+-- lists of numbers of the code
+abbrev pub groups_of : List (Vec ℕ Global) → List (List ℕ)
+groups_of groups = map (λ (g : Vec ℕ Global). g.items) groups
+
 -- a statement of the code
 abbrev pub statement_of : Declared → Statement
 statement_of s = record {
@@ -28,6 +33,7 @@ statement_of s = record {
   whole = s.whole.items;
   binary = s.binary.items;
   explicit = s.explicit.items;
+  different = groups_of s.different.items;
   not_negative = s.not_negative;
 }
 

@@ -27,10 +27,11 @@ code_of n =
     else if n == 3 then Some (code.Related AtLeast)
     else if n == 4 then Some code.Whole
     else if n == 5 then Some code.Binary
+    else if n == 6 then Some code.Different
     else None
 
 abbrev pub code_in : List ℕ → Option Code
-code_in text = option_and_then code_of (whole_in 1 5 text)
+code_in text = option_and_then code_of (whole_in 1 6 text)
 
 abbrev pub left_said : State → ℕ → ℕ → Said Area
 left_said book sheet k = said_by (reference_in book sheet) (named book sheet (name.Left k))

@@ -48,7 +48,7 @@ cells_unformed r =
 abbrev pub missing : Constraint → List Fault
 missing c = where_so (is_absent c.left || is_absent c.code || (is_related c.code && is_absent c.right)) (fault.Missing c.k)
 
--- a code is none of the five
+-- a code is none of the six
 abbrev pub bad_code : Constraint → List Fault
 bad_code c = where_so (is_unformed c.code) (fault.Code c.k)
 
@@ -60,10 +60,11 @@ mismatch_of k _ _ = []
 abbrev pub mismatch : Constraint → List Fault
 mismatch c = mismatch_of c.k c.left c.right
 
--- a cell that is to be whole or binary is no decision cell: the first one
+-- a cell that is to be whole, binary or different from others is no decision cell: the first one
 abbrev pub is_mark : Said Code → Bool
 is_mark (Says code.Whole) = true
 is_mark (Says code.Binary) = true
+is_mark (Says code.Different) = true
 is_mark _ = false
 
 abbrev pub other_cell : List Cell → List Cell → Option Cell

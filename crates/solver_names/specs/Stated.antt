@@ -1,9 +1,10 @@
 -- What the names of a sheet state, or the first fault in them.
-use Rattle.std.specs.Prelude.{ℕ, suc, ◌==◌, ◌&&◌, Bool, true, false, List, [], ◌∷◌, if◌then◌else◌, Option, Some, None, Result, Ok, Err}
+use Rattle.std.specs.Prelude.{ℕ, suc, ◌==◌, ◌&&◌, Bool, true, false, List, [], ◌∷◌, map, filter, filter_map, position, if◌then◌else◌, Option, Some, None, Result, Ok, Err}
 use Rattle.std.specs.List.{list_any}
 use Rattle.fractions.specs.Rational.{ℚ, zero_ℚ}
 use Rattle.optimality.specs.Problem.{Goal, greatest, least, reach}
 use Rattle.cell_refs.specs.Areas.{Area, within}
+use Rattle.cell_refs.specs.Cells.{is_same_cell}
 use Rattle.cell_refs.specs.declared.cell.Cell.{Cell}
 use Rattle.lin_model.specs.Kinds.{relation_of}
 use Rattle.lin_model.specs.declared.kinds.Relation.{Relation}
@@ -16,6 +17,7 @@ use Rattle.solver_names.specs.declared.said.Said.TheVariants.{Says}
 use Rattle.solver_names.specs.declared.constraints.Code.{Code}
 use Rattle.solver_names.specs.declared.constraints.Code.TheVariants as code
 use Rattle.solver_names.specs.declared.constraints.Constraint.{Constraint}
+use Rattle.solver_names.specs.Constraints.{left_cells}
 use Rattle.solver_names.specs.Statement.{RowOf, Statement}
 use Rattle.solver_names.specs.Texts.{is_absent, or_else}
 use Rattle.solver_names.specs.Read.{Read, read_in}
@@ -32,6 +34,7 @@ abbrev pub is_code : Code → Said Code → Bool
 is_code (code.Related AtLeast) (Says (code.Related AtLeast)) = true
 is_code code.Whole (Says code.Whole) = true
 is_code code.Binary (Says code.Binary) = true
+is_code code.Different (Says code.Different) = true
 is_code _ _ = false
 
 -- the cell stands in the left side
@@ -54,6 +57,19 @@ numbers_from n test (cell ∷ cells) = if test cell then n ∷ numbers_from (suc
 -- those of the cells that stand in the left side of a constraint with this code
 abbrev pub marked : Code → List Constraint → List Cell → List ℕ
 marked code cs cells = numbers_from 0 (is_marked code cs) cells
+
+-- ---- cells that are to be different
+-- the left sides of the constraints that ask for it
+abbrev pub different_cells : List Constraint → List (List Cell)
+different_cells cs = map (λ (c : Constraint). left_cells c.left) (filter (λ (c : Constraint). is_code code.Different c.code) cs)
+
+-- the numbers that cells have among those to be decided
+abbrev pub numbers_of : List Cell → List Cell → List ℕ
+numbers_of decisions cells = filter_map (λ (c : Cell). position (is_same_cell c) decisions) cells
+
+-- for each such constraint the numbers of its left cells
+abbrev pub different : List Constraint → List Cell → List (List ℕ)
+different cs decisions = map (numbers_of decisions) (different_cells cs)
 
 -- ---- what is wanted
 abbrev pub goal_by : ℕ → ℚ → Goal
@@ -78,6 +94,7 @@ stated sheet r = record {
   whole = marked code.Whole r.constraints (decisions_of r);
   binary = marked code.Binary r.constraints (decisions_of r);
   explicit = marked (code.Related AtLeast) r.constraints (decisions_of r);
+  different = different r.constraints (decisions_of r);
   not_negative = or_else r.negative 1 == 1;
 }
 

@@ -12,7 +12,7 @@ pub record RowOf : Type 0 where
   pub right : Place
 
 -- the cells to be decided; the lists have the numbers, from 0 on, of those that are to be whole, those that are to be 0 or 1, and
--- those with a lower bound of their own
+-- those with a lower bound of their own; for each constraint of different cells a list has the numbers of its cells, in their order
 pub record Statement : Type 0 where
   pub sheet : ℕ
   pub decisions : List Cell
@@ -22,4 +22,5 @@ pub record Statement : Type 0 where
   pub whole : List ℕ
   pub binary : List ℕ
   pub explicit : List ℕ
+  pub different : List (List ℕ)
   pub not_negative : Bool

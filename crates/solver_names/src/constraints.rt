@@ -22,6 +22,7 @@ pub(crate) enum Code {
     Related(Relation),
     Whole,
     Binary,
+    Different,
 }
 
 /// The right side of a constraint: an area, or an expression.
@@ -50,6 +51,7 @@ fn code_of(number: u16) -> Option<Code>
         3 => Some(Code::Related(Relation::AtLeast)),
         4 => Some(Code::Whole),
         5 => Some(Code::Binary),
+        6 => Some(Code::Different),
         _ => None,
     }
 }
@@ -58,7 +60,7 @@ fn code_of(number: u16) -> Option<Code>
 fn code_in(text: &str) -> Option<Code>
     ensures { result ≡ code_in text.now }
 {
-    match whole_in(1, 5, text) {
+    match whole_in(1, 6, text) {
         Some(number) => code_of(number),
         None => None,
     }

@@ -31,7 +31,7 @@ pub(crate) enum Fault {
     Reference(Name),
     /// The constraint lacks a part.
     Missing(u16),
-    /// The constraint's code is none of the five.
+    /// The constraint's code is none of the six.
     Code(u16),
     /// The constraint, and how many cells its left and its right side have.
     Sizes(u16, u32, u32),
@@ -86,7 +86,7 @@ fn part_fault(constraint: &Constraint) -> Option<Fault>
     None
 }
 
-// A code that is none of the five.
+// A code that is none of the six.
 fn code_fault(constraint: &Constraint) -> Option<Fault>
     ensures { result ≡ first (bad_code constraint.now) }
 {
@@ -112,14 +112,17 @@ fn size_fault(constraint: &Constraint) -> Option<Fault>
     Some(Fault::Sizes(constraint.k, left.len(), right.len()))
 }
 
-// Whether the cells on the left are to be whole, or 0 or 1.
+// Whether the cells on the left are to be whole, or 0 or 1, or different.
 fn is_mark(code: &Said<Code>) -> bool
     ensures { result ≡ found.is_mark code.now }
 {
-    matches!(code, Said::Says(Code::Whole | Code::Binary))
+    matches!(
+        code,
+        Said::Says(Code::Whole | Code::Binary | Code::Different)
+    )
 }
 
-// A cell that is to be whole, or 0 or 1, and isn't to be decided.
+// A cell that is to be whole, or 0 or 1, or different from others, and isn't to be decided.
 fn decision_fault(decisions: &Cells, constraint: &Constraint) -> Option<Fault>
     ensures { result ≡ first (no_decision decisions.now constraint.now) }
 {

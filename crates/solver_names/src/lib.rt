@@ -6,6 +6,7 @@ mod columns;
 mod constraints;
 mod fault;
 mod faults;
+mod groups;
 mod limits;
 mod name;
 mod names;

@@ -16,6 +16,7 @@ use crate::cells::Cells;
 use crate::constraints::{Code, Constraint};
 use crate::fault::NamesFault;
 use crate::faults::{first_fault, named_fault};
+use crate::groups::all_groups;
 use crate::names::{Names, names_of};
 use crate::rows::rows_of;
 use crate::said::Said;
@@ -59,6 +60,7 @@ fn is_code(code: Code, said: &Said<Code>) -> bool
         (Code::Related(Relation::AtLeast), Said::Says(Code::Related(Relation::AtLeast))) => true,
         (Code::Whole, Said::Says(Code::Whole)) => true,
         (Code::Binary, Said::Says(Code::Binary)) => true,
+        (Code::Different, Said::Says(Code::Different)) => true,
         _ => false,
     }
 }
@@ -165,6 +167,7 @@ fn statement_by(alloc: Global, sheet: SheetId, names: Names) -> Result<Statement
     let binary = numbers_of_code(alloc, Code::Binary, &constraints, adj.cells())?;
     let at_least = Code::Related(Relation::AtLeast);
     let explicit = numbers_of_code(alloc, at_least, &constraints, adj.cells())?;
+    let different = all_groups(alloc, &adj, &constraints)?;
     Ok(Statement {
         sheet,
         adj,
@@ -174,6 +177,7 @@ fn statement_by(alloc: Global, sheet: SheetId, names: Names) -> Result<Statement
         whole,
         binary,
         explicit,
+        different,
         not_negative,
     })
 }

@@ -137,13 +137,13 @@ module _ (book : State) (sheet : ℕ) (there : sheet < length book.sheets) (side
       fit.whole fit.sizes
     where
       unformed_left : Rows k (code_said book sheet k) (by_form None)
-      unformed_left = by_code book sheet (λ code. Rows k code (by_form None)) tt tt tt tt tt tt tt k
+      unformed_left = by_code book sheet (λ code. Rows k code (by_form None)) tt tt tt tt tt tt tt tt k
 
       by_a : (a : Area) → Lies book.sheets a → mismatch_of k (by_form (Some a)) (right_of book sheet k) ≡ [] → lacks book sheet (by_form (Some a)) (code_said book sheet k) (right_of book sheet k) ≡ false
           → Rows k (code_said book sheet k) (by_form (Some a))
       by_a a lies fits =
           by_code book sheet (λ code. lacks book sheet (by_form (Some a)) code (right_of book sheet k) ≡ false → Rows k code (by_form (Some a))) (λ whole. absurd cc) (λ whole. tt)
-          (λ some. rows_related k has fit a lies fits some AtMost) (λ some. rows_related k has fit a lies fits some Equal) (λ some. rows_related k has fit a lies fits some AtLeast) (λ whole. tt) (λ whole. tt) k
+          (λ some. rows_related k has fit a lies fits some AtMost) (λ some. rows_related k has fit a lies fits some Equal) (λ some. rows_related k has fit a lies fits some AtLeast) (λ whole. tt) (λ whole. tt) (λ whole. tt) k
 
   all_there : (ks : List ℕ) → AllByRecursion (HasSide book sheet sides) ks → AllByRecursion (IsFit book sheet) ks → AllByRecursion (IsRow book.sheets sides) (all_rows (map (constraint book sheet) ks))
   all_there [] has fit = tt

@@ -56,10 +56,10 @@ said_cases {A} form P nothing other says (Some text) = by (form text) (says text
     by (Some a) all = all a refl
 
 -- ---- codes
-code_cases : (P : Option Code → Type 0) → P None → P (code_of 1) → P (code_of 2) → P (code_of 3) → P (code_of 4) → P (code_of 5) → (n : ℕ) → P (code_of n)
-code_cases P none a b c d e n =
+code_cases : (P : Option Code → Type 0) → P None → P (code_of 1) → P (code_of 2) → P (code_of 3) → P (code_of 4) → P (code_of 5) → P (code_of 6) → (n : ℕ) → P (code_of n)
+code_cases P none a b c d e f n =
     test 1 a
-    (λ one. test 2 b (λ two. test 3 c (λ three. test 4 d (λ four. test 5 e (λ five. rw (one, two, three, four, five) none)))))
+    (λ one. test 2 b (λ two. test 3 c (λ three. test 4 d (λ four. test 5 e (λ five. test 6 f (λ six. rw (one, two, three, four, five, six) none))))))
   where
     test : (m : ℕ) → P (code_of m) → ((n == m) ≡ false → P (code_of n)) → P (code_of n)
     test m here other = by (n == m) refl
@@ -69,7 +69,7 @@ code_cases P none a b c d e n =
         by false is = other is
 
 code_read : (P : Option Code → Type 0) → P None → ((n : ℕ) → P (code_of n)) → (text : List ℕ) → P (code_in text)
-code_read P none all text = by (whole_in 1 5 text)
+code_read P none all text = by (whole_in 1 6 text)
   where
     by : (o : Option ℕ) → P (option_and_then code_of o)
     by None = none
@@ -78,12 +78,12 @@ code_read P none all text = by (whole_in 1 5 text)
 module _ (book : State) (sheet : ℕ) where
   -- the code of a constraint
   pub by_code : (P : Said Code → Type 0) → P (absent code_in) → P (by_form None) → P (by_form (code_of 1)) → P (by_form (code_of 2)) → P (by_form (code_of 3)) → P (by_form (code_of 4)) → P (by_form (code_of 5))
-      → (k : ℕ) → P (code_said book sheet k)
-  by_code P nothing other a b c d e k = by (text_of book.names (Some sheet) (codes "solver_rel" ++ decimal k))
+      → P (by_form (code_of 6)) → (k : ℕ) → P (code_said book sheet k)
+  by_code P nothing other a b c d e f k = by (text_of book.names (Some sheet) (codes "solver_rel" ++ decimal k))
     where
       by : (text : Option (List ℕ)) → P (said_by code_in text)
       by None = nothing
-      by (Some text) = code_read (λ o. P (by_form o)) other (code_cases (λ o. P (by_form o)) other a b c d e) text
+      by (Some text) = code_read (λ o. P (by_form o)) other (code_cases (λ o. P (by_form o)) other a b c d e f) text
 
   module _ (there : sheet < length book.sheets) where
     pub text_lies : (text : List ℕ) (a : Area) → area_on book sheet text ≡ Some a → Lies book.sheets a

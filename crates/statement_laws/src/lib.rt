@@ -1,12 +1,14 @@
 //! What holds of every statement that the names of a sheet make. This crate has the definitions and their laws.
 #![tactic(auto)]
 
-ghost use Rattle.statement_laws.specs.Laws.{FaultsAreListed, StatementsAreWhole};
+ghost use Rattle.statement_laws.specs.Laws.{FaultsAreListed, GroupsAreLeftSides, StatementsAreWhole};
 ghost use Rattle.statement_laws.specs.Limits.{LimitsOfNamesAre};
 
-/// Each cell that a statement names lies on one of the sheets, each to be decided once, and each side is there.
+/// Each cell that a statement names lies on one of the sheets, each to be decided once, and each side is there. Cells that are to be
+/// different are to be decided, each stands once in its group, and the groups are the left sides that ask for it.
 pub fn statement_laws()
     ensures whole { StatementsAreWhole }
+    ensures groups { GroupsAreLeftSides }
     ensures faults { FaultsAreListed }
 {}
 

@@ -108,7 +108,11 @@ const CASES: &[(&str, &str)] = &[
     ),
     (
         "plan,solver_adj,A1\nplan,solver_num,1\nplan,solver_lhs1,A1\nplan,solver_rel1,6\n",
-        "4 1 6",
+        "decide 0.0.0 greatest; different 0",
+    ),
+    (
+        "plan,solver_adj,A1\nplan,solver_num,1\nplan,solver_lhs1,A1\nplan,solver_rel1,7\n",
+        "4 1 7",
     ),
     (
         "plan,solver_adj,A1\nplan,solver_num,2\nplan,solver_lhs1,A1\nplan,solver_rel1,4\nplan,solver_lhs2,A1\nplan,solver_rel2,0\n",
@@ -132,7 +136,7 @@ const CASES: &[(&str, &str)] = &[
     ),
     (
         "plan,solver_adj,A1\nplan,solver_num,1\nplan,solver_lhs1,A1\nplan,solver_rel1,6\nplan,solver_rhs1,=nothing\n",
-        "4 1 6",
+        "decide 0.0.0 greatest; different 0",
     ),
     (
         "plan,solver_adj,A1\nplan,solver_num,1\nplan,solver_lhs1,A1:A3\nplan,solver_rel1,1\nplan,solver_rhs1,B1:B2\n",
@@ -165,6 +169,14 @@ const CASES: &[(&str, &str)] = &[
     (
         "plan,solver_adj,A1:A2\nplan,solver_num,1\nplan,solver_lhs1,A2:B2\nplan,solver_rel1,4\n",
         "6 1 0.1.1",
+    ),
+    (
+        "plan,solver_adj,A1:A2\nplan,solver_num,1\nplan,solver_lhs1,A2:B2\nplan,solver_rel1,6\n",
+        "6 1 0.1.1",
+    ),
+    (
+        "plan,solver_adj,\"C1,A1:B1\"\nplan,solver_num,2\nplan,solver_lhs1,A1:C1\nplan,solver_rel1,6\nplan,solver_lhs2,B1:C1\nplan,solver_rel2,6\n",
+        "decide 0.0.2 0.0.0 0.0.1 greatest; different 1 2 0; different 2 0",
     ),
     (
         "plan,solver_adj,A1:A2\nplan,solver_num,1\nplan,solver_lhs1,'other;two'!A1\nplan,solver_rel1,5\n",

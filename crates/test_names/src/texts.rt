@@ -73,6 +73,9 @@ pub(crate) fn tell_statement(s: &Statement, to: &mut String) -> Result<(), Memor
     tell_numbers("; whole", &s.whole, to)?;
     tell_numbers("; binary", &s.binary, to)?;
     tell_numbers("; explicit", &s.explicit, to)?;
+    for group in &s.different {
+        tell_numbers("; different", group, to)?;
+    }
     if !s.not_negative {
         to.push_str("; free")?;
     }
