@@ -1,3 +1,4 @@
 pub mod Cells
 pub mod Lines
+pub mod Groups
 pub mod Ended

@@ -1,4 +1,5 @@
--- The lines by which a linear model is printed: the objective, the rows that are no bounds, and the cells to be decided.
+-- The lines by which a linear model is printed: the objective, the rows that are no bounds, the cells to be decided, and those that
+-- are to be different.
 use Rattle.std.specs.Prelude.{ℕ, Bool, true, false, List, [], ◌∷◌, ◌++◌, map, Option, Some, None, option_map, codes, decimal, slice_get, unwrap_or}
 use Rattle.std.specs.List.{join_with_byte}
 use Rattle.fractions.specs.Rational.{ℚ}
@@ -10,13 +11,14 @@ use Rattle.linear_models.specs.Box.{Box}
 use Rattle.model_lines.specs.Cells.{cell_with_sheet}
 
 -- a linear model as it is printed: the cells to be decided, the objective where there is one, the rows that are no bounds with
--- their numbers, which decisions are to be whole, and the bounds
+-- their numbers, which decisions are to be whole, the bounds, and lists of decisions that are to be different
 pub record ModelLines : Type 0 where
   pub decisions : List Cell
   pub aim : Option (Goal × AffineForm)
   pub rows : List (ℕ × (AffineForm × Relation))
   pub whole : List Bool
   pub bounds : Box
+  pub groups : List (List ℕ)
 
 -- ---- forms
 -- the cell of a decision
@@ -68,13 +70,22 @@ abbrev pub cell_lines : List (List ℕ) → List Cell → List Bool → List (Op
 cell_lines sheets (c ∷ cells) (w ∷ marks) (l ∷ lows) (h ∷ highs) = cell_line sheets c w l h ∷ cell_lines sheets cells marks lows highs
 cell_lines sheets _ _ _ _ = []
 
+-- the cells of a group in their order
+abbrev pub members_text : List (List ℕ) → List Cell → List ℕ → List ℕ
+members_text sheets decisions [] = []
+members_text sheets decisions (j ∷ group) = codes " " ++ (decision_text sheets decisions j ++ members_text sheets decisions group)
+
+abbrev pub group_line : List (List ℕ) → List Cell → List ℕ → List ℕ
+group_line sheets decisions group = codes "different" ++ members_text sheets decisions group
+
 -- all lines, without their ends
 abbrev pub lines_of : List (List ℕ) → ModelLines → List (List ℕ)
 lines_of sheets m =
     aim_line sheets m.decisions m.aim
     ∷ (map (row_line sheets m.decisions) m.rows
     ++ (cell_lines sheets m.decisions m.whole m.bounds.least m.bounds.greatest
-    ++ codes "end" ∷ []))
+    ++ (map (group_line sheets m.decisions) m.groups
+    ++ codes "end" ∷ [])))
 
 -- with line ends between them
 abbrev pub model_text : List (List ℕ) → ModelLines → List ℕ

@@ -1,6 +1,8 @@
 //! A linear model as it is printed, and its lines.
 #![tactic(auto)]
 
+mod decisions;
+mod groups;
 mod lines;
 mod print;
 

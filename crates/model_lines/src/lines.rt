@@ -2,6 +2,7 @@
 ghost use Rattle.std.specs.Prelude.{◌≡◌, ◌++◌, All, OnOk, length, option_map, string_bytes, zip};
 ghost use Rattle.affine_forms.specs.Assigned.{ReachTo};
 ghost use Rattle.lin_model.specs.Kinds.{goal_of};
+ghost use Rattle.model_lines.specs.Groups.{AreGroups, groups_of};
 ghost use Rattle.model_lines.specs.Lines.{model_text};
 ghost use Rattle.workbook.specs.Listed.{IsListed};
 
@@ -13,8 +14,8 @@ use memory::Memory;
 use std::marker::Model;
 use workbook::Adj;
 
-/// The cells to be decided, the objective where there is one, the numbers of the rows that are no bounds, and the model. A row of
-/// the model without a number isn't printed.
+/// The cells to be decided, the objective where there is one, the numbers of the rows that are no bounds, the model, and the
+/// numbers of decisions that are to be different, group by group. A row of the model without a number isn't printed.
 #[derive(Drop)]
 pub struct ModelLines {
     adj: Adj,
@@ -22,12 +23,14 @@ pub struct ModelLines {
     objective: Form,
     numbers: Vec<u16>,
     model: LinModel,
+    groups: Vec<Vec<u16>>,
 }
 
 impl Model for ModelLines {
     ghost use Rattle.std.specs.Prelude.{◌≡◌, length, option_map, zip};
     ghost use Rattle.affine_forms.specs.Assigned.{ReachTo};
     ghost use Rattle.lin_model.specs.Kinds.{goal_of};
+    ghost use Rattle.model_lines.specs.Groups.{AreGroups, groups_of};
     ghost use Rattle.model_lines.specs.Lines.{ModelLines};
 
     ghost Value = { ModelLines };
@@ -38,10 +41,12 @@ impl Model for ModelLines {
       rows = zip m.numbers.items m.model.rows;
       whole = m.model.whole;
       bounds = m.model.bounds;
+      groups = groups_of m.groups.items;
     } };
 
     ghost invariant = { λ m. (length m.adj ≡ length m.model.whole)
-        × ReachTo m.objective.terms (length m.adj) };
+        × ReachTo m.objective.terms (length m.adj)
+        × AreGroups (length m.adj) (groups_of m.groups.items) };
 }
 
 impl ModelLines {
@@ -52,15 +57,18 @@ impl ModelLines {
         objective: Form,
         numbers: Vec<u16>,
         model: LinModel,
+        groups: Vec<Vec<u16>>,
     ) -> ModelLines
         requires marks { length adj ≡ length model.whole }
         requires reach { ReachTo objective.terms (length adj) }
+        requires groups { AreGroups (length adj) (groups_of groups.items) }
         ensures { result ≡ record {
           decisions = adj;
           aim = option_map (λ g. (goal_of g, objective)) goal;
           rows = zip numbers.items model.rows;
           whole = model.whole;
           bounds = model.bounds;
+          groups = groups_of groups.items;
         } }
     {
         ModelLines {
@@ -69,6 +77,7 @@ impl ModelLines {
             objective,
             numbers,
             model,
+            groups,
         }
     }
 
@@ -84,6 +93,7 @@ impl ModelLines {
             &self.objective,
             &self.numbers,
             &self.model,
+            &self.groups,
             cells,
             sheets,
             to,

@@ -1,15 +1,17 @@
 // The lines of a model.
-ghost use Rattle.std.specs.Prelude.{◌≡◌, ◌<◌, ◌++◌, [], ◌∷◌, All, OnOk, decimal, length, map, option_map, string_bytes, zip};
+ghost use Rattle.std.specs.Prelude.{◌≡◌, ◌++◌, [], ◌∷◌, All, OnOk, decimal, length, map, option_map, string_bytes, zip};
 ghost use Rattle.std.specs.List.{AllByRecursion};
 ghost use Rattle.affine_forms.specs.Assigned.{ReachTo};
 ghost use Rattle.lin_model.specs.Kinds.{goal_of, relation_of};
-ghost use Rattle.model_lines.specs.Cells.{cell_with_sheet};
 ghost use Rattle.model_lines.specs.Ended.{RowReaches, ended};
-ghost use Rattle.model_lines.specs.Lines.{aim_line, bound_text, cell_line, cell_lines, decision_text, form_text, goal_text, mark_text, model_text, relation_text, row_line, sum_text};
+ghost use Rattle.model_lines.specs.Groups.{AreGroups, groups_of};
+ghost use Rattle.model_lines.specs.Lines.{aim_line, bound_text, cell_line, cell_lines, form_text, goal_text, mark_text, model_text, relation_text, row_line, sum_text};
 ghost use Rattle.workbook.specs.Listed.{IsListed};
 
+use crate::decisions::{print_decision, print_listed};
+use crate::groups::print_groups;
 use affine_forms::Form;
-use cell_refs::{Cell, SheetNames, print_cell};
+use cell_refs::{Cell, SheetNames};
 use frac128::Frac;
 use itoa::Buffer;
 use lin_model::{FormRow, Goal, LinModel, Relation};
@@ -21,6 +23,7 @@ pub(crate) fn print_lines(
     objective: &Form,
     numbers: &[u16],
     model: &LinModel,
+    groups: &[Vec<u16>],
     cells: &[Cell],
     sheets: &SheetNames,
     to: &mut String,
@@ -28,6 +31,7 @@ pub(crate) fn print_lines(
     requires listed { All (IsListed sheets.now) cells.now }
     requires marks { length cells.now ≡ length model.now.whole }
     requires reach { ReachTo objective.now.terms (length cells.now) }
+    requires groups { AreGroups (length cells.now) (groups_of groups.now) }
     ensures { OnOk result (string_bytes to.new
         ≡ string_bytes to.old ++ model_text sheets.now (record {
           decisions = cells.now;
@@ -35,6 +39,7 @@ pub(crate) fn print_lines(
           rows = zip numbers.now model.now.rows;
           whole = model.now.whole;
           bounds = model.now.bounds;
+          groups = groups_of groups.now;
         })) }
 {
     let whole = model.whole();
@@ -43,37 +48,12 @@ pub(crate) fn print_lines(
     print_aim(goal, objective, cells, sheets, to)?;
     print_rows(numbers, rows, cells, sheets, to)?;
     print_cells(cells, whole, bounds.least(), bounds.greatest(), sheets, to)?;
+    print_groups(groups, cells, sheets, to)?;
     to.push_str("end")?;
     Ok(())
 }
 
 // ---- forms
-
-// Appends a cell with its sheet.
-#[tactic(auto, using(crate::proofs::Cells::cell_said))]
-fn print_listed(cell: &Cell, sheets: &SheetNames, to: &mut String) -> Result<(), Memory>
-    requires { IsListed sheets.now cell.now }
-    ensures { OnOk result (string_bytes to.new
-        ≡ string_bytes to.old ++ cell_with_sheet sheets.now cell.now) }
-{
-    print_cell(cell, sheets, to)
-}
-
-// Appends the cell of a decision.
-#[tactic(auto, using(crate::proofs::Cells::decision_is))]
-fn print_decision(
-    decision: u16,
-    cells: &[Cell],
-    sheets: &SheetNames,
-    to: &mut String,
-) -> Result<(), Memory>
-    requires listed { All (IsListed sheets.now) cells.now }
-    requires within { decision < length cells.now }
-    ensures { OnOk result (string_bytes to.new
-        ≡ string_bytes to.old ++ decision_text sheets.now cells.now decision) }
-{
-    print_listed(&cells[decision as usize], sheets, to)
-}
 
 // Appends terms and a constant.
 fn print_sum(

@@ -1,5 +1,7 @@
 -- What is printed of a model.
-use Rattle.std.proofs.Common.{◌≡◌, refl, sym, ap, subst, ◌∙◌, Option, Some, None, option_map, ℕ, length, map}
+use Rattle.std.proofs.Common.{◌≡◌, ◌<◌, refl, sym, ap, subst, ◌∙◌, Option, Some, None, option_map, ℕ, List, [], ◌∷◌, length, map}
+use Rattle.std.specs.List.{AllByRecursion}
+use Rattle.std.proofs.lemmas.List.Elements.{recursion_from_All}
 use Rattle.std.proofs.lemmas.List.FromFn.{length-map-range_with_len}
 use Rattle.std.proofs.lemmas.List.{length-map}
 use Rattle.optimality.specs.Problem.{Goal}
@@ -8,10 +10,11 @@ use Rattle.affine_forms.specs.Forms.{AffineForm}
 use Rattle.cell_refs.specs.declared.cell.Cell.{Cell}
 use Rattle.lin_model.specs.Kinds.{goal_of}
 use Rattle.lin_model.specs.declared.kinds.Goal.{Goal as Aim}
-use Rattle.linear_models.specs.Agreement.{Fits}
+use Rattle.linear_models.specs.Agreement.{Fits, IsGroupIn}
 use Rattle.linear_models.specs.Bounds.{is_marked}
 use Rattle.linear_models.specs.Conditions.{objective_where}
 use Rattle.linear_models.specs.Model.{Model}
+use Rattle.model_lines.specs.Groups.{AreGroups}
 use Rattle.workbook.specs.State.{State}
 use Rattle.solver_names.specs.Answers.{row_of}
 use Rattle.sheet_problems.specs.Forms.{condition_of, conditions_of}
@@ -19,6 +22,10 @@ use Rattle.sheet_problems.proofs.Fitting.{forms_fit}
 use Rattle.sheet_linear_model.specs.Answers.{prepared_of}
 use Rattle.sheet_linear_model.specs.Prepared.{IsPrepared, Prepared, rows_of}
 use Rattle.sheet_linear_model.specs.declared.prepared.Prepared.{Prepared as Declared}
+
+members_below : (n : ℕ) (groups : List (List ℕ)) → AllByRecursion (IsGroupIn n) groups → AreGroups n groups
+members_below n [] h = tt
+members_below n (g ∷ groups) h = (recursion_from_All (λ j. j < n) g h.0.below, members_below n groups h.1)
 
 module _ (book : State) (sheet : ℕ) (p : Prepared) (h : IsPrepared book sheet p) where
   -- the model has a mark for each decision
@@ -36,6 +43,10 @@ module _ (book : State) (sheet : ℕ) (p : Prepared) (h : IsPrepared book sheet 
       by : (o : Option Cell) → p.statement.objective ≡ o → ReachTo p.objective.terms (length p.statement.decisions)
       by None e = subst (λ (f : AffineForm). ReachTo f.terms (length p.statement.decisions)) (sym (h.forms.none e)) tt
       by (Some c) e = fits.1.objective p.objective (ap (λ (o : Option Cell). objective_where (option_map (λ (c : Cell). p.statement.goal) o) p.objective) e)
+
+  -- and so does each group
+  pub groups_are_decisions : AreGroups (length p.statement.decisions) p.statement.different
+  groups_are_decisions = members_below (length p.statement.decisions) p.statement.different (recursion_from_All (IsGroupIn (length p.statement.decisions)) p.statement.different fits.1.groups)
 
 -- there are two sides for each row
 pub sides_of_rows : (book : State) (sheet : ℕ) (of : Declared) → IsPrepared book sheet (prepared_of of) → length of.sides.items ≡ length of.statement.rows.items

@@ -16,8 +16,8 @@ row_numbers _ _ = []
 abbrev pub numbers_of : Prepared → List ℕ
 numbers_of p = row_numbers p.statement.rows (rows_of p.statement p.objective p.sides).rows
 
--- the cells to be decided, the objective, the rows of the model that stand for rows of the names, with their numbers, the marks and
--- the bounds
+-- the cells to be decided, the objective, the rows of the model that stand for rows of the names, with their numbers, the marks, the
+-- bounds and the decisions that are to be different
 abbrev pub lines_of : Prepared → ModelLines
 lines_of p = record {
   decisions = p.statement.decisions;
@@ -25,4 +25,5 @@ lines_of p = record {
   rows = zip (numbers_of p) p.model.rows;
   whole = p.model.whole;
   bounds = p.model.bounds;
+  groups = p.statement.different;
 }

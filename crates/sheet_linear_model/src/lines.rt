@@ -97,5 +97,6 @@ pub fn model_lines(alloc: Global, of: Prepared) -> Result<ModelLines, Memory>
         sides: _,
         model,
     } = of;
-    Ok(ModelLines::new(statement.adj, goal, objective, numbers, model))
+    let Statement { adj, different, .. } = statement;
+    Ok(ModelLines::new(adj, goal, objective, numbers, model, different))
 }

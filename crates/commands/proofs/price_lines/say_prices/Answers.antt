@@ -14,4 +14,5 @@ returns c =
     let rowed = string_bytes c.say_rows.new.to in
     let head = c.in_ok-push_str.ensures.bytes ∙ ap (λ (l : List ℕ). l ++ codes "\n") c.in_ok-say_best.ensures ∙ append_assoc old best (codes "\n") in
     let rows : rowed ≡ headed ++ ended (map price_line prices.rows.items) = cc (c.in_ok-say_rows.ensures, c.deref.ensures.value) in
-    put_together old headed rowed rowed _ best _ [] (codes "end") head rows (sym (append-nil rowed)) c.in_ok-push_str-2.ensures.bytes
+    let same = sym (append-nil rowed) in
+    put_together old headed rowed rowed rowed _ best _ [] [] (codes "end") head rows same same c.in_ok-push_str-2.ensures.bytes

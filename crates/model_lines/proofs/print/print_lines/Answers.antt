@@ -25,9 +25,10 @@ returns c =
     let aimed = string_bytes c.print_aim.new.to in
     let rowed = string_bytes c.print_rows.new.to in
     let celled = string_bytes c.print_cells.new.to in
+    let grouped = string_bytes c.print_groups.new.to in
     let least = c.least.ensures ∙ ap (λ (b : Box). b.least) c.bounds-bounds.ensures in
     let greatest = c.greatest.ensures ∙ ap (λ (b : Box). b.greatest) c.bounds-bounds.ensures in
     let rows_said : rowed ≡ aimed ++ ended (map (row_line sheets cells) (zip c.args.numbers.now m.rows)) =
     c.in_ok-print_rows.ensures ∙ ap (λ (rows : List (AffineForm × Relation)). aimed ++ ended (map (row_line sheets cells) (zip c.args.numbers.now rows))) c.rows-rows.ensures in
     let cells_said : celled ≡ rowed ++ ended (cell_lines sheets cells m.whole m.bounds.least m.bounds.greatest) = cc (c.in_ok-print_cells.ensures, c.whole-whole.ensures.whole, least, greatest) in
-    put_together (string_bytes c.args.to.now) aimed rowed celled _ _ _ _ (codes "end") c.in_ok-print_aim.ensures rows_said cells_said c.in_ok-push_str.ensures.bytes
+    put_together (string_bytes c.args.to.now) aimed rowed celled grouped _ _ _ _ _ (codes "end") c.in_ok-print_aim.ensures rows_said cells_said c.in_ok-print_groups.ensures c.in_ok-push_str.ensures.bytes
