@@ -13,9 +13,9 @@ use Rattle.affine_forms.specs.Forms.{AffineForm, negated_terms}
 use Rattle.affine_forms.specs.Steps.{merged, subtracted, with_constant}
 use Rattle.affine_forms.proofs.Exact.{exact-turned_into}
 use Rattle.linear_models.specs.Agreement.{IsOwn, IsStated, SidesReach}
-use Rattle.linear_models.specs.Bounds.{bounded, highest, is_marked, is_number, least_of, greatest_of, lows, lows_in, highs, highs_in, lowest, where_so, up, down}
+use Rattle.linear_models.specs.Bounds.{bounded, highest, is_marked, is_number, least_of, greatest_of, lows, lows_in, highs, highs_in, lowest, size_in, where_so, up, down}
 use Rattle.linear_models.specs.Linear.{form_or_zero, linear}
-use Rattle.linear_models.specs.Statement.{Constraint, Statement, is_in}
+use Rattle.linear_models.specs.Statement.{Constraint, Statement, is_grouped, is_in}
 use Rattle.linear_models.proofs.Agreement.{rows_of, reach_exact}
 use Rattle.linear_models.proofs.Sides.{row_exact, rows_exact}
 use Rattle.model_prices.proofs.Standards.{form_less, rows_less, model_less}
@@ -46,6 +46,7 @@ statement_more number d rs s = record {
   binary = s.binary;
   explicit = s.explicit;
   not_negative = s.not_negative;
+  groups = s.groups;
 }
 
 -- ---- it is a statement
@@ -77,6 +78,7 @@ more_is_stated number d rs s w = record {
   objective = w.objective;
   whole = w.whole;
   binary = w.binary;
+  groups = w.groups;
   goal = w.goal;
 }
 
@@ -189,13 +191,14 @@ linear_more n number place d rs s w h e =
       rows = rows_are m i;
       whole = (linear s).whole;
       bounds = record { least = map (λ j. least_is m j i) (range_with_len 0 s.decisions); greatest = map (λ j. greatest_is m j i) (range_with_len 0 s.decisions) };
+      groups = s.groups;
     }
   where
     rows_are : Moves place number d rs s.rows → (linear (statement_more number d rs s)).rows ≡ rows_less place d (linear s).rows
     rows_are m = rows_of (statement_more number d rs s) ∙ m.rows (reach_exact s.goal (form_or_zero s.objective)) ∙ ap (rows_less place d) (sym (rows_of s))
 
     least_is : Moves place number d rs s.rows → (j : ℕ) → least_of (statement_more number d rs s) j ≡ least_of s j
-    least_is m j = ap (λ xs. option_map (up (is_marked s j)) (highest (xs ++ (where_so (is_in j s.binary) zero_ℚ ++ where_so (s.not_negative && not (is_in j s.explicit)) zero_ℚ)))) (m.lows j)
+    least_is m j = ap (λ xs. option_map (up (is_marked s j)) (highest (xs ++ (where_so (is_in j s.binary) zero_ℚ ++ (where_so (s.not_negative && not (is_in j s.explicit)) zero_ℚ ++ where_so (is_grouped j s.groups) one_ℚ))))) (m.lows j)
 
     greatest_is : Moves place number d rs s.rows → (j : ℕ) → greatest_of (statement_more number d rs s) j ≡ greatest_of s j
-    greatest_is m j = ap (λ xs. option_map (down (is_marked s j)) (lowest (xs ++ where_so (is_in j s.binary) one_ℚ))) (m.highs j)
+    greatest_is m j = ap (λ xs. option_map (down (is_marked s j)) (lowest (xs ++ (where_so (is_in j s.binary) one_ℚ ++ flat_map (size_in j) s.groups)))) (m.highs j)

@@ -66,6 +66,8 @@ raised_is_stated book s number d objective forms goal h =
       whole = (same i).whole;
       binary = (same i).binary;
       not_negative = (same i).not_negative;
+      numbered = (same i).numbered;
+      different = (same i).different;
       objective = (same i).objective;
       goal = (same i).goal;
     }

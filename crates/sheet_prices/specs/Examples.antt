@@ -12,7 +12,7 @@ use Rattle.sheet_prices.specs.Raised.{row_raised}
 
 -- the cells to be decided are A2 and B2; which rows there are doesn't matter here
 abbrev pub stated : Statement
-stated = record { sheet = 0; decisions = decisions; objective = Some (cell 2 2); goal = greatest; rows = []; whole = []; binary = []; explicit = []; not_negative = true }
+stated = record { sheet = 0; decisions = decisions; objective = Some (cell 2 2); goal = greatest; rows = []; whole = []; binary = []; explicit = []; different = []; not_negative = true }
 
 -- C4 at most that place, the first row
 abbrev pub first_row : Place → RowOf

@@ -31,6 +31,8 @@ problem_raised book s number d = record {
   whole = (problem_in book s).whole;
   binary = (problem_in book s).binary;
   not_negative = (problem_in book s).not_negative;
+  numbered = (problem_in book s).numbered;
+  different = (problem_in book s).different;
   objective = (problem_in book s).objective;
   goal = (problem_in book s).goal;
 }

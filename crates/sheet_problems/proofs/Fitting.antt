@@ -1,16 +1,18 @@
 -- The forms of a sheet's statement fit its conditions.
 use Rattle.std.proofs.Common.{◌≡◌, ◌<◌, ◌≤◌, ◌+◌, ℕ, suc, Bool, true, false, cond, List, [], ◌∷◌, map, length, Option, Some, None, refl, sym, ap, subst, ◌∙◌, arith}
-use Rattle.std.specs.Prelude.{All, option_map}
+use Rattle.std.specs.Prelude.{All, option_map, slice_index}
 use Rattle.std.specs.List.{AllByRecursion, AllZip}
 use Rattle.std.specs.Option.{option_and_then}
 use Rattle.std.proofs.lemmas.List.Elements.{All-from_recursion}
+use Rattle.std.proofs.lemmas.Option.{slice_get-get_or}
 use Rattle.optimality.specs.Problem.{Goal, greatest}
 use Rattle.cell_refs.specs.declared.cell.Cell.{Cell}
 use Rattle.affine_forms.specs.Assigned.{ReachTo}
 use Rattle.affine_forms.specs.Forms.{AffineForm, decision_form}
 use Rattle.lin_model.specs.declared.kinds.Relation.{Relation}
-use Rattle.linear_models.specs.Agreement.{Fits, IsOwn, SidesReach}
+use Rattle.linear_models.specs.Agreement.{Fits, IsGroupIn, IsOwn, SidesReach}
 use Rattle.linear_models.specs.Conditions.{constraint_of, constraints, goal_or_greatest, objective_where}
+use Rattle.linear_models.specs.Statement.{IsOnce}
 use Rattle.recalculation.specs.Entries.{Book}
 use Rattle.workbook.specs.Kinds.{book_of}
 use Rattle.workbook.specs.declared.place.Place.{Place}
@@ -21,7 +23,8 @@ use Rattle.solver_names.specs.Faults.{all_rows, decisions_of, faults, first}
 use Rattle.solver_names.specs.Read.{Read, read_in}
 use Rattle.solver_names.specs.Sides.{sides_in}
 use Rattle.solver_names.specs.Statement.{RowOf, Statement}
-use Rattle.solver_names.specs.Stated.{numbered, numbers_from, stated}
+use Rattle.solver_names.specs.Stated.{different, numbered, numbers_from, stated}
+use Rattle.solver_names.proofs.GroupLaws.{AreDistinct, members_below, members_distinct}
 use Rattle.solver_names.proofs.NoFaults.{few_decisions, few_rows}
 use Rattle.solver_names.proofs.Faultless.{no_fault}
 use Rattle.sheet_problems.specs.Forms.{HasForm, HasForms, HasSides, condition_of, conditions_of, number_form}
@@ -52,6 +55,20 @@ numbers_below most n test (cell ∷ cells) h = by_mark (test cell) (numbers_belo
 
 all_below : (test : Cell → Bool) (cells : List Cell) → All (λ j. j < length cells) (numbers_from 0 test cells)
 all_below test cells = All-from_recursion (λ j. j < length cells) (numbers_from 0 test cells) (numbers_below (length cells) 0 test cells (omega arith))
+
+-- ---- groups
+once : (js : List ℕ) → AreDistinct ℕ js → IsOnce js
+once js own i k h l e = own i k (slice_index js k) (slice_get-get_or js i 0 h ∙ ap Some e) (slice_get-get_or js k 0 l)
+
+groups_in : (n : ℕ) (groups : List (List ℕ)) → AllByRecursion (AllByRecursion (λ j. j < n)) groups → AllByRecursion (AreDistinct ℕ) groups → AllByRecursion (IsGroupIn n) groups
+groups_in n [] below own = tt
+groups_in n (g ∷ groups) below own = (record { below = All-from_recursion (λ j. j < n) g below.0; once = once g own.0 }, groups_in n groups below.1 own.1)
+
+groups_fit : (r : Read) → first (faults r) ≡ None → All (IsGroupIn (length (decisions_of r))) (different r.constraints (decisions_of r))
+groups_fit r none =
+    let n = length (decisions_of r) in
+    let groups = different r.constraints (decisions_of r) in
+    All-from_recursion (IsGroupIn n) groups (groups_in n groups (members_below r none) (members_distinct r none))
 
 -- ---- rows
 module _ (book : Book) (sides : Sides) (decisions : List Cell) where
@@ -111,6 +128,7 @@ fits book sides sheet r objective rows none h =
         objective = λ f e. objective_reaches book sides s.decisions s.objective s.goal objective f h.objective e;
         whole = all_below _ s.decisions;
         binary = all_below _ s.decisions;
+        groups = groups_fit r none;
         goal = no_goal s.objective s.goal objective;
       },
     )

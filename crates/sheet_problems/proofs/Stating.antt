@@ -51,6 +51,8 @@ forms_state_the_problem book sides s objective rows goal h =
       whole = s.whole;
       binary = s.binary;
       not_negative = not_negative_in s;
+      numbered = s.different;
+      different = [];
       objective = objective_is book sides s s.objective s.goal objective h.objective i;
       goal = goal_is s.objective s.goal goal i;
     }

@@ -59,4 +59,5 @@ conditions_of s = record {
   binary = s.binary;
   explicit = s.explicit;
   not_negative = s.not_negative;
+  groups = s.different;
 }

@@ -24,7 +24,7 @@ row_of book sides s r = record {
 abbrev pub not_negative_in : Statement → List ℕ
 not_negative_in s = if s.not_negative then filter (λ j. not (is_in j s.explicit)) (range_with_len 0 (length s.decisions)) else []
 
--- what is stated, on a workbook with these sides
+-- what is stated, on a workbook with these sides: the cells of each constraint that asks for different ones hold the numbers from 1 on, each once
 abbrev pub problem_of : Book → Sides → Statement → Problem
 problem_of book sides s = record {
   decisions = length s.decisions;
@@ -32,6 +32,8 @@ problem_of book sides s = record {
   whole = s.whole;
   binary = s.binary;
   not_negative = not_negative_in s;
+  numbered = s.different;
+  different = [];
   objective = option_map (λ c. worth_at book sides s.decisions (place.Cell c)) s.objective;
   goal = s.goal;
 }

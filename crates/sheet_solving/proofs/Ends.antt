@@ -74,7 +74,7 @@ written_slices task before after s m o x v told same whole found w = by_end told
     best = best_of before s m x v same found.is_true
 
     by_end : (told : Answer) → Writes before s x v told after → Slices task before s m told o after
-    by_end (answer.Optimal value) w = (found.search, x, v, found.ends, is_solved before after s x w.1 v value whole.distinct best w.0)
+    by_end (answer.Optimal value) w = (found.search, x, v, found.ends, is_solved before after s x w.1 v value whole.distinct whole.members best w.0)
     by_end (answer.NoRoom cell) w = (found.search, x, v, found.ends, record { optimal = best.optimal; full = w.0 }, w.1)
     by_end _ w = absurd w
 

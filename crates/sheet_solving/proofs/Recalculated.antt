@@ -1,12 +1,16 @@
 -- The workbook into which an optimum is written, recalculated.
-use Rattle.std.proofs.Common.{◌≡◌, ◌∙◌, refl, ap, sym, arith, ℕ, zero, suc, List, [], ◌∷◌, length, map, Option, Some, None}
-use Rattle.std.specs.Prelude.{All, option_map, slice_get}
+use Rattle.std.proofs.Common.{◌≡◌, ◌∙◌, ◌<◌, refl, ap, sym, subst, arith, ℕ, zero, suc, List, [], ◌∷◌, length, map, Option, Some, None}
+use Rattle.std.specs.Prelude.{All, option_map, pos, slice_get, slice_index}
+use Rattle.std.specs.List.{AllByRecursion}
 use Rattle.std.specs.Option.{option_and_then}
-use Rattle.std.proofs.lemmas.List.Elements.{All-cons, All-head, All-nil, All-tail, All-weaker}
-use Rattle.fractions.specs.Rational.{ℚ}
+use Rattle.std.proofs.lemmas.List.Elements.{All-cons, All-from_recursion, All-get_or, All-head, All-nil, All-tail, All-weaker, recursion_from_All}
+use Rattle.std.proofs.lemmas.Option.{slice_get-get_or}
+use Rattle.fractions.specs.Rational.{ℚ, zero_ℚ}
 use Rattle.fractions.specs.Vectors.{at}
+use Rattle.fractions.specs.Whole.{whole_ℚ}
 use Rattle.cell_refs.specs.declared.cell.Cell.{Cell}
 use Rattle.optimality.specs.Problem.{Assignment, Goal, Row, greatest, least, reach}
+use Rattle.optimality.specs.Groups.{HoldsEachOnce, held_at}
 use Rattle.optimality.specs.Optimal.{Has, IsNotNegative, IsWhole, IsZeroOrOne, Meets, Permitted, Reaches}
 use Rattle.recalculation.specs.Entries.{no_overriding}
 use Rattle.workbook.specs.Kinds.{book_of}
@@ -21,7 +25,7 @@ use Rattle.sheet_problems.proofs.Numbers.{decision_is_its_number}
 use Rattle.write_back.specs.Writing.{AreDistinct, with_numbers}
 use Rattle.write_back.proofs.Contents.{own_place}
 use Rattle.sheet_solving.specs.Inner.{IsWritten, told_of}
-use Rattle.sheet_solving.specs.Solving.{DecisionHas, Holds, IsReached, IsSolved, MeetsAll, number_now}
+use Rattle.sheet_solving.specs.Solving.{DecisionHas, CellsHoldEachOnce, Holds, IsNumber, IsReached, IsSolved, MeetsAll, number_now}
 use Rattle.sheet_solving.proofs.Meaning.{IsBest}
 
 -- ---- lists
@@ -86,6 +90,34 @@ module _ (before after : State) (s : Statement) (numbers : Assignment) (is : IsW
           decision_is_its_number (book_of before) (sides_in before s.sheet) s.decisions c j (own_place s.decisions j c distinct e) numbers in
           (c, h.0, e, keeps_number (place.Cell c) ∙ (own ∙ ap Some (at_of numbers j h.0 h.1)), h.2)
 
+  -- what a decision cell has, its number has
+  has_decision : AreDistinct s.decisions → (P : ℚ → Type 0) (j : ℕ) → DecisionHas P after s j → P (at numbers j)
+  has_decision distinct P j h =
+      let own : worth_at (book_of before) (sides_in before s.sheet) s.decisions (place.Cell h.0) numbers ≡ Some (at numbers j) =
+      decision_is_its_number (book_of before) (sides_in before s.sheet) s.decisions h.0 j (own_place s.decisions j h.0 distinct h.2) numbers in
+      let now : Some h.1 ≡ Some (at numbers j) = sym h.3 ∙ keeps_number (place.Cell h.0) ∙ own in
+      let same : h.1 ≡ at numbers j = cc in
+      subst P same h.4
+
+  -- a group that holds its numbers, each once, under the numbers holds them in the workbook as it is now
+  group_holds : AreDistinct s.decisions → length numbers ≡ length s.decisions → (group : List ℕ) → All (λ j. j < length s.decisions) group → HoldsEachOnce numbers group → CellsHoldEachOnce after s group
+  group_holds distinct long group below h = record {
+    within = λ i l. let w = h.within i l in (w.0, w.1, w.2, there w.0 i l w.3);
+    each = λ n a b. let w = h.each n a b in (w.0, w.1, there n w.0 w.1 w.2);
+    once = λ i k n l m a b. h.once.apart i k l m (has_decision distinct (IsNumber n) (slice_index group i) a ∙ sym (has_decision distinct (IsNumber n) (slice_index group k) b));
+  }
+    where
+      there : (n i : ℕ) → i < length group → held_at numbers group i ≡ whole_ℚ (pos n) → DecisionHas (IsNumber n) after s (slice_index group i)
+      there n i l e =
+          decision_has distinct long (IsNumber n) (slice_index group i)
+          (held_at numbers group i, slice_get-get_or numbers (slice_index group i) zero_ℚ (let b : slice_index group i < length s.decisions = All-get_or (λ j. j < length s.decisions) group i 0 l below in omega (arith, b, long)), e)
+
+  groups_hold : AreDistinct s.decisions → length numbers ≡ length s.decisions → (groups : List (List ℕ)) → AllByRecursion (All (λ j. j < length s.decisions)) groups → AllByRecursion (HoldsEachOnce numbers) groups
+      → AllByRecursion (CellsHoldEachOnce after s) groups
+  groups_hold distinct long [] below h = tt
+  groups_hold distinct long (g ∷ groups) below h =
+      (group_holds distinct long g below.0 h.0, groups_hold distinct long groups below.1 h.1)
+
   -- a value that the objective reaches under the numbers it has in the workbook as it is now
   is_reached : (goal : Goal) (objective : Option Cell)
       → Reaches goal (option_map (λ c. worth_at (book_of before) (sides_in before s.sheet) s.decisions (place.Cell c)) objective) numbers → IsReached after s goal objective
@@ -95,23 +127,25 @@ module _ (before after : State) (s : Statement) (numbers : Assignment) (is : IsW
   is_reached (reach v) (Some c) h = keeps_number (place.Cell c) ∙ h
 
   -- so what is permitted holds in the workbook
-  meets_all : AreDistinct s.decisions → Permitted (problem_in before s) numbers → MeetsAll after s
-  meets_all distinct permitted = record {
+  meets_all : AreDistinct s.decisions → All (All (λ j. j < length s.decisions)) s.different → Permitted (problem_in before s) numbers → MeetsAll after s
+  meets_all distinct members permitted = record {
     rows = rows_hold s.rows permitted.rows;
     whole = All-weaker (Has IsWhole numbers) (DecisionHas IsWhole after s) (decision_has distinct permitted.one_each IsWhole) s.whole permitted.whole;
     binary = All-weaker (Has IsZeroOrOne numbers) (DecisionHas IsZeroOrOne after s) (decision_has distinct permitted.one_each IsZeroOrOne) s.binary permitted.binary;
+    numbered = All-from_recursion (CellsHoldEachOnce after s) s.different
+        (groups_hold distinct permitted.one_each s.different (recursion_from_All (All (λ j. j < length s.decisions)) s.different members) (recursion_from_All (HoldsEachOnce numbers) s.different permitted.numbered));
     reached = is_reached s.goal s.objective permitted.reached;
     not_negative =
         All-weaker (Has IsNotNegative numbers) (DecisionHas IsNotNegative after s) (decision_has distinct permitted.one_each IsNotNegative) (not_negative_in s) permitted.not_negative;
   }
 
   -- an optimum of the sheet that is written, with the objective's number
-  pub is_solved : (v : ℚ) (value : Option ℚ) → AreDistinct s.decisions → IsBest before s numbers v → value ≡ told_of s v → IsSolved before after s numbers value
-  is_solved v value distinct best told = record {
+  pub is_solved : (v : ℚ) (value : Option ℚ) → AreDistinct s.decisions → All (All (λ j. j < length s.decisions)) s.different → IsBest before s numbers v → value ≡ told_of s v → IsSolved before after s numbers value
+  is_solved v value distinct members best told = record {
     optimal = best.optimal;
     worth = best.worth ∙ sym told;
     room = is.room;
     written = is.written;
     recalculated = keeps;
-    meets = meets_all distinct best.optimal.permitted;
+    meets = meets_all distinct members best.optimal.permitted;
   }

@@ -1,7 +1,8 @@
 -- How a search over the model of a sheet ends, and what that means of the sheet.
-use Rattle.std.specs.Prelude.{◌≡◌, ◌<◌, ◌≤◌, ℕ, ℤ, Bool, List, All, length, map, Option, Some, None, slice_get, slice_index_or, ⊤}
+use Rattle.std.specs.Prelude.{◌≡◌, ◌<◌, ◌≤◌, ℕ, ℤ, Bool, List, All, length, map, Option, Some, None, slice_get, slice_index, slice_index_or, pos, ⊤}
 use Rattle.std.specs.Option.{option_and_then}
 use Rattle.fractions.specs.Rational.{ℚ}
+use Rattle.fractions.specs.Whole.{whole_ℚ}
 use Rattle.optimality.specs.Problem.{Assignment, Goal, greatest, least, reach}
 use Rattle.optimality.specs.Optimal.{IsNotNegative, IsWhole, IsZeroOrOne, Optimal, Infeasible, Stand, Unbounded, objective_at}
 use Rattle.cell_refs.specs.declared.cell.Cell.{Cell}
@@ -41,6 +42,16 @@ pub record Holds (book : State) (s : Statement) (r : RowOf) : Type 0 where
 abbrev pub DecisionHas : (ℚ → Type 0) → State → Statement → ℕ → Type 0
 DecisionHas P book s decision = (c : Cell) × (x : ℚ) × (slice_get s.decisions decision ≡ Some c) × (number_now book s (place.Cell c) ≡ Some x) × P x
 
+-- it is that number
+abbrev pub IsNumber : ℕ → ℚ → Type 0
+IsNumber n x = x ≡ whole_ℚ (pos n)
+
+-- the decision cells of a group hold whole numbers from 1 to as many as they are in the workbook as it is, each of these numbers, and none twice
+pub record CellsHoldEachOnce (book : State) (s : Statement) (group : List ℕ) : Type 0 where
+  pub within : (i : ℕ) → i < length group → (n : ℕ) × (1 ≤ n) × (n ≤ length group) × DecisionHas (IsNumber n) book s (slice_index group i)
+  pub each : (n : ℕ) → 1 ≤ n → n ≤ length group → (i : ℕ) × (i < length group) × DecisionHas (IsNumber n) book s (slice_index group i)
+  pub once : (i k n : ℕ) → i < length group → k < length group → DecisionHas (IsNumber n) book s (slice_index group i) → DecisionHas (IsNumber n) book s (slice_index group k) → i ≡ k
+
 -- where a value is to be reached, the objective is that value in the workbook as it is
 abbrev pub IsReached : State → Statement → Goal → Option Cell → Type 0
 IsReached book s greatest objective = ⊤
@@ -48,12 +59,13 @@ IsReached book s least objective = ⊤
 IsReached book s (reach v) None = ⊤
 IsReached book s (reach v) (Some c) = number_now book s (place.Cell c) ≡ Some v
 
--- every row, every mark and the wanted value holds in the workbook as it is
+-- every row, every mark, all cells that are to be different and the wanted value hold in the workbook as it is
 pub record MeetsAll (book : State) (s : Statement) : Type 0 where
   pub rows : All (Holds book s) s.rows
   pub whole : All (DecisionHas IsWhole book s) s.whole
   pub binary : All (DecisionHas IsZeroOrOne book s) s.binary
   pub not_negative : All (DecisionHas IsNotNegative book s) (not_negative_in s)
+  pub numbered : All (CellsHoldEachOnce book s) s.different
   pub reached : IsReached book s s.goal s.objective
 
 -- an optimal assignment was found and is written into the cells to be decided; recalculated, every cell and every right side is what

@@ -29,6 +29,7 @@ fn conditions(alloc: Global, goal: Goal, rows: &[Row]) -> Result<Conditions, Mem
         Vec::new(alloc),
         Vec::new(alloc),
         true,
+        Vec::new(alloc),
     ))
 }
 
