@@ -21,12 +21,21 @@ fn split(shown: &str) -> Result<TreeNode, Stop> {
     ))
 }
 
+// Two decisions of a group.
+fn clash(shown: &str) -> Result<TreeNode, Stop> {
+    let (one, other) = shown.split_once(' ').ok_or(Stop::Unread)?;
+    Ok(TreeNode::Clash(one.parse::<u16>()?, other.parse::<u16>()?))
+}
+
 fn node(alloc: Global, shown: &str) -> Result<TreeNode, Stop> {
     if let Some(multipliers) = shown.strip_prefix("best") {
         return Ok(TreeNode::Best(numbers(alloc, multipliers)?));
     }
     if let Some(multipliers) = shown.strip_prefix("empty") {
         return Ok(TreeNode::Empty(numbers(alloc, multipliers)?));
+    }
+    if let Some(decisions) = shown.strip_prefix("clash ") {
+        return clash(decisions);
     }
     split(shown.strip_prefix("split ").ok_or(Stop::Unread)?)
 }

@@ -1,6 +1,7 @@
 // Statements as texts: what is wanted, the objective, the rows with a semicolon between two, and the decisions that are whole, binary
 // and have a lower bound of their own, as `max 1 3 2: 0| 0 1 >= 3/2; | 0 1 1 <= 4: 0: 2: 0 1`. A form is its constant and the
-// coefficient of each decision. In front of a row stands the decision that its left side is.
+// coefficient of each decision. In front of a row stands the decision that its left side is. Behind a further colon may stand groups
+// of decisions that hold the numbers from 1 on, with a semicolon between two.
 
 use crate::numbers::{number, places};
 use crate::stop::Stop;
@@ -10,7 +11,7 @@ use lin_model::{Condition, Conditions, Goal, LinModel, Relation, linear};
 use std::alloc::Global;
 use std::mem::drop;
 
-// The texts of the parts of a statement: what is wanted, the objective, the rows and the three lists of decisions.
+// The texts of the parts of a statement: what is wanted, the objective, the rows, and the lists of decisions.
 #[derive(Clone, Copy)]
 struct Parts<'a> {
     wanted: &'a str,
@@ -19,13 +20,14 @@ struct Parts<'a> {
     marks: &'a str,
 }
 
-// What is wanted, and which decisions are whole, which binary, and which have a lower bound of their own.
+// What is wanted, and which decisions are whole, which binary, which have a lower bound of their own, and the groups.
 #[derive(Drop)]
 struct Marks {
     goal: Option<Goal>,
     whole: Vec<u16>,
     binary: Vec<u16>,
     explicit: Vec<u16>,
+    groups: Vec<Vec<u16>>,
 }
 
 // What a constant is multiplied with at place 0, and a coefficient at another.
@@ -118,18 +120,31 @@ fn parts_of(shown: &str) -> Result<Parts, Stop> {
     })
 }
 
+fn groups_of(alloc: Global, shown: &str) -> Result<Vec<Vec<u16>>, Stop> {
+    let mut groups = Vec::new(alloc);
+    for group in shown.split(';') {
+        if !group.trim().is_empty() {
+            groups.push(places(alloc, group)?)?;
+        }
+    }
+    Ok(groups)
+}
+
 fn marks_of(alloc: Global, of: &Parts) -> Result<Marks, Stop> {
     let goal = goal(of.wanted)?;
     let (whole, others) = of.marks.split_once(':').ok_or(Stop::Unread)?;
-    let (binary, explicit) = others.split_once(':').ok_or(Stop::Unread)?;
+    let (binary, others) = others.split_once(':').ok_or(Stop::Unread)?;
+    let (explicit, groups) = others.split_once(':').unwrap_or((others, ""));
     let whole = places(alloc, whole)?;
     let binary = places(alloc, binary)?;
     let explicit = places(alloc, explicit)?;
+    let groups = groups_of(alloc, groups)?;
     Ok(Marks {
         goal,
         whole,
         binary,
         explicit,
+        groups,
     })
 }
 
@@ -149,6 +164,7 @@ fn put_together(
         marks.binary,
         marks.explicit,
         true,
+        marks.groups,
     ))
 }
 
