@@ -29,7 +29,8 @@ from second_reading.run import outcome
 SECONDS = 60
 LINE = re.compile(
     rb'(ok|empty|number \S+|text ".*|logical (TRUE|FALSE)|error #\S+|optimal( \S+)?|infeasible|unbounded|begun|more \d+|stopped'
-    rb'|saved \d+|gen \d+ .*|usage: .*|limit [a-z]+ \d+|bad-input .*|refused [a-z]+.*|(max|min|reach) .*|none|row .*|cell .*|end)')
+    rb'|saved \d+|gen \d+ .*|usage: .*|limit [a-z]+ \d+|bad-input .*|refused [a-z]+.*|(max|min|reach) .*|none|row .*|cell .*'
+    rb'|different .*|end)')
 
 
 class Slow(Exception):

@@ -17,7 +17,7 @@ class Refused(Exception):
 
 @dataclass
 class Model:
-    """Decisions by number. Rows are a form and a relation."""
+    """Decisions by number. Rows are a form and a relation. The decisions of a group are to hold 1, 2, 3 and so on, each once."""
 
     goal: str
     value: object
@@ -26,6 +26,7 @@ class Model:
     whole: list
     lows: list
     highs: list
+    groups: list
 
 
 def side_form(entry):
@@ -63,8 +64,8 @@ class Building:
             self.row_numbers.append(None)
             objective = Form(ZERO, {})
         self.mark()
-        whole = [number in of.whole or number in of.binary for number in range(len(of.decisions))]
-        model = Model(of.goal, of.value if of.goal == 'reach' else None, objective, self.rows, whole, self.lows, self.highs)
+        value = of.value if of.goal == 'reach' else None
+        model = Model(of.goal, value, objective, self.rows, self.whole(), self.lows, self.highs, of.groups)
         return model, shown, self.row_numbers
 
     def add_row(self, number, left, relation, right):
@@ -90,15 +91,23 @@ class Building:
         high = self.highs[decision]
         self.highs[decision] = value if high is None else min(high, value)
 
+    def whole(self):
+        marks = self.of.whole.union(self.of.binary, *self.of.groups)
+        return [number in marks for number in range(len(self.of.decisions))]
+
     def mark(self):
         of = self.of
-        for decision in range(len(of.decisions)):
+        for group in of.groups:
+            for decision in group:
+                self.raise_low(decision, ONE)
+                self.lower_high(decision, ONE * len(group))
+        for decision, is_whole in enumerate(self.whole()):
             if decision in of.binary:
                 self.raise_low(decision, ZERO)
                 self.lower_high(decision, ONE)
             if of.not_negative and decision not in of.explicit:
                 self.raise_low(decision, ZERO)
-            if decision in of.whole or decision in of.binary:
+            if is_whole:
                 low, high = self.lows[decision], self.highs[decision]
                 self.lows[decision] = None if low is None else ONE * ceil(low)
                 self.highs[decision] = None if high is None else floor(high)

@@ -24,8 +24,8 @@ class Case:
         return self.random.choice(choices)
 
     def case(self):
-        kinds = [self.shows, self.models, self.values, self.forms, self.programs]
-        kind = self.random.choices(kinds, [20, 36, 18, 18, 8])[0]
+        kinds = [self.shows, self.models, self.values, self.forms, self.programs, self.orders]
+        kind = self.random.choices(kinds, [18, 32, 16, 16, 8, 10])[0]
         return kind()
 
     # Runs that show many formulas over the same values, and the forms of many over the same decision cells.
@@ -157,6 +157,60 @@ class Case:
         script = [['model', 'plan'], ['prices', 'plan'], ['solve', 'plan'], ['begin', 'plan'], ['slice', 'plan', '2'], ['slice', 'plan', '30'], ['save']]
         return self.files([sheet], script)
 
+    # Runs over decision cells in a few rows, many of them to be different from each other.
+    def orders(self):
+        self.sheets = ['plan']
+        height, width = self.pick((1, 2), (1, 3), (1, 3), (1, 4), (1, 5), (2, 2), (2, 2), (2, 3), (3, 2))
+        letters = 'ABCDE'[:width]
+        self.decisions = [(row, column) for row in range(height) for column in range(width)]
+        number = lambda: str(self.random.randint(-3, 6)) if self.chance(0.8) else self.pick('0.5', '2.5', '1/3', '-0.5')
+        sheet = [[self.pick('0', '1', '') for _ in range(width)] for _ in range(height)]
+        cells = [letter + str(row + 1) for row in range(height) for letter in letters]
+        for _ in range(4):
+            terms = ['%s*%s' % (number(), cell) for cell in self.random.sample(cells, self.random.randint(1, len(cells)))]
+            sheet.append(['=' + '+'.join(terms).replace('+-', '-'), str(self.random.randint(-2, 14))])
+        self.names = [['plan', 'solver_adj', self.pick('A1:%s%d' % (letters[-1], height), ','.join(reversed(cells)))]]
+        if self.chance(0.9):
+            self.names.append(['plan', 'solver_opt', 'A%d' % (height + 1)])
+        self.names += [['plan', 'solver_typ', self.pick('1', '1', '2', '2', '3')], ['plan', 'solver_val', self.pick('3', '6', '10')]]
+        if self.chance(0.2):
+            self.names.append(['plan', 'solver_neg', '2'])
+        constraints = self.groups(letters, height) + [self.limit(cells, height) for _ in range(self.pick(0, 0, 1, 1, 2))]
+        self.random.shuffle(constraints)
+        self.names.append(['plan', 'solver_num', str(len(constraints))])
+        for number, parts in enumerate(constraints, 1):
+            self.names += [['plan', 'solver_%s%d' % (part, number), text] for part, text in zip(('lhs', 'rel', 'rhs'), parts)]
+        return self.files([sheet], self.order_script(cells, height))
+
+    def groups(self, letters, height):
+        """Constraints of different cells: rows, columns, and other areas."""
+        rows = ['A%d:%s%d' % (row, letters[-1], row) for row in range(1, height + 1)]
+        columns = ['%s1:%s%d' % (letter, letter, height) for letter in letters]
+        areas = self.pick(rows, rows, rows + columns, columns, [self.random.choice(rows + columns)])
+        if self.chance(0.2):
+            areas = areas + [self.pick('A1', 'A1:B1', '%s1' % letters[-1], 'A1:%s%d' % (letters[-1], height), 'A%d' % (height + 1))]
+        return [(area, '6', self.pick('', 'different', 'A1')) for area in areas]
+
+    def limit(self, cells, height):
+        """A constraint of another kind."""
+        left = self.pick('A%d' % (height + self.random.randint(2, 4)), 'A%d:A%d' % (height + 2, height + 4), self.random.choice(cells))
+        code = self.pick('1', '1', '2', '3', '3', '4', '5')
+        if code in '45':
+            return self.random.choice(cells), code, ''
+        right = self.pick('B%d' % (height + 2), '2', '6', '3', '1.5', '8', self.random.choice(cells))
+        return left, code, right
+
+    def order_script(self, cells, height):
+        script = [['budget', self.pick('60', '150')], ['model', 'plan'], ['solve', 'plan']]
+        for _ in range(self.random.randint(2, 6)):
+            script.append(self.pick(
+                ['begin', 'plan'], ['slice', 'plan', self.pick('1', '3', '5', '20')], ['slice', 'plan', '1000'], ['solve', 'plan'],
+                ['set', 'plan!%s' % self.pick('B%d' % (height + 2), self.random.choice(cells)), self.pick('1', '4', '8')],
+                ['name', 'plan', 'solver_rel%s' % self.pick('1', '2'), self.pick('1', '3', '4', '6', '6')], ['model', 'plan'],
+                ['name', 'plan', 'solver_typ', self.pick('1', '2', '3')], ['prices', 'plan'], ['budget', self.pick('20', '1000')],
+            ))
+        return script + [['show', 'plan!%s' % cell] for cell in cells] + [['save']]
+
     def number(self):
         return self.pick('0', '1', '2', '3', '4', '5', '6', '7', '12', '-1', '-3', '0.5', '2.5', '1/3', '10', '100', '=7/3', '1E20', '')
 
@@ -199,18 +253,18 @@ class Case:
 
     def constraint(self, add, number, adj):
         left = self.pick('C3', 'C4', 'C3:C5', 'C5', 'A1', 'C3', adj, 'C4', '$C$2:$C$4')
-        code = self.pick('1', '1', '2', '3', '3', '4', '5')
-        if code in '45':
+        code = self.pick('1', '1', '2', '3', '3', '4', '5', '6')
+        if code in '456':
             left = self.pick(adj, 'A1', adj, 'A1', 'B1')
         if self.chance(0.03):
-            code = self.pick('6', '0', '', 'x', '1.0', '=1', '1.5', '"')
+            code = self.pick('7', '0', '', 'x', '1.0', '=1', '1.5', '"')
         right = self.pick('D3', 'D2:D4', 'D3:D5', '4', '6', '=7', '2.5', 'D2*2', '=C4+1', 'A1', '=SUM(D2:D3)', '-2', '10', '12', '3',
                           self.formulas.part(1), 'D1', 'integer', '3=3', 'rate', '= D2', '==D2', 'E5')
         if ':' in right and self.chance(0.8):
             left = 'C3:C5'
         add('lhs%d' % number, left)
         add('rel%d' % number, code)
-        if code not in '45' or self.chance(0.5):
+        if code not in '456' or self.chance(0.5):
             add('rhs%d' % number, right)
 
     def model_script(self):
@@ -249,7 +303,7 @@ class Case:
             ['name', sheet, 'solver_typ', self.pick('1', '2', '3')], ['name', sheet, 'solver_val', self.pick('1', '5')],
             ['name', sheet, 'solver_neg', self.pick('1', '2')], ['name', sheet, 'solver_num', self.pick('0', '1', '2')],
             ['unname', sheet, 'solver_opt'], ['name', sheet, 'solver_rhs1', self.pick('3', 'D3', 'D3:D5', 'C4')],
-            ['name', sheet, 'solver_rel1', self.pick('1', '2', '3', '4')], ['name', sheet, 'solver_adj', self.pick('A1', 'A1:B1', 'B1,A1')],
+            ['name', sheet, 'solver_rel1', self.pick('1', '2', '3', '4', '6')], ['name', sheet, 'solver_adj', self.pick('A1', 'A1:B1', 'B1,A1')],
         )
 
     # Words and bytes.

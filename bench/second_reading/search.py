@@ -32,6 +32,16 @@ def pick_oldest(waiting):
 PICKERS = {'depth': pick_depth, 'best': pick_best, 'oldest': pick_oldest}
 
 
+def first_alike(groups, point):
+    """Of the first group in which two decisions hold one number: the first that another one equals, and the next that equals it."""
+    for group in groups:
+        for first in sorted(group):
+            for other in sorted(group):
+                if first < other and point[first] == point[other]:
+                    return first, other
+    return None
+
+
 class Stuck(Exception):
     """A pivot that can't be made, at this path."""
 
@@ -103,15 +113,28 @@ class Search:
     def end_best(self, node, value):
         point = self.dictionary.point(self.columns, len(self.model.whole))
         broken = [number for number, whole in enumerate(self.model.whole) if whole and point[number].denominator != 1]
-        if not broken:
-            self.best = point, value
-            if self.is_flat:
-                self.answer = ('unbounded',)
-            elif not self.model.objective.terms and self.model.objective.base == 0:
-                self.answer = ('optimal',) + self.best
+        if broken:
+            self.split(node, value, broken[0], floor(point[broken[0]]))
             return
-        decision = broken[0]
-        low = floor(point[decision])
+        alike = first_alike(self.model.groups, point)
+        if alike:
+            self.part(node, value, alike, point[alike[0]])
+            return
+        self.best = point, value
+        if self.is_flat:
+            self.answer = ('unbounded',)
+        elif not self.model.objective.terms and self.model.objective.base == 0:
+            self.answer = ('optimal',) + self.best
+
+    def part(self, node, value, alike, number):
+        """Splits the node at one of two decisions that hold one number but are to be different; closes it where both are fixed."""
+        for decision in alike:
+            low, high = self.lows[decision], self.highs[decision]
+            if low != high:
+                self.split(node, value, decision, number - 1 if low < number else number)
+                return
+
+    def split(self, node, value, decision, low):
         for is_upper, bound in ((False, low), (True, low + 1)):
             path = node.path + [(decision, is_upper, bound)]
             self.waiting.append(Waiting(self.numbers, node.depth + 1, value, path))

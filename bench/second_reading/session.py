@@ -194,6 +194,8 @@ class Session:
             low, high = ('-' if bound is None else printed(bound) for bound in (model.lows[number], model.highs[number]))
             kind = 'integer' if model.whole[number] else 'continuous'
             lines.append('cell %s %s %s %s' % (self.cell(cell), kind, low, high))
+        for group in model.groups:
+            lines.append(' '.join(['different'] + [self.cell(of.decisions[number]) for number in group]))
         return '\n'.join(lines + ['end'])
 
     # Prices.

@@ -21,7 +21,7 @@ class NamesFault(Exception):
 
 @dataclass
 class Statement:
-    """Decision cells, objective, goal and rows (number, left cell, relation, right place); marks by decision cell."""
+    """Decision cells, objective, goal and rows (left cell, relation, right place); marks and groups by decision number."""
 
     decisions: list
     objective: tuple = None
@@ -32,6 +32,7 @@ class Statement:
     whole: set = field(default_factory=set)
     binary: set = field(default_factory=set)
     explicit: set = field(default_factory=set)
+    groups: list = field(default_factory=list)
     not_negative: bool = True
 
 
@@ -59,7 +60,7 @@ def number_of(text):
 
 def code_of(text):
     value = None if text is None else number_of(text)
-    return int(value) if value in (1, 2, 3, 4, 5) else None
+    return int(value) if value in (1, 2, 3, 4, 5, 6) else None
 
 
 def references(text, home, sheets):
@@ -182,7 +183,7 @@ class Reading:
     def counts(self, statement):
         decisions = set(statement.decisions)
         for one in self.constraints:
-            if one.code in (4, 5) and one.left:
+            if one.code in (4, 5, 6) and one.left:
                 other = next((cell for cell in cells_in(one.left) if cell not in decisions), None)
                 if other:
                     self.fault(6, (one.number,), '%d %s' % (one.number, Cell(other)))
@@ -196,8 +197,8 @@ class Reading:
         numbers = {cell: number for number, cell in enumerate(statement.decisions)}
         for one in self.constraints:
             lefts = cells_in(one.left)
-            if one.code in (4, 5):
-                (statement.whole if one.code == 4 else statement.binary).update(numbers[cell] for cell in lefts)
+            if not one.is_row:
+                self.add_marks(statement, one.code, [numbers[cell] for cell in lefts])
                 continue
             if one.side is not None:
                 statement.sides[one.number] = one.side
@@ -207,6 +208,12 @@ class Reading:
                 statement.rows.append((left, RELATIONS[one.code], right))
                 if one.code == 3 and left in numbers:
                     statement.explicit.add(numbers[left])
+
+    def add_marks(self, statement, code, numbers):
+        if code == 6:
+            statement.groups.append(numbers)
+        else:
+            (statement.whole if code == 4 else statement.binary).update(numbers)
 
 
 class Cell:
