@@ -9,7 +9,7 @@ A model in words has a line for each of these; blank lines and lines that begin 
     max D3                   or min D3, or reach 100 D3 (a model without such a line has no objective)
     change B2:C2, B8         the decision cells
     D4:D5 <= E4:E5           or = or >=; on the right a reference, a number or an expression
-    B2:C2 integer            or binary
+    B2:C2 integer            or binary, or different: all different, from 1 to as many as they are
     free                     decision cells may be negative
 
 Ends with 0, or with 1 and a line that names what is not understood.
@@ -20,11 +20,11 @@ import sys
 
 from sheet_files import NUMERAL, PARTS, REFERENCE, ending_in_a_line, names_by_sheet, write_records
 
-CODES = {"<=": "1", "=": "2", ">=": "3", "integer": "4", "binary": "5"}
+CODES = {"<=": "1", "=": "2", ">=": "3", "integer": "4", "binary": "5", "different": "6"}
 GOALS = {"max": "1", "min": "2", "reach": "3"}
 GOAL = re.compile(r"(?:(max|min)|reach\s+(\S+))\s+(\S.*)\Z")
 ROW = re.compile(r"(.+?)\s*(<=|>=|=)\s*(.+)\Z")
-WHOLE = re.compile(r"(.+?)\s+(integer|binary)\Z")
+MARK = re.compile(r"(.+?)\s+(integer|binary|different)\Z")
 
 
 def reference(text, line):
@@ -40,7 +40,7 @@ def aim(line, goal, value, cell):
 
 def constraint(line, number):
     """The names of a constraint's line, or the end of the script."""
-    found = WHOLE.match(line) or ROW.match(line) or sys.exit(f"not understood: {line}")
+    found = MARK.match(line) or ROW.match(line) or sys.exit(f"not understood: {line}")
     left, word, right = (*found.groups(), found[2])[:3]
     return [(f"solver_lhs{number}", reference(left, line)), (f"solver_rel{number}", CODES[word]), (f"solver_rhs{number}", right)]
 
@@ -98,7 +98,7 @@ def read(sheet, records):
         yield "change " + names["solver_adj"]
         for number in range(1, int(names.get("solver_num", "0")) + 1):
             word = words[names[f"solver_rel{number}"]]
-            right = "" if word in ("integer", "binary") else " " + names[f"solver_rhs{number}"]
+            right = "" if word in ("integer", "binary", "different") else " " + names[f"solver_rhs{number}"]
             yield f"{names[f'solver_lhs{number}']} {word}{right}"
         if names.get("solver_neg", "1") == "2":
             yield "free"

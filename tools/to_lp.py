@@ -6,7 +6,8 @@ usage: to_lp.py lp|mps < MODEL > TEXT
 MODEL is one answer to `model`. Every number of the text is exact: a row whose numbers have short decimals is written with these,
 and any other is multiplied by the least whole number that makes all its numbers whole, the objective too (a comment says by what).
 A constant of the objective is the coefficient of a variable `one` that is 1; `reach V` is a row. MPS texts ask for the least value,
-so an objective that is to be greatest has its signs turned there. Ends with 1 and a line where MODEL is no such answer.
+so an objective that is to be greatest has its signs turned there. Ends with 1 and a line where MODEL is no such answer, or has cells
+that are to be different, for which these texts have no line.
 """
 import re
 import sys
@@ -76,6 +77,8 @@ def take(model, line):
             model.rows.append(Row("reached", terms, "=", Fraction(found[2]) - constant))
             terms, constant = {}, Fraction(0)
         model.objective = Row("objective", terms, "", constant)
+    elif line.startswith("different "):
+        sys.exit(f"LP and MPS texts have no line for cells that are to be different: {line}")
     elif line != "end":
         raise ValueError(line)
 
