@@ -146,7 +146,8 @@ def texts_of_models(program):
             same(f"{name}.{kind}", read("models", f"{name}.{kind}"), tool("to_lp", kind, text=read("models", name + ".model")))
     tool("to_lp", "lp", text="infeasible\n", status=1)
     bakery = read("models", "bakery.model")
-    for text in (2 * bakery, bakery.replace("4*plan!C2 + 0", "4*plan!C2 + ? + 0"), bakery.replace("cell plan!C2 integer 0 -\n", "")):
+    slips = (("4*plan!C2 + 0", "4*plan!C2 + ? + 0"), ("cell plan!C2 integer 0 -\n", ""), ("end\n", "different plan!B2 plan!C2\nend\n"))
+    for text in (2 * bakery, *(bakery.replace(*slip) for slip in slips)):
         tool("to_lp", "mps", text=text, status=1)
 
 
