@@ -12,18 +12,15 @@ use solver_io::{Folder, ReadEnd};
 use std::alloc::Global;
 use workbook::{File, Workbook};
 
-/// Reads the names and then the sheets, and opens the workbook that they spell.
-pub(crate) fn open_files<F: Folder>(
-    alloc: Global,
-    named: &Named,
-    folder: &mut F,
-) -> Result<Workbook, End>
+/// Reads the names and then the sheets, and opens the workbook that they spell. No file is read where too many sheets are named.
+pub fn open_files<F: Folder>(alloc: Global, named: &Named, folder: &mut F) -> Result<Workbook, End>
     requires some { 0 < length named.now.sheets.items }
     requires sheets { All (λ w. is_sheet (string_bytes w) ≡ true) named.now.sheets.items }
     ensures many { SHEETS < length named.now.sheets.items
         → result ≡ Err (End.Stopped (Stop.TooMuch Limit.Sheets)) }
     ensures opens { IfSome (F.content folder.old)
         (λ files. OpensFiles (named_of named.now) files result) }
+    ensures count { IfOk result (λ book. length book.sheets ≡ length named.now.sheets.items) }
     ensures same { F.content folder.new ≡ F.content folder.old }
     ensures cause { EndCause (F.read_faults folder.old) (F.read_faults folder.new) result }
     ensures writes { F.write_faults folder.new ≡ F.write_faults folder.old }

@@ -7,6 +7,7 @@ mod script;
 mod status;
 mod stop;
 
+pub use files::open_files;
 pub use found::find;
 pub use status::Status;
 pub use stop::{Cause, End, Input, Limit, Stop};
