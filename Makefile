@@ -9,8 +9,8 @@ export WORKBOOK
 program = crates/opensolver
 built = $(program)/out/opensolver
 
-# The programs of the repository; optcheck counts once its crate is there.
-programs = opensolver $(notdir $(wildcard crates/optcheck))
+# The programs of the repository.
+programs = opensolver optcheck
 
 bin = $(DESTDIR)$(PREFIX)/bin
 man = $(DESTDIR)$(PREFIX)/share/man/man1
@@ -31,7 +31,7 @@ needs_build = test -x $(built) || { echo 'Nothing is built yet: make run proves 
 
 help:
 	@echo 'make try         compiles the program without any proof and runs a workbook: three to five minutes, each time'
-	@echo 'make run         proves the program, builds it and runs a workbook: long from nothing, then seconds'
+	@echo 'make run         proves both programs, builds them and runs a workbook: long from nothing, then seconds'
 	@echo 'make examples    runs the workbooks of examples/, the scripts of tools/ and the commands of the pages, and compares'
 	@echo 'make test        the gate: every proof, every edit that must be refused, every test and the run of the program'
 	@echo 'make install     copies what make run built, its manual page and its completion for bash below PREFIX'
@@ -40,9 +40,10 @@ help:
 	@echo 'try and run take WORKBOOK=FOLDER (now $(WORKBOOK)): names.csv, script.csv and a CSV file for each sheet.'
 	@echo 'install and uninstall take PREFIX=FOLDER (now $(PREFIX)) and DESTDIR=FOLDER; examples takes PYTHON=PROGRAM.'
 
-# Proves the program, builds it and runs the workbook's script.
+# Proves both programs, builds them, and runs the workbook's script and a check.
 run:
 	@$(call over_workbook,rt run)
+	@cd crates/optcheck && rt run -- --names "$$PWD/data/names.csv" --cert "$$PWD/data/cert.txt" "$$PWD/data/plan.csv"
 
 # The gate: every proof, every edit that must be refused, every test and the program's run.
 test:
@@ -66,9 +67,10 @@ install:
 	@for name in $(programs); do \
 	if test -x crates/$$name/out/$$name; then install -D crates/$$name/out/$$name "$(bin)/$$name" || exit 1; else echo "$$name is not built, so it is left out."; fi; done
 	install -D -m 644 share/opensolver.1 "$(man)/opensolver.1"
+	install -D -m 644 share/optcheck.1 "$(man)/optcheck.1"
 	install -D -m 644 share/opensolver.bash "$(completions)/opensolver"
 
 # Takes away what `make install` copied.
 uninstall:
 	@for name in $(programs); do rm -f "$(bin)/$$name"; done
-	rm -f "$(man)/opensolver.1" "$(completions)/opensolver"
+	rm -f "$(man)/opensolver.1" "$(man)/optcheck.1" "$(completions)/opensolver"

@@ -1,0 +1,7 @@
+mod Finding
+mod Printed
+mod Judging
+mod Values
+mod Running
+mod Exactly
+mod Examples

@@ -1,0 +1,13 @@
+pub mod Line
+pub mod Words
+pub mod Given
+pub mod Read
+pub mod Numbers
+pub mod Findings
+pub mod Verdicts
+pub mod Lines
+pub mod Outside
+pub mod Headline
+pub mod Completeness
+pub mod Exits
+pub mod Inner
