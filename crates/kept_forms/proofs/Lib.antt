@@ -1,0 +1,10 @@
+pub mod Added
+pub mod Begun
+pub mod FromExtract
+pub mod FromKeptTables
+pub mod FromTouchedPlaces
+pub mod Marked
+pub mod Once
+pub mod Placed
+pub mod Renewed
+pub mod Settled

@@ -1,0 +1,3 @@
+-- What the crates above name of kept_tables, handed on.
+pub use Rattle.kept_tables.specs.Settled.{AreRight, Parts, SheetForms, all_marked, decisions_of, expressions_of, marked_in}
+pub use Rattle.kept_tables.specs.Steps.{MakesFew}

@@ -1,0 +1,10 @@
+pub mod FromExtract
+pub mod FromExtractIncr
+pub mod FromKeptMarks
+pub mod FromKeptTables
+pub mod FromNeededCells
+pub mod FromSheetProblems
+pub mod FromTouchedPlaces
+pub mod Inner
+pub mod Settling
+pub mod Tables
