@@ -1,9 +1,11 @@
-pub mod Forms
-pub mod Steps
 pub mod Answers
 pub mod Assigned
-pub mod Relations
-pub mod Single
+pub mod Forms
+pub mod FromCalculations
+pub mod FromFrac128
+pub mod Laws
 pub mod Lists
 pub mod Points
-pub mod Laws
+pub mod Relations
+pub mod Single
+pub mod Steps

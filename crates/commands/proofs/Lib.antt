@@ -1,9 +1,10 @@
-pub mod Others
-pub mod Quotes
+mod Examples
+pub mod FromSheetProblems
 pub mod Marks
 pub mod Naming
+pub mod Numbers
+pub mod Others
+pub mod Quotes
 pub mod Saying
 pub mod Spelled
 pub mod Unspelled
-pub mod Numbers
-mod Examples

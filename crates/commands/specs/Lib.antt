@@ -1,9 +1,10 @@
-pub mod Commands
-pub mod Saved
 pub mod Addresses
+pub mod Commands
+pub mod FromSheetProblems
+pub mod Lines
 pub mod Locating
 pub mod Preceded
-pub mod Refusals
 pub mod Prices
-pub mod Lines
+pub mod Refusals
+pub mod Saved
 pub mod Spelling

@@ -29,7 +29,7 @@ use Rattle.form_extraction.specs.declared.forms.Why.TheVariants as why
 use Rattle.form_extraction.specs.Sources.{Source, items_seen, in_source, in_turned, taken, key_places, exchanged}
 use Rattle.form_extraction.specs.Calls.{unless_error, seen_before, picked_from, record_from, lookup_by, size_of, call_outcome}
 use Rattle.form_extraction.specs.Formulas.{call_part}
-use Rattle.form_parts.specs.Steps.{unread}
+use Rattle.form_calls.specs.FromFormParts.{unread}
 use Rattle.extract.specs.Unread.{table_place, unread_from, unread_at, is_place, read_at}
 
 -- what is no reference keeps its value

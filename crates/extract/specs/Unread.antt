@@ -3,7 +3,7 @@ use Rattle.std.specs.Prelude.{ℕ, zero, suc, Bool, false, ◌==◌, if◌then�
 use Rattle.formula_ast.specs.declared.func.Func.{Func}
 use Rattle.formula_ast.specs.declared.func.Func.TheVariants as func
 use Rattle.form_extraction.specs.Parts.{Part}
-use Rattle.form_parts.specs.Steps.{unread}
+use Rattle.form_calls.specs.FromFormParts.{unread}
 
 -- which argument of a function that is, counted from 0
 abbrev pub table_place : Func → Option ℕ

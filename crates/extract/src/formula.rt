@@ -7,10 +7,9 @@ ghost use Rattle.form_table.specs.Operators.{minus_form, percent_form};
 ghost use Rattle.extract.specs.Unread.{is_place, read_at, table_place, unread_at};
 
 use cell_refs::{ErrorKind, Op, Span};
-use form_calls::call_part;
-use form_parts::{
-    FormsOfCells, Part, array_part, infix_part, known_part, minus_part, percent_part, plus_part,
-    reference_part, table_part, unread,
+use form_calls::{
+    FormsOfCells, Part, array_part, call_part, infix_part, known_part, minus_part, percent_part,
+    plus_part, reference_part, table_part, unread,
 };
 use formula_ast::{Expr, Func, Node};
 use memory::Memory;

@@ -8,8 +8,8 @@ ghost use Rattle.extract.specs.Tables.{form_at};
 
 use crate::table::FormTable;
 use cell_refs::Cell;
+use form_calls::FormsOfCells;
 use form_extraction::CellForm;
-use form_parts::FormsOfCells;
 use form_values::{Abs, Open};
 use memory::Memory;
 use sheet_model::{Text, Value};

@@ -4,14 +4,14 @@ use Rattle.cell_refs.specs.declared.cell.Cell.{Cell}
 use Rattle.recalculation.specs.Entries.{Book}
 use Rattle.workbook.specs.declared.place.Place.{Place}
 use Rattle.workbook.specs.declared.place.Place.TheVariants as place
-use Rattle.form_extraction.specs.declared.forms.CellForm.{CellForm}
-use Rattle.form_extraction.specs.Places.{numbered_in}
+use Rattle.needed_forms.specs.FromFormExtraction.{CellForm}
+use Rattle.needed_forms.specs.FromFormExtraction.{numbered_in}
 use Rattle.kept_marks.specs.Marks.{AreForms, HasEntry, KeptForms}
 use Rattle.kept_marks.specs.Marks as marks
 use Rattle.kept_marks.proofs.Marked.{right_by_references_behind}
-use Rattle.touched_places.specs.Alike.{form_at as form_of_place}
-use Rattle.extract.specs.Tables.{form_at}
-use Rattle.sheet_problems.specs.Places.{tree_of}
+use Rattle.kept_marks.specs.FromTouchedPlaces.{form_at as form_of_place}
+use Rattle.needed_forms.specs.FromExtract.{form_at}
+use Rattle.needed_forms.specs.FromSheetProblems.{tree_of}
 use Rattle.extract_incr.specs.Keeping.{AreKept, Kept}
 use Rattle.extract_incr.specs.Laws.{EditsLeaveKept}
 

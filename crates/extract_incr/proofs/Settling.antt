@@ -21,17 +21,17 @@ use Rattle.recalculation.proofs.Lists.{both}
 use Rattle.workbook.specs.Contents.{tree_of as tree_of_entry}
 use Rattle.workbook.specs.declared.place.Place.{Place}
 use Rattle.workbook.specs.declared.place.Place.TheVariants as place
-use Rattle.form_extraction.specs.declared.forms.CellForm.{CellForm}
-use Rattle.form_extraction.specs.declared.forms.CellForm.TheVariants.{Circular}
-use Rattle.form_extraction.specs.Places.{decision_or, entry_form, form_of, formula_form, numbered_in}
-use Rattle.form_extraction.specs.Looked.{forms_of, LooksFrom, refers_to_circle, side_form}
-use Rattle.form_extraction.proofs.Agreeing.{form_is}
-use Rattle.form_extraction.proofs.Cells.{looked_is_referred}
-use Rattle.extract.specs.Places.{HasForms, IsTreeOf, is_in_circle, place_form}
-use Rattle.extract.specs.Tables.{Table, form_at, form_count, with_form}
-use Rattle.sheet_problems.specs.Forms.{form_at as form_of_place}
-use Rattle.sheet_problems.specs.Places.{Sides, tree_of}
-use Rattle.needed_cells.specs.Settled.{HasEntry}
+use Rattle.needed_forms.specs.FromFormExtraction.{CellForm}
+use Rattle.needed_forms.specs.FromFormExtraction.{Circular}
+use Rattle.needed_forms.specs.FromFormExtraction.{decision_or, entry_form, form_of, formula_form, numbered_in}
+use Rattle.needed_forms.specs.FromFormExtraction.{forms_of, LooksFrom, refers_to_circle, side_form}
+use Rattle.needed_forms.proofs.FromFormExtraction.{form_is}
+use Rattle.needed_forms.proofs.FromFormExtraction.{looked_is_referred}
+use Rattle.needed_forms.specs.FromExtract.{HasForms, IsTreeOf, is_in_circle, place_form}
+use Rattle.needed_forms.specs.FromExtract.{Table, form_at, form_count, with_form}
+use Rattle.needed_forms.specs.FromSheetProblems.{form_at as form_of_place}
+use Rattle.needed_forms.specs.FromSheetProblems.{Sides, tree_of}
+use Rattle.needed_forms.specs.FromNeededCells.{HasEntry}
 use Rattle.extract_incr.specs.Keeping.{AllAreKept, AreKept, HaveOwnNumbers, IsStale, Kept, count_to_make, entries_of, is_circular_place, is_circular_side, is_missing, stale_count}
 use Rattle.extract_incr.specs.Settling.{AreCircular, AreThere, Goes, IsThere, IsTreeIn, kept_in, leaf_in, left, unmade}
 use Rattle.extract_incr.proofs.Counting.{alike, among_numbers, count_append, count_filter, count_map, equal_numbers, equal_of, filter_differ, filter_has, first_true, found_at, keys_differ, no_more_pass, none_of_all, none_of_those, numbers_differ, one_fewer, one_passes, passes_one, passing, put_apart, put_has, put_holds, put_keeps, put_length, second_true, there_is}

@@ -21,12 +21,12 @@ use Rattle.column_strips.specs.Affected.{has_cell}
 use Rattle.dep_table.specs.Affected.{AreAffected}
 use Rattle.workbook.specs.declared.place.Place.{Place}
 use Rattle.workbook.specs.declared.place.Place.TheVariants as place
-use Rattle.touched_places.specs.Tests.{touches}
-use Rattle.touched_places.specs.Touched.{RefersToTouched}
-use Rattle.touched_places.proofs.Tested.{touches_what_is_touched}
+use Rattle.kept_marks.specs.FromTouchedPlaces.{touches}
+use Rattle.kept_marks.specs.FromTouchedPlaces.{RefersToTouched}
+use Rattle.kept_marks.proofs.FromTouchedPlaces.{touches_what_is_touched}
 use Rattle.kept_marks.specs.Marks.{without_marked}
-use Rattle.extract.specs.Tables.{Table, form_at, without}
-use Rattle.sheet_problems.specs.Places.{Sides, tree_of}
+use Rattle.needed_forms.specs.FromExtract.{Table, form_at, without}
+use Rattle.needed_forms.specs.FromSheetProblems.{Sides, tree_of}
 use Rattle.extract_incr.specs.Keeping.{HaveOwnNumbers}
 use Rattle.extract_incr.specs.Marking.{AreAreasOf, have_one, is_side_to}
 use Rattle.extract_incr.specs.declared.marking.SideAreas.{SideAreas}

@@ -7,13 +7,13 @@ use Rattle.recalculation.specs.Entries.{Book, entry}
 use Rattle.recalculation.specs.Walks.{is_circular, is_formula}
 use Rattle.workbook.specs.declared.place.Place.{Place}
 use Rattle.workbook.specs.declared.place.Place.TheVariants as place
-use Rattle.form_extraction.specs.declared.forms.CellForm.{CellForm}
-use Rattle.form_extraction.specs.Looked.{refers_to_circle}
-use Rattle.form_extraction.specs.Places.{numbered_in}
-use Rattle.extract.specs.Tables.{Table, form_at}
-use Rattle.sheet_problems.specs.Places.{Sides, tree_of}
-use Rattle.form_needs.specs.Needed.{Asked}
-use Rattle.needed_cells.specs.Settled.{AreForms, HasEntry, IsSettled}
+use Rattle.needed_forms.specs.FromFormExtraction.{CellForm}
+use Rattle.needed_forms.specs.FromFormExtraction.{refers_to_circle}
+use Rattle.needed_forms.specs.FromFormExtraction.{numbered_in}
+use Rattle.needed_forms.specs.FromExtract.{Table, form_at}
+use Rattle.needed_forms.specs.FromSheetProblems.{Sides, tree_of}
+use Rattle.needed_forms.specs.FromFormNeeds.{Asked}
+use Rattle.needed_forms.specs.FromNeededCells.{AreForms, HasEntry, IsSettled}
 
 -- the cells to be decided, the sides, and the forms that are kept
 pub record Kept : Type 0 where

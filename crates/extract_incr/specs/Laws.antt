@@ -3,11 +3,11 @@ use Rattle.std.specs.Prelude.{◌≡◌, List, Contains}
 use Rattle.cell_refs.specs.declared.cell.Cell.{Cell}
 use Rattle.recalculation.specs.Entries.{Book}
 use Rattle.workbook.specs.declared.place.Place.{Place}
-use Rattle.form_extraction.specs.Places.{numbered_in}
-use Rattle.touched_places.specs.Alike.{DifferAt}
+use Rattle.needed_forms.specs.FromFormExtraction.{numbered_in}
+use Rattle.kept_marks.specs.FromTouchedPlaces.{DifferAt}
 use Rattle.kept_marks.specs.Marks.{marks_all, without_marked}
-use Rattle.extract.specs.Tables.{form_at}
-use Rattle.sheet_problems.specs.Places.{tree_of}
+use Rattle.needed_forms.specs.FromExtract.{form_at}
+use Rattle.needed_forms.specs.FromSheetProblems.{tree_of}
 use Rattle.extract_incr.specs.Keeping.{AreKept, Kept}
 
 -- of what was kept the forms of the marked places are gone, by the references behind the edits, and no others

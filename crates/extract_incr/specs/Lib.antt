@@ -1,4 +1,9 @@
+pub mod FromExtract
+pub mod FromFormExtraction
+pub mod FromKeptMarks
+pub mod FromNeededCells
+pub mod FromTouchedPlaces
 pub mod Keeping
-pub mod Settling
-pub mod Marking
 pub mod Laws
+pub mod Marking
+pub mod Settling

@@ -5,7 +5,7 @@ use Rattle.cell_refs.specs.Areas.{Area, within}
 use Rattle.cell_refs.specs.declared.cell.Cell.{Cell}
 use Rattle.formula_ast.specs.Measures.{references_of}
 use Rattle.formula_ast.specs.Tree.{Tree}
-use Rattle.sheet_problems.specs.Places.{Sides}
+use Rattle.needed_forms.specs.FromSheetProblems.{Sides}
 use Rattle.extract_incr.specs.declared.marking.SideAreas.{SideAreas}
 
 -- whether one of some areas has one of some cells

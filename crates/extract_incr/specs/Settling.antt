@@ -9,10 +9,10 @@ use Rattle.recalculation.specs.Entries.{Book, Formula, entry}
 use Rattle.recalculation.specs.Walks.{is_circular}
 use Rattle.workbook.specs.declared.place.Place.{Place}
 use Rattle.workbook.specs.declared.place.Place.TheVariants as place
-use Rattle.form_extraction.specs.Places.{numbered_in}
-use Rattle.extract.specs.Tables.{Table, form_at, form_count}
-use Rattle.sheet_problems.specs.Places.{Sides, tree_of}
-use Rattle.needed_cells.specs.Settled.{HasEntry}
+use Rattle.needed_forms.specs.FromFormExtraction.{numbered_in}
+use Rattle.needed_forms.specs.FromExtract.{Table, form_at, form_count}
+use Rattle.needed_forms.specs.FromSheetProblems.{Sides, tree_of}
+use Rattle.needed_forms.specs.FromNeededCells.{HasEntry}
 use Rattle.extract_incr.specs.Keeping.{AreKept, GrowsTo, Kept, count_to_make, stale_count}
 
 abbrev pub kept_in : List Cell → Sides → Table → Kept

@@ -2,7 +2,7 @@
 ghost use Rattle.std.specs.Prelude.{◌≡◌, IfOk};
 ghost use Rattle.std.specs.List.{list_any};
 ghost use Rattle.cell_refs.specs.Areas.{within};
-ghost use Rattle.form_extraction.specs.Looked.{refers_to_circle};
+ghost use Rattle.needed_forms.specs.FromFormExtraction.{refers_to_circle};
 ghost use Rattle.extract_incr.specs.Settling.{AreCircular, leaf_in};
 ghost use Rattle.workbook.specs.Kinds.{book_of};
 

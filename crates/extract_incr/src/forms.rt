@@ -1,14 +1,14 @@
 // Forms that are kept.
 ghost use Rattle.std.specs.Prelude.{◌≡◌, ◌≤◌, ◌+◌, All, IfOk, None, OnErr, option_map};
 ghost use Rattle.dep_table.specs.References.{AreReferencesOf};
-ghost use Rattle.extract.specs.Tables.{form_at, no_forms};
-ghost use Rattle.form_needs.specs.FirstRefusal.{IsRefusal};
+ghost use Rattle.needed_forms.specs.FromExtract.{form_at, no_forms};
+ghost use Rattle.needed_forms.specs.FromFormNeeds.{IsRefusal};
 ghost use Rattle.kept_marks.specs.Marks.{without_marked};
 ghost use Rattle.extract_incr.specs.Keeping.{AllAreKept, AreKept, GrowsTo, HaveOwnNumbers, asked_from, count_to_make, stale_count};
-ghost use Rattle.needed_cells.specs.Settled.{IsRoot};
+ghost use Rattle.needed_forms.specs.FromNeededCells.{IsRoot};
 ghost use Rattle.recalculation.specs.Entries.{Book};
-ghost use Rattle.sheet_problems.specs.Places.{tree_of};
-ghost use Rattle.touched_places.specs.Tests.{touches};
+ghost use Rattle.needed_forms.specs.FromSheetProblems.{tree_of};
+ghost use Rattle.kept_marks.specs.FromTouchedPlaces.{touches};
 ghost use Rattle.workbook.specs.Kinds.{book_of};
 ghost use Rattle.workbook.specs.declared.place.Place.{Place};
 
@@ -17,12 +17,9 @@ use crate::settle::settle;
 use cell_refs::Cell;
 use column_strips::Marks;
 use dep_table::Deps;
-use extract::{FormTable, Steps};
-use form_extraction::CellForm;
-use form_needs::FormRefusal;
 use formula_ast::Expr;
 use memory::Memory;
-use needed_forms::first_refusal;
+use needed_forms::{CellForm, FormRefusal, FormTable, Steps, first_refusal};
 use std::alloc::Global;
 use std::marker::Model;
 use std::sync::ledger::Ledger;
@@ -49,7 +46,7 @@ impl Model for Forms {
     ghost use Rattle.cell_refs.specs.declared.cell.Cell.{Cell};
     ghost use Rattle.formula_ast.specs.Code.{Mark, back, from_marks, to_marks};
     ghost use Rattle.formula_ast.specs.Tree.{Tree};
-    ghost use Rattle.form_extraction.specs.declared.forms.CellForm.{CellForm};
+    ghost use Rattle.needed_forms.specs.FromFormExtraction.{CellForm};
     ghost use Rattle.extract_incr.specs.Keeping.{HaveOwnNumbers, Kept};
     ghost use Rattle.extract_incr.specs.Marking.{AreAreasOf};
 

@@ -9,9 +9,8 @@ mod stale;
 
 ghost use Rattle.extract_incr.specs.Laws.{EditsLeaveKept};
 
-pub use extract::Steps;
-pub use form_needs::FormRefusal;
 pub use forms::Forms;
+pub use needed_forms::{FormRefusal, Steps};
 
 /// What is kept stays right while cells are edited, where each edited cell is marked that isn't to be decided.
 pub fn keeping_laws()

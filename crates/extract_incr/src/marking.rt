@@ -2,15 +2,15 @@
 ghost use Rattle.std.specs.Prelude.{◌≡◌, IfOk, None, if◌then◌else◌, ℕ};
 ghost use Rattle.cell_refs.specs.declared.cell.Cell.{Cell};
 ghost use Rattle.column_strips.specs.Affected.{has_cell};
-ghost use Rattle.extract.specs.Tables.{form_at, without};
+ghost use Rattle.needed_forms.specs.FromExtract.{form_at, without};
 ghost use Rattle.extract_incr.specs.Marking.{AreAreasOf, have_one, is_side_to};
 ghost use Rattle.workbook.specs.declared.place.Place.TheVariants as place;
 
 use crate::circles::is_any_within;
 use cell_refs::{Area, Cell};
-use extract::FormTable;
 use formula_ast::Expr;
 use memory::Memory;
+use needed_forms::FormTable;
 use std::alloc::Global;
 use workbook::Place;
 

@@ -1,18 +1,17 @@
 // The form of one stale place.
 ghost use Rattle.std.specs.Prelude.{◌≡◌, ◌<◌, ◌≤◌, ◌+◌, OnOk, IsSome, Some, false};
-ghost use Rattle.extract.specs.Places.{HasForms, is_in_circle};
-ghost use Rattle.extract.specs.Tables.{form_at};
-ghost use Rattle.form_extraction.specs.Places.{numbered_in};
+ghost use Rattle.needed_forms.specs.FromExtract.{HasForms, is_in_circle};
+ghost use Rattle.needed_forms.specs.FromExtract.{form_at};
+ghost use Rattle.needed_forms.specs.FromFormExtraction.{numbered_in};
 ghost use Rattle.extract_incr.specs.Keeping.{AreKept, HaveOwnNumbers, IsStale, is_circular_place};
 ghost use Rattle.extract_incr.specs.Settling.{Goes, IsTreeIn, kept_in, unmade};
-ghost use Rattle.sheet_problems.specs.Forms.{form_at as form_of_place};
+ghost use Rattle.needed_forms.specs.FromSheetProblems.{form_at as form_of_place};
 ghost use Rattle.workbook.specs.Kinds.{book_of};
 ghost use Rattle.workbook.specs.declared.place.Place.TheVariants as place;
 
-use extract::{FormTable, Steps, form_of};
-use form_extraction::CellForm;
 use formula_ast::Expr;
 use memory::Memory;
+use needed_forms::{CellForm, FormTable, Steps, form_of};
 use std::alloc::Global;
 use std::sync::ledger::Ledger;
 use workbook::{Adj, Place, Workbook};

@@ -9,7 +9,7 @@ use Rattle.form_table.specs.Choosing.{place_of}
 use Rattle.form_table.specs.Criteria.{if_same}
 use Rattle.form_table.specs.Lookups.{may_be_key}
 use Rattle.form_table.specs.CertainRecords.{Errors, same_error, end_at, error_there, error_behind, if_ends, search_error}
-use Rattle.form_truth.proofs.Sameness.{same_error_is}
+use Rattle.form_ops.proofs.FromFormTruth.{same_error_is}
 use Rattle.form_areas.specs.Agreed.{is_end, joined, agreed_behind}
 
 -- ---- three errors that are the same

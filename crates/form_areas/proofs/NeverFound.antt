@@ -14,7 +14,7 @@ use Rattle.form_values.specs.declared.abs.Abs.{Abs}
 use Rattle.form_values.specs.declared.abs.Abs.TheVariants.{Known}
 use Rattle.form_values.specs.Known.{is_known}
 use Rattle.form_table.specs.Lookups.{front, is_never_found}
-use Rattle.form_truth.proofs.Ended.{first_fails, first_passes}
+use Rattle.form_ops.proofs.FromFormTruth.{first_fails, first_passes}
 use Rattle.form_areas.specs.Kinds.{never_at, never_by}
 
 -- ---- a sorted search, which a value ends that passes the test

@@ -26,14 +26,14 @@ use Rattle.form_table.specs.Picks.{pick_form}
 use Rattle.form_table.specs.Table.{form_called, row_of}
 use Rattle.form_table.specs.Products.{transposed}
 use Rattle.form_table.specs.Wanted.{grid_of, number_of, value_of}
-use Rattle.form_truth.specs.Laws.{called_at}
-use Rattle.form_truth.specs.Picks.{IsPick, IsRecord, first_column}
-use Rattle.form_truth.specs.Products.{FactorsBend, PairBends}
-use Rattle.form_truth.proofs.Joining.{answers_right}
-use Rattle.form_truth.proofs.Finding.{across_is_right, lookup_is_right}
-use Rattle.form_truth.proofs.Matching.{found_is_right}
-use Rattle.form_truth.proofs.Picking.{index_is_right}
-use Rattle.form_truth.proofs.Rows.{mmult_is_right, sumproduct_is_right}
+use Rattle.form_ops.specs.FromFormTruth.{called_at}
+use Rattle.form_ops.specs.FromFormTruth.{IsPick, IsRecord, first_column}
+use Rattle.form_ops.specs.FromFormTruth.{FactorsBend, PairBends}
+use Rattle.form_ops.proofs.FromFormTruth.{answers_right}
+use Rattle.form_ops.proofs.FromFormTruth.{across_is_right, lookup_is_right}
+use Rattle.form_ops.proofs.FromFormTruth.{found_is_right}
+use Rattle.form_ops.proofs.FromFormTruth.{index_is_right}
+use Rattle.form_ops.proofs.FromFormTruth.{mmult_is_right, sumproduct_is_right}
 use Rattle.form_areas.specs.Truths.{IsFound, IsPicked, IsTrueAcross, IsTrueDown, IsTrueIndex, IsTrueLookup, IsTrueMatrixProduct, IsTrueProductSum}
 
 -- ---- products
@@ -46,8 +46,8 @@ two_true : (a b : AbsArg) (r : Result AbsArg OpRefusal) → list_all all_known (
 two_true a b r some_open h a' b' e =
     let same_a : a ≡ a' = cc in
     let same_b : b ≡ b' = cc in
-    subst (λ p. Rattle.form_truth.specs.Answered.IsAnswer (called_at func.MMult (a ∷ b ∷ [])) (a ∷ b ∷ []) (PairBends p b') r) same_a
-    (subst (λ q. Rattle.form_truth.specs.Answered.IsAnswer (called_at func.MMult (a ∷ b ∷ [])) (a ∷ b ∷ []) (PairBends a q) r) same_b
+    subst (λ p. Rattle.form_ops.specs.FromFormTruth.IsAnswer (called_at func.MMult (a ∷ b ∷ [])) (a ∷ b ∷ []) (PairBends p b') r) same_a
+    (subst (λ q. Rattle.form_ops.specs.FromFormTruth.IsAnswer (called_at func.MMult (a ∷ b ∷ [])) (a ∷ b ∷ []) (PairBends a q) r) same_b
     (answers_right (λ value args. PairBends a b) (called_at func.MMult (a ∷ b ∷ [])) (a ∷ b ∷ []) (form_called func.MMult (a ∷ b ∷ [])) r (mmult_is_right a b)
     (subst (λ t. Answers (if t then made known_arg (called func.MMult (map values_in (a ∷ b ∷ []))) else row_of func.MMult (a ∷ b ∷ [])) r) (sym some_open) h)))
 

@@ -20,11 +20,11 @@ use Rattle.form_values.specs.declared.refusal.OpRefusal.{OpRefusal}
 use Rattle.form_values.specs.declared.refusal.OpRefusal.TheVariants as refusal
 use Rattle.form_table.specs.Products.{transposed}
 use Rattle.form_table.specs.Wanted.{grid_of}
-use Rattle.form_truth.specs.Answered.{IsAnswer}
-use Rattle.form_truth.specs.Laws.{called_at}
-use Rattle.form_truth.specs.Picks.{first_column, read}
-use Rattle.form_truth.specs.Products.{FactorsBend, PairBends}
-use Rattle.form_truth.specs.Rows.{ArgumentVaries}
+use Rattle.form_ops.specs.FromFormTruth.{IsAnswer}
+use Rattle.form_ops.specs.FromFormTruth.{called_at}
+use Rattle.form_ops.specs.FromFormTruth.{first_column, read}
+use Rattle.form_ops.specs.FromFormTruth.{FactorsBend, PairBends}
+use Rattle.form_ops.specs.FromFormTruth.{ArgumentVaries}
 
 -- ---- products
 -- of SUMPRODUCT: where the answer is Break, the product of some first factors in one place isn't affine

@@ -9,7 +9,7 @@ use Rattle.form_values.specs.declared.abs.Abs.{Abs}
 use Rattle.form_table.specs.Table.{form_called}
 use Rattle.form_extraction.specs.Formulas.{call_part}
 use Rattle.form_extraction.specs.Parts.{Part, argument, on_parts, outcome_by}
-use Rattle.form_functions.specs.Whole.{is_whole}
+use Rattle.form_parts.specs.FromFormFunctions.{is_whole}
 
 pub whole_call : (forms : Cell → Option Abs) (at : Span) (f : Func) (ps : List Part) → is_whole f ≡ true
     → record { span = at; looks = all_looks (map argument ps); outcome = on_parts ps (λ args. outcome_by at ps (form_called f args)); reference = None } ≡ call_part forms at f ps

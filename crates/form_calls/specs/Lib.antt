@@ -1,4 +1,5 @@
-pub mod Steps
-pub mod Sources
-pub mod Lookups
 pub mod Criteria
+pub mod FromFormParts
+pub mod Lookups
+pub mod Sources
+pub mod Steps

@@ -15,3 +15,7 @@ mod sizes;
 mod source;
 
 pub use calls::call_part;
+pub use form_parts::{
+    FormsOfCells, Part, array_part, infix_part, known_part, minus_part, percent_part, plus_part,
+    reference_part, table_part, unread,
+};

@@ -1,2 +1,3 @@
+pub mod FromSheetProblems
 pub mod Numbers
 pub mod One

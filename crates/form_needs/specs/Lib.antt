@@ -1,3 +1,4 @@
-pub mod Needed
 pub mod FirstRefusal
+pub mod FromSheetProblems
 pub mod Laws
+pub mod Needed

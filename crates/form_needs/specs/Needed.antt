@@ -11,8 +11,8 @@ use Rattle.workbook.specs.declared.place.Place.{Place}
 use Rattle.workbook.specs.declared.place.Place.TheVariants as place
 use Rattle.form_extraction.specs.Looked.{LooksAt, LooksFrom, forms_of, refers_to_circle}
 use Rattle.form_extraction.specs.Places.{numbered_in}
-use Rattle.solver_names.specs.Sides.{sides_in}
-use Rattle.solver_names.specs.Statement.{RowOf, Statement}
+use Rattle.sheet_problems.specs.FromSolverNames.{sides_in}
+use Rattle.sheet_problems.specs.FromSolverNames.{RowOf, Statement}
 use Rattle.sheet_problems.specs.Places.{Sides, tree_of}
 
 -- a workbook, the expressions of right sides, the decision cells, and the places from which a model is made

@@ -1,7 +1,8 @@
+pub mod FromFormTruth
 pub mod Operands
 pub mod Pairings
 pub mod Refusals
-pub mod Sides
 pub mod SeenLogicals
 pub mod SeenNumbers
+pub mod Sides
 pub mod Truths

@@ -3,7 +3,7 @@ use Rattle.std.proofs.Common.{refl}
 use Rattle.fractions.specs.Rational.{eq_ℚ, computed}
 use Rattle.fractions.specs.Floor.{floor_ℚ}
 use Rattle.fractions.specs.Power.{power_ℚ}
-use Rattle.frac128.specs.Narrow.{is_narrow, is_narrow_sum}
+use Rattle.affine_forms.specs.FromFrac128.{is_narrow, is_narrow_sum}
 use Rattle.form_table.specs.CertainExamples.{index_errors, no_choices}
 use Rattle.form_table.specs.CertainRecordExamples.{record_errors}
 use Rattle.form_table.specs.Examples.{Hold, operators, choices, functions, picks, records, choose, certain}

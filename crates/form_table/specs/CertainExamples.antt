@@ -5,7 +5,7 @@ use Rattle.fractions.specs.Rational.{zero_ℚ, one_ℚ}
 use Rattle.fractions.specs.Whole.{whole_ℚ}
 use Rattle.cell_refs.specs.declared.error_kind.ErrorKind.{ErrorKind}
 use Rattle.cell_refs.specs.declared.error_kind.ErrorKind.TheVariants as kind
-use Rattle.sheet_model.specs.declared.value.Value.TheVariants.{Error}
+use Rattle.form_values.specs.FromSheetModel.{Error}
 use Rattle.form_values.specs.Trials.{given}
 use Rattle.form_values.specs.declared.abs.Abs.{Abs}
 use Rattle.form_values.specs.declared.abs.Abs.TheVariants.{Known}

@@ -5,7 +5,7 @@ use Rattle.fractions.specs.Rational.{ℚ}
 use Rattle.fractions.specs.Floor.{floor_ℚ}
 use Rattle.cell_refs.specs.declared.error_kind.ErrorKind.{ErrorKind}
 use Rattle.cell_refs.specs.declared.error_kind.ErrorKind.TheVariants as kind
-use Rattle.sheet_model.specs.declared.value.Value.{Value}
+use Rattle.form_values.specs.FromSheetModel.{Value}
 use Rattle.sheet_funcs.specs.Lookups.{is_key, is_equal_to, is_greater_than, is_less_than}
 use Rattle.sheet_funcs.specs.declared.lookups.MatchKind.{MatchKind}
 use Rattle.sheet_funcs.specs.declared.lookups.MatchKind.TheVariants.{Equal, Rising, Falling}

@@ -3,11 +3,11 @@
 use Rattle.std.specs.Prelude.{ℕ, suc, ℤ, pos, Bool, true, false, ◌&&◌, ◌==◌, if◌then◌else◌, List, [], ◌∷◌, slice_get, Option, Some, None, Result, Ok, Err}
 use Rattle.fractions.specs.Rational.{ℚ, eq_ℚ}
 use Rattle.fractions.specs.Floor.{floor_ℚ}
-use Rattle.calculations.specs.Calculation.{Calculation, followed_by}
+use Rattle.affine_forms.specs.FromCalculations.{Calculation, followed_by}
 use Rattle.cell_refs.specs.declared.error_kind.ErrorKind.{ErrorKind}
 use Rattle.cell_refs.specs.declared.error_kind.ErrorKind.TheVariants as kind
-use Rattle.sheet_model.specs.declared.value.Value.{Value}
-use Rattle.sheet_model.specs.declared.value.Value.TheVariants.{Number, Text, Logical, Empty, Error}
+use Rattle.form_values.specs.FromSheetModel.{Value}
+use Rattle.form_values.specs.FromSheetModel.{Number, Text, Logical, Empty, Error}
 use Rattle.affine_forms.specs.Forms.{AffineForm, constant_form, same_form}
 use Rattle.affine_forms.specs.Steps.{subtracted, multiple_of}
 use Rattle.form_values.specs.Trials.{Trial, given, breaks, undecided, made, and_then}

@@ -3,8 +3,8 @@
 -- among the summed ones whatever these hold is the result.
 use Rattle.std.specs.Prelude.{ℕ, suc, ◌==◌, if◌then◌else◌, List, [], ◌∷◌, Option, Some, None}
 use Rattle.std.specs.List.{filter_map}
-use Rattle.sheet_model.specs.declared.value.Value.{Value}
-use Rattle.sheet_model.specs.declared.value.Value.TheVariants.{Number}
+use Rattle.form_values.specs.FromSheetModel.{Value}
+use Rattle.form_values.specs.FromSheetModel.{Number}
 use Rattle.sheet_funcs.specs.Sums.{how_many}
 use Rattle.cell_refs.specs.declared.error_kind.ErrorKind.{ErrorKind}
 use Rattle.sheet_funcs.specs.Criteria.{meets}

@@ -3,12 +3,12 @@ use Rattle.std.specs.Prelude.{◌≡◌, ℕ, pos, negsuc, Bool, true, false, Li
 use Rattle.std.specs.List.{AllByRecursion}
 use Rattle.fractions.specs.Rational.{ℚ, frac, zero_ℚ, one_ℚ, neg_ℚ}
 use Rattle.fractions.specs.Whole.{whole_ℚ}
-use Rattle.calculations.specs.Calculation.{narrow}
+use Rattle.affine_forms.specs.FromCalculations.{narrow}
 use Rattle.cell_refs.specs.declared.error_kind.ErrorKind.{ErrorKind}
 use Rattle.cell_refs.specs.declared.error_kind.ErrorKind.TheVariants as kind
 use Rattle.cell_refs.specs.declared.op.Op.TheVariants as op
 use Rattle.formula_ast.specs.declared.func.Func.TheVariants as func
-use Rattle.sheet_model.specs.declared.value.Value.TheVariants.{Number, Text, Logical, Empty, Error}
+use Rattle.form_values.specs.FromSheetModel.{Number, Text, Logical, Empty, Error}
 use Rattle.affine_forms.specs.Forms.{AffineForm, decision_form}
 use Rattle.affine_forms.specs.declared.rel.Rel.TheVariants as rel
 use Rattle.sheet_funcs.specs.declared.pick.Pick.{Pick}

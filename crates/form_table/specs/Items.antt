@@ -3,11 +3,11 @@
 use Rattle.std.specs.Prelude.{ℕ, ◌+◌, Bool, true, false, if◌then◌else◌, List, [], ◌∷◌, filter, flat_map, Option, Some, None}
 use Rattle.std.specs.List.{filter_map}
 use Rattle.fractions.specs.Rational.{ℚ, zero_ℚ, inv_ℚ, le_ℚ}
-use Rattle.calculations.specs.Calculation.{followed_by}
+use Rattle.affine_forms.specs.FromCalculations.{followed_by}
 use Rattle.cell_refs.specs.declared.error_kind.ErrorKind.{ErrorKind}
 use Rattle.cell_refs.specs.declared.error_kind.ErrorKind.TheVariants as kind
 use Rattle.sheet_funcs.specs.Sums.{how_many}
-use Rattle.sheet_model.specs.declared.value.Value.TheVariants.{Number, Error}
+use Rattle.form_values.specs.FromSheetModel.{Number, Error}
 use Rattle.affine_forms.specs.Forms.{AffineForm, constant_form, same_terms}
 use Rattle.affine_forms.specs.Steps.{total, scaled}
 use Rattle.form_values.specs.Trials.{Trial, given, breaks, undecided, made, fault, one}

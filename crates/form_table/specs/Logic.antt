@@ -4,8 +4,8 @@ use Rattle.std.specs.Prelude.{ℕ, ◌+◌, Bool, true, false, not, List, [], �
 use Rattle.std.specs.List.{filter_map, list_any}
 use Rattle.cell_refs.specs.declared.error_kind.ErrorKind.{ErrorKind}
 use Rattle.cell_refs.specs.declared.error_kind.ErrorKind.TheVariants as kind
-use Rattle.sheet_model.specs.Conversions.{logical_in}
-use Rattle.sheet_model.specs.declared.value.Value.TheVariants.{Logical, Empty, Error}
+use Rattle.form_values.specs.FromSheetModel.{logical_in}
+use Rattle.form_values.specs.FromSheetModel.{Logical, Empty, Error}
 use Rattle.sheet_funcs.specs.Items.{logical_at}
 use Rattle.sheet_funcs.specs.Information.{number_or_zero}
 use Rattle.affine_forms.specs.Relations.{reversed}

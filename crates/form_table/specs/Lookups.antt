@@ -8,9 +8,9 @@ use Rattle.fractions.specs.Floor.{floor_ℚ}
 use Rattle.fractions.specs.Whole.{whole_ℚ}
 use Rattle.cell_refs.specs.declared.error_kind.ErrorKind.{ErrorKind}
 use Rattle.cell_refs.specs.declared.error_kind.ErrorKind.TheVariants as kind
-use Rattle.sheet_model.specs.Conversions.{logical_in}
-use Rattle.sheet_model.specs.declared.value.Value.{Value}
-use Rattle.sheet_model.specs.declared.value.Value.TheVariants.{Error}
+use Rattle.form_values.specs.FromSheetModel.{logical_in}
+use Rattle.form_values.specs.FromSheetModel.{Value}
+use Rattle.form_values.specs.FromSheetModel.{Error}
 use Rattle.sheet_funcs.specs.Lookups.{is_key, is_greater_than, is_less_than, found, kind_of, place_value}
 use Rattle.sheet_funcs.specs.declared.pick.Pick.{Pick}
 use Rattle.sheet_funcs.specs.declared.pick.Pick.TheVariants.{Part, Fault}

@@ -7,9 +7,9 @@ use Rattle.cell_refs.specs.declared.op.Op.{Op}
 use Rattle.cell_refs.specs.declared.op.Op.TheVariants as op
 use Rattle.cell_refs.specs.declared.error_kind.ErrorKind.{ErrorKind}
 use Rattle.cell_refs.specs.declared.error_kind.ErrorKind.TheVariants as kind
-use Rattle.sheet_model.specs.Tests.{is_zero, is_exponent}
-use Rattle.sheet_model.specs.Operators.{asks_for, infix_value, minus_value, percent_value}
-use Rattle.sheet_model.specs.declared.value.Value.TheVariants.{Number, Logical, Empty, Error}
+use Rattle.form_values.specs.FromSheetModel.{is_zero, is_exponent}
+use Rattle.form_values.specs.FromSheetModel.{asks_for, infix_value, minus_value, percent_value}
+use Rattle.form_values.specs.FromSheetModel.{Number, Logical, Empty, Error}
 use Rattle.affine_forms.specs.Forms.{AffineForm, constant_form, negated}
 use Rattle.affine_forms.specs.Steps.{added, subtracted, scaled}
 use Rattle.form_values.specs.Grids.{Raster}

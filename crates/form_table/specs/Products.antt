@@ -4,7 +4,7 @@ use Rattle.std.specs.List.{list_all}
 use Rattle.fractions.specs.Rational.{zero_ℚ, one_ℚ}
 use Rattle.cell_refs.specs.declared.error_kind.ErrorKind.{ErrorKind}
 use Rattle.cell_refs.specs.declared.error_kind.ErrorKind.TheVariants as kind
-use Rattle.sheet_model.specs.declared.value.Value.TheVariants.{Number, Empty, Error}
+use Rattle.form_values.specs.FromSheetModel.{Number, Empty, Error}
 use Rattle.sheet_funcs.specs.Arguments.{below}
 use Rattle.sheet_funcs.specs.Products.{places_of}
 use Rattle.affine_forms.specs.Forms.{AffineForm, constant_form}

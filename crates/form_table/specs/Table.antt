@@ -7,7 +7,7 @@ use Rattle.formula_ast.specs.declared.func.Func.{Func}
 use Rattle.formula_ast.specs.declared.func.Func.TheVariants as func
 use Rattle.fractions.specs.Whole.{whole_ℚ}
 use Rattle.sheet_funcs.specs.Table.{called}
-use Rattle.sheet_model.specs.declared.value.Value.TheVariants.{Number, Logical}
+use Rattle.form_values.specs.FromSheetModel.{Number, Logical}
 use Rattle.form_values.specs.Grids.{Raster}
 use Rattle.form_values.specs.Trials.{Trial, given, made, fault, one}
 use Rattle.form_values.specs.declared.abs.Abs.TheVariants.{Known}

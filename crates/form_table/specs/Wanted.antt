@@ -3,8 +3,8 @@ use Rattle.std.specs.Prelude.{if◌then◌else◌, List, [], ◌∷◌, Option, 
 use Rattle.fractions.specs.Rational.{ℚ}
 use Rattle.cell_refs.specs.declared.error_kind.ErrorKind.{ErrorKind}
 use Rattle.cell_refs.specs.declared.error_kind.ErrorKind.TheVariants as kind
-use Rattle.sheet_model.specs.Conversions.{number_in}
-use Rattle.sheet_model.specs.declared.value.Value.TheVariants.{Error}
+use Rattle.form_values.specs.FromSheetModel.{number_in}
+use Rattle.form_values.specs.FromSheetModel.{Error}
 use Rattle.affine_forms.specs.Forms.{AffineForm, constant_form, has_terms}
 use Rattle.form_values.specs.Grids.{Raster}
 use Rattle.form_values.specs.Trials.{Trial, undecided, fault}

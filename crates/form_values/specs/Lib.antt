@@ -1,7 +1,8 @@
-pub mod OpenForms
-pub mod Grids
-pub mod Meaning
 pub mod Entries
+pub mod FromSheetModel
+pub mod Grids
 pub mod Known
-pub mod Trials
+pub mod Meaning
+pub mod OpenForms
 pub mod Refusals
+pub mod Trials

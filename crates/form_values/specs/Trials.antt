@@ -1,6 +1,6 @@
 -- Calculations that may be refused: a part of a formula isn't affine, or an argument decides it whose value is open.
 use Rattle.std.specs.Prelude.{◌≡◌, ℕ, List, [], ◌∷◌, Some, None, Result, Ok, Err}
-use Rattle.calculations.specs.Calculation.{Calculation, done, narrow, followed_by, turned_into}
+use Rattle.affine_forms.specs.FromCalculations.{Calculation, done, narrow, followed_by, turned_into}
 use Rattle.cell_refs.specs.declared.error_kind.ErrorKind.{ErrorKind}
 use Rattle.sheet_model.specs.declared.value.Value.TheVariants.{Error}
 use Rattle.form_values.specs.declared.abs.Abs.{Abs}

@@ -6,8 +6,8 @@ use Rattle.recalculation.specs.Entries.{Book, entry}
 use Rattle.recalculation.specs.Walks.{is_formula}
 use Rattle.workbook.specs.declared.place.Place.{Place}
 use Rattle.workbook.specs.declared.place.Place.TheVariants as place
-use Rattle.form_extraction.specs.declared.forms.CellForm.{CellForm}
-use Rattle.form_extraction.specs.Places.{Decisions}
+use Rattle.touched_places.specs.FromFormExtraction.{CellForm}
+use Rattle.touched_places.specs.FromFormExtraction.{Decisions}
 use Rattle.touched_places.specs.Alike.{form_at}
 use Rattle.touched_places.specs.Tests.{touches}
 use Rattle.touched_places.specs.Touched.{Expressions}

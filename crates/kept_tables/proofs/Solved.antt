@@ -4,7 +4,7 @@ use Rattle.std.proofs.Common.{◌≡◌, inl, inr, true, List, Some, sym, ap, �
 use Rattle.cell_refs.specs.declared.cell.Cell.{Cell}
 use Rattle.recalculation.specs.Entries.{Book}
 use Rattle.workbook.specs.declared.place.Place.{Place}
-use Rattle.touched_places.specs.Alike.{DifferAt}
+use Rattle.kept_marks.specs.FromTouchedPlaces.{DifferAt}
 use Rattle.kept_marks.proofs.Marked.{entry_stays}
 use Rattle.kept_tables.specs.Commands.{Keeps, Kept, LeavesAlone}
 use Rattle.kept_tables.specs.Laws.{WriteBacksKeep}

@@ -15,7 +15,7 @@ use Rattle.fractions.proofs.Whole.{whole-le, whole-zero, whole-one}
 use Rattle.optimality.specs.Problem.{Assignment, Relation, equal, Goal, greatest, least, reach}
 use Rattle.optimality.specs.Groups.{AreDifferent, HoldsEachOnce}
 use Rattle.optimality.specs.Optimal.{Permitted, Meets, Has, IsWhole, IsZeroOrOne, IsNotNegative, Reaches}
-use Rattle.calculations.specs.Calculation.{exact}
+use Rattle.affine_forms.specs.FromCalculations.{exact}
 use Rattle.affine_forms.specs.Steps.{subtracted}
 use Rattle.affine_forms.proofs.Exact.{exact-turned_into}
 use Rattle.affine_forms.specs.Forms.{AffineForm, constant_form}

@@ -2,7 +2,7 @@
 use Rattle.std.proofs.Common.{◌≡◌}
 use Rattle.fractions.specs.Rational.{◌-ℚ◌, neg_ℚ}
 use Rattle.optimality.specs.Problem.{Assignment}
-use Rattle.calculations.specs.Calculation.{exact}
+use Rattle.affine_forms.specs.FromCalculations.{exact}
 use Rattle.affine_forms.specs.Forms.{AffineForm, negated}
 use Rattle.affine_forms.specs.Steps.{subtracted}
 use Rattle.affine_forms.specs.Assigned.{assigned}

@@ -2,7 +2,7 @@
 use Rattle.std.specs.Prelude.{◌==◌, nat_lt}
 use Rattle.std.proofs.Common.{sym, subst, ℕ, ◌<◌, Bool, true, false, if◌then◌else◌, List, [], ◌∷◌}
 use Rattle.fractions.specs.Rational.{ℚ, zero_ℚ, eq_ℚ, ◌+ℚ◌}
-use Rattle.calculations.specs.Calculation.{Calculation, sum, after, exact, turned_into}
+use Rattle.affine_forms.specs.FromCalculations.{Calculation, sum, after, exact, turned_into}
 use Rattle.affine_forms.specs.Forms.{AffineForm, negated, negated_terms}
 use Rattle.affine_forms.specs.Assigned.{ReachTo}
 use Rattle.affine_forms.specs.Steps.{beside, merged, in_front, added, subtracted, with_constant}

@@ -11,7 +11,7 @@ use Rattle.fractions.proofs.Laws.{add-zero, zero-add, one-mul}
 use Rattle.affine_forms.proofs.Exact.{exact-turned_into}
 use Rattle.optimality.specs.Problem.{Assignment, Relation, at_most, equal, at_least}
 use Rattle.optimality.specs.Optimal.{Stand, Meets}
-use Rattle.calculations.specs.Calculation.{Calculation, exact}
+use Rattle.affine_forms.specs.FromCalculations.{Calculation, exact}
 use Rattle.affine_forms.specs.Forms.{AffineForm, sum_at, decision_form}
 use Rattle.affine_forms.specs.Assigned.{assigned}
 use Rattle.affine_forms.specs.Steps.{subtracted}

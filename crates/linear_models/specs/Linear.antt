@@ -3,7 +3,7 @@ use Rattle.std.specs.Prelude.{ℕ, suc, List, [], ◌∷◌, ◌++◌, map, Opti
 use Rattle.std.specs.List.{range_with_len}
 use Rattle.fractions.specs.Rational.{zero_ℚ}
 use Rattle.optimality.specs.Problem.{Relation, equal, Goal, greatest, least, reach}
-use Rattle.calculations.specs.Calculation.{Calculation, done, exact, narrow, turned_into}
+use Rattle.affine_forms.specs.FromCalculations.{Calculation, done, exact, narrow, turned_into}
 use Rattle.affine_forms.specs.Forms.{AffineForm, constant_form}
 use Rattle.affine_forms.specs.Steps.{subtracted}
 use Rattle.linear_models.specs.Model.{Model}

@@ -5,11 +5,11 @@ ghost use Rattle.workbook.specs.declared.adj.TheConstants.{DECISIONS};
 ghost use Rattle.lin_model.specs.Kinds.{goal_of};
 ghost use Rattle.lin_model.specs.Lists.{lists_of};
 ghost use Rattle.sheet_problems.specs.Forms.{condition_of, conditions_of};
-ghost use Rattle.solver_names.specs.Answers.{groups_of, row_of, statement_of};
+ghost use Rattle.sheet_problems.specs.FromSolverNames.{groups_of, row_of, statement_of};
 
 use lin_model::{Condition, Conditions, Goal};
 use memory::Memory;
-use solver_names::{RowOf, Statement};
+use sheet_problems::{RowOf, Statement};
 use std::alloc::Global;
 use workbook::Adj;
 

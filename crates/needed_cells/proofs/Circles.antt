@@ -29,8 +29,8 @@ use Rattle.extract.specs.Tables.{Table, form_at as kept_at}
 use Rattle.form_needs.specs.Needed.{Asked, PlaceLooksAt}
 use Rattle.plain_formulas.specs.Plain.{is_plain}
 use Rattle.plain_formulas.proofs.Looks.{plain_looks_at_all}
-use Rattle.sheet_problems.specs.Forms.{form_at}
-use Rattle.sheet_problems.specs.Places.{Sides, tree_of}
+use Rattle.form_needs.specs.FromSheetProblems.{form_at}
+use Rattle.form_needs.specs.FromSheetProblems.{Sides, tree_of}
 use Rattle.needed_cells.specs.Finding.{has_circle, is_circular_form, is_kept_circular, place_tree, unless_decided}
 use Rattle.needed_cells.specs.Settled.{HasEntry, IsSettled}
 

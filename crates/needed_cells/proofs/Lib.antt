@@ -1,5 +1,6 @@
 pub mod Adding
-pub mod Spreading
 pub mod Circles
-pub mod Texts
+pub mod FromExtract
 pub mod Sides
+pub mod Spreading
+pub mod Texts

@@ -6,7 +6,7 @@ use Rattle.std.proofs.lemmas.Bool.{eq-eqb, eqb-true}
 use Rattle.std.proofs.lemmas.List.{take_more}
 use Rattle.std.proofs.lemmas.List.Folds.{find-append}
 use Rattle.formula_ast.specs.Tree.{Tree}
-use Rattle.sheet_problems.specs.Places.{Sides, tree_of}
+use Rattle.form_needs.specs.FromSheetProblems.{Sides, tree_of}
 
 abbrev is_of : ℕ → ℕ × Tree → Bool
 is_of k side = side.0 == k

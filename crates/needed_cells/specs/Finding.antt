@@ -18,7 +18,7 @@ use Rattle.form_extraction.specs.Places.{numbered_in}
 use Rattle.extract.specs.Knowing.{is_open_text}
 use Rattle.extract.specs.Tables.{Table, form_at}
 use Rattle.form_needs.specs.Needed.{Asked, IsNeeded, PlaceLooksAt}
-use Rattle.sheet_problems.specs.Places.{Sides, tree_of}
+use Rattle.form_needs.specs.FromSheetProblems.{Sides, tree_of}
 
 abbrev pub asked : State → Sides → List Cell → List Place → Asked
 asked book sides decisions roots = record { book = book_of book; sides = sides; decisions = decisions; roots = roots }

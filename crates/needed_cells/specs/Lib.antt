@@ -1,2 +1,3 @@
-pub mod Settled
 pub mod Finding
+pub mod FromExtract
+pub mod Settled

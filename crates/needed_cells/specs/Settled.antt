@@ -8,8 +8,8 @@ use Rattle.workbook.specs.declared.place.Place.TheVariants as place
 use Rattle.form_extraction.specs.declared.forms.CellForm.{CellForm}
 use Rattle.form_extraction.specs.Places.{numbered_in}
 use Rattle.extract.specs.Tables.{Table, form_at as kept_at}
-use Rattle.sheet_problems.specs.Forms.{form_at}
-use Rattle.sheet_problems.specs.Places.{Sides, tree_of}
+use Rattle.form_needs.specs.FromSheetProblems.{form_at}
+use Rattle.form_needs.specs.FromSheetProblems.{Sides, tree_of}
 
 -- the places whose forms are kept: formula cells that aren't to be decided, and sides
 abbrev pub HasEntry : Book → Sides → List Cell → Place → Type 0

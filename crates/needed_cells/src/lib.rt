@@ -7,4 +7,5 @@ mod needed;
 mod referred;
 mod sheet;
 
+pub use extract::{FormTable, Steps, form_of};
 pub use needed::needed_cells;

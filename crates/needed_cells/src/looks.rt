@@ -6,7 +6,7 @@ ghost use Rattle.form_needs.specs.Needed.{PlaceLooksAt};
 ghost use Rattle.needed_cells.specs.Finding.{asked, has_circle, is_kept_circular, place_tree, unless_decided};
 ghost use Rattle.needed_cells.specs.Settled.{IsSettled};
 ghost use Rattle.recalculation.specs.Entries.{entry};
-ghost use Rattle.sheet_problems.specs.Places.{tree_of};
+ghost use Rattle.form_needs.specs.FromSheetProblems.{tree_of};
 ghost use Rattle.workbook.specs.Contents.{tree_of as tree_said};
 ghost use Rattle.workbook.specs.Kinds.{book_of};
 ghost use Rattle.workbook.specs.declared.place.Place.TheVariants as place;

@@ -21,8 +21,8 @@ use Rattle.form_extraction.specs.Looked.{LooksAt, LooksFrom, forms_of, refers_to
 use Rattle.form_extraction.specs.Places.{Decisions, by_looks, form_in, form_of, formula_form, least_without, numbered_in}
 use Rattle.form_extraction.proofs.Cells.{blocked_by_least, least_is, looked_is_referred, no_form}
 use Rattle.form_extraction.proofs.States.{circle_is_circular}
-use Rattle.sheet_problems.specs.Forms.{form_at}
-use Rattle.sheet_problems.specs.Places.{tree_of}
+use Rattle.form_needs.specs.FromSheetProblems.{form_at}
+use Rattle.form_needs.specs.FromSheetProblems.{tree_of}
 use Rattle.form_needs.specs.FirstRefusal.{NoneRefused}
 use Rattle.form_needs.specs.Needed.{Asked, IsNeeded, PlaceLooksAt}
 use Rattle.form_needs.specs.Needed as needed

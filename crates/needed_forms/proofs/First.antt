@@ -11,7 +11,7 @@ use Rattle.form_extraction.specs.declared.forms.CellForm.{CellForm}
 use Rattle.form_extraction.specs.declared.forms.CellForm.TheVariants.{Form, Refused, Circular, Malformed}
 use Rattle.form_extraction.specs.declared.forms.Why.{Why}
 use Rattle.form_extraction.specs.declared.forms.Why.TheVariants as why
-use Rattle.sheet_problems.specs.Forms.{form_at}
+use Rattle.form_needs.specs.FromSheetProblems.{form_at}
 use Rattle.form_needs.specs.FirstRefusal.{IsLeast, IsNoNumber, IsRefusal, NeedsRefused, NeedsWith, NoneCircular, NoneMalformed, NoneRefused, NoPlace}
 use Rattle.form_needs.specs.Needed.{Asked, IsNeeded}
 use Rattle.form_needs.specs.declared.refusal.FormRefusal.{FormRefusal}

@@ -1,8 +1,10 @@
-pub mod Order
-pub mod LeastPlace
-pub mod Telling
 pub mod Blocked
-pub mod Worths
-pub mod RefusedForms
 pub mod First
+pub mod FromExtract
+pub mod FromFormExtraction
+pub mod LeastPlace
 pub mod Needing
+pub mod Order
+pub mod RefusedForms
+pub mod Telling
+pub mod Worths

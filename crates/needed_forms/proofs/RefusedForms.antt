@@ -10,7 +10,7 @@ use Rattle.form_extraction.specs.declared.forms.CellForm.{CellForm}
 use Rattle.form_extraction.specs.declared.forms.CellForm.TheVariants.{Form, Refused, Blocked, Circular, Malformed}
 use Rattle.form_extraction.specs.declared.forms.Why.{Why}
 use Rattle.form_extraction.specs.declared.forms.Why.TheVariants as why
-use Rattle.sheet_problems.specs.Forms.{number_form}
+use Rattle.form_needs.specs.FromSheetProblems.{number_form}
 use Rattle.form_needs.specs.declared.refusal.FormRefusal.{FormRefusal}
 use Rattle.needed_forms.specs.declared.stage.Stage.{Stage}
 use Rattle.needed_forms.specs.declared.stage.Stage.TheVariants as stage

@@ -21,11 +21,11 @@ use Rattle.form_extraction.specs.Looked.{forms_of, side_form}
 use Rattle.form_extraction.specs.Places.{decision_or, entry_form, form_of, numbered_in}
 use Rattle.form_extraction.proofs.Agreeing.{form_is}
 use Rattle.form_extraction.proofs.States.{decision_is_itself, malformed_is_malformed}
-use Rattle.extract.specs.Knowing.{form_said}
-use Rattle.extract.specs.Tables.{Table, form_at as kept_at}
-use Rattle.extract.proofs.Saying.{said_plain}
-use Rattle.sheet_problems.specs.Forms.{form_at}
-use Rattle.sheet_problems.specs.Places.{Sides, tree_of}
+use Rattle.needed_cells.specs.FromExtract.{form_said}
+use Rattle.needed_cells.specs.FromExtract.{Table, form_at as kept_at}
+use Rattle.needed_cells.proofs.FromExtract.{said_plain}
+use Rattle.form_needs.specs.FromSheetProblems.{form_at}
+use Rattle.form_needs.specs.FromSheetProblems.{Sides, tree_of}
 use Rattle.needed_cells.specs.Settled.{HasEntry, IsSettled}
 use Rattle.needed_forms.specs.Told.{decided_or, refusal_by_kind, refusal_of, told_by, told_form, told_refusal}
 

@@ -21,10 +21,10 @@ use Rattle.form_extraction.specs.Looked.{side_form, side_value}
 use Rattle.form_extraction.specs.Places.{form_in, form_of, numbered_in, overriding}
 use Rattle.form_extraction.proofs.Books.{form_is_the_value}
 use Rattle.form_extraction.proofs.Cells.{side_is_the_value}
-use Rattle.sheet_problems.specs.Forms.{HasForm, form_at, number_form}
-use Rattle.sheet_problems.specs.Places.{number_in, tree_of, value_at}
-use Rattle.sheet_problems.proofs.Numbers.{decision_is_its_number}
-use Rattle.sheet_problems.proofs.Placed.{place_worth}
+use Rattle.form_needs.specs.FromSheetProblems.{HasForm, form_at, number_form}
+use Rattle.form_needs.specs.FromSheetProblems.{number_in, tree_of, value_at}
+use Rattle.form_needs.proofs.FromSheetProblems.{decision_is_its_number}
+use Rattle.form_needs.proofs.FromSheetProblems.{place_worth}
 use Rattle.form_needs.specs.FirstRefusal.{IsNoNumber, NoneRefused}
 use Rattle.form_needs.specs.Needed.{Asked, IsNeeded}
 use Rattle.form_needs.specs.Needed as needed

@@ -18,8 +18,8 @@ use Rattle.form_extraction.specs.declared.forms.CellForm.TheVariants.{Form, Refu
 use Rattle.form_extraction.specs.declared.forms.Why.{Why}
 use Rattle.form_extraction.specs.declared.forms.Why.TheVariants as why
 use Rattle.form_extraction.specs.Places.{numbered_in}
-use Rattle.extract.specs.Tables.{Table, form_at}
-use Rattle.sheet_problems.specs.Forms.{number_form}
+use Rattle.needed_cells.specs.FromExtract.{Table, form_at}
+use Rattle.form_needs.specs.FromSheetProblems.{number_form}
 use Rattle.form_needs.specs.declared.refusal.FormRefusal.{FormRefusal}
 use Rattle.form_needs.specs.declared.refusal.FormRefusal.TheVariants as refusal
 

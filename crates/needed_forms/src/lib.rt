@@ -7,4 +7,7 @@ mod refusal;
 mod stage;
 mod told;
 
+pub use form_extraction::CellForm;
+pub use form_needs::FormRefusal;
+pub use needed_cells::{FormTable, Steps, form_of};
 pub use refusal::first_refusal;

@@ -8,10 +8,9 @@ ghost use Rattle.workbook.specs.declared.place.Place.{Place};
 ghost use Rattle.workbook.specs.declared.place.Place.TheVariants as place;
 
 use cell_refs::Cell;
-use extract::FormTable;
 use formula_ast::Expr;
 use memory::Memory;
-use needed_cells::needed_cells;
+use needed_cells::{FormTable, needed_cells};
 use std::alloc::Global;
 use workbook::{Adj, Place, Workbook};
 

@@ -10,10 +10,10 @@ use crate::least::least_in;
 use crate::places::needed_places;
 use crate::stage::Stage;
 use crate::told::Told;
-use extract::FormTable;
 use form_needs::FormRefusal;
 use formula_ast::Expr;
 use memory::Memory;
+use needed_cells::FormTable;
 use std::alloc::Global;
 use workbook::{Adj, Place, Workbook};
 

@@ -1,19 +1,19 @@
 // What refuses a place by itself, as a workbook and the forms that are kept tell it.
 ghost use Rattle.std.specs.Prelude.{◌≡◌};
 ghost use Rattle.std.specs.Option.{option_and_then};
-ghost use Rattle.extract.specs.Tables.{form_at};
+ghost use Rattle.needed_cells.specs.FromExtract.{form_at};
 ghost use Rattle.needed_forms.specs.Told.{malformed_at, refusal_by_kind, refusal_of, refused_as, told_refusal, unless_number};
 ghost use Rattle.recalculation.specs.Entries.{entry};
-ghost use Rattle.sheet_problems.specs.Forms.{number_form};
+ghost use Rattle.form_needs.specs.FromSheetProblems.{number_form};
 ghost use Rattle.workbook.specs.Contents.{kind_of};
 ghost use Rattle.workbook.specs.Kinds.{book_of};
 ghost use Rattle.workbook.specs.declared.place.Place.TheVariants as place;
 
 use cell_refs::{Cell, Span};
-use extract::FormTable;
 use form_extraction::{CellForm, Why};
 use form_needs::FormRefusal;
 use form_values::Abs;
+use needed_cells::FormTable;
 use sheet_model::Value;
 use workbook::{Adj, Kind, Place, Workbook};
 

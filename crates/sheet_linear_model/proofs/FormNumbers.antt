@@ -21,15 +21,15 @@ use Rattle.form_extraction.specs.Looked.{forms_of, side_form}
 use Rattle.form_extraction.specs.Places.{Decisions, decision_or, entry_form, form_in, form_of, numbered_in}
 use Rattle.form_extraction.proofs.Agreeing.{form_is}
 use Rattle.form_extraction.proofs.States.{decision_is_itself}
-use Rattle.extract.specs.Knowing.{form_said}
-use Rattle.extract.specs.Tables.{Table, form_at as kept_at}
-use Rattle.extract.proofs.Saying.{said_plain}
+use Rattle.kept_forms.specs.FromExtract.{form_said}
+use Rattle.kept_forms.specs.FromExtract.{Table, form_at as kept_at}
+use Rattle.kept_forms.proofs.FromExtract.{said_plain}
 use Rattle.solver_names.specs.Sides.{sides_in}
 use Rattle.solver_names.specs.Statement.{Statement}
-use Rattle.sheet_problems.specs.Forms.{number_form}
-use Rattle.sheet_problems.specs.Places.{Sides, tree_of}
-use Rattle.needed_cells.specs.Settled.{IsSettled}
-use Rattle.extract_incr.specs.Keeping.{Kept}
+use Rattle.form_needs.specs.FromSheetProblems.{number_form}
+use Rattle.form_needs.specs.FromSheetProblems.{Sides, tree_of}
+use Rattle.kept_forms.specs.FromNeededCells.{IsSettled}
+use Rattle.kept_forms.specs.FromExtractIncr.{Kept}
 use Rattle.sheet_linear_model.specs.Inner.{IsKeptFor, number_at, number_for, number_in_form, number_said, number_unkept}
 
 -- ---- cells without a formula

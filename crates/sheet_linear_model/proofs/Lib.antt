@@ -1,9 +1,11 @@
-pub mod Opening
-pub mod Settled
 pub mod FormNumbers
-pub mod Rooted
-pub mod Refusals
+pub mod FromKeptTables
+pub mod FromTouchedPlaces
 pub mod Looping
 pub mod Modelled
+pub mod Opening
 pub mod Printed
+pub mod Refusals
+pub mod Rooted
+pub mod Settled
 pub mod Single

@@ -11,7 +11,7 @@ use Rattle.form_extraction.specs.Places.{numbered_in}
 use Rattle.solver_names.specs.Answers.{row_of}
 use Rattle.solver_names.specs.Statement.{RowOf}
 use Rattle.solver_names.specs.declared.statements.RowOf.{RowOf as Row}
-use Rattle.sheet_problems.specs.Forms.{condition_of}
+use Rattle.form_needs.specs.FromSheetProblems.{condition_of}
 use Rattle.sheet_linear_model.specs.Inner.{number_where}
 use Rattle.sheet_linear_model.specs.Lines.{row_numbers}
 

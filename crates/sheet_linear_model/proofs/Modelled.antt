@@ -15,10 +15,10 @@ use Rattle.solver_names.specs.Sides.{sides_in}
 use Rattle.solver_names.specs.Statement.{Statement}
 use Rattle.form_needs.specs.FirstRefusal.{AllNumbers}
 use Rattle.form_needs.specs.Needed.{asked_of}
-use Rattle.sheet_problems.specs.Forms.{HasForm, HasSides, conditions_of}
-use Rattle.sheet_problems.specs.Laws.{ModelIsTheSheet}
-use Rattle.sheet_problems.proofs.Fitting.{forms_fit}
-use Rattle.sheet_problems.proofs.Modelled.{linear_model_is_the_sheet}
+use Rattle.form_needs.specs.FromSheetProblems.{HasForm, HasSides, conditions_of}
+use Rattle.form_needs.specs.FromSheetProblems.{ModelIsTheSheet}
+use Rattle.form_needs.proofs.FromSheetProblems.{forms_fit}
+use Rattle.form_needs.proofs.FromSheetProblems.{linear_model_is_the_sheet}
 use Rattle.commands.specs.declared.answer.Answer.TheVariants as answer
 use Rattle.sheet_linear_model.specs.Answers.{Prepares, StopIsListed}
 use Rattle.sheet_linear_model.specs.Inner.{IsModelled, IsStatement}

@@ -17,8 +17,8 @@ use Rattle.linear_models.specs.Model.{Model}
 use Rattle.model_lines.specs.Groups.{AreGroups}
 use Rattle.workbook.specs.State.{State}
 use Rattle.solver_names.specs.Answers.{row_of}
-use Rattle.sheet_problems.specs.Forms.{condition_of, conditions_of}
-use Rattle.sheet_problems.proofs.Fitting.{forms_fit}
+use Rattle.form_needs.specs.FromSheetProblems.{condition_of, conditions_of}
+use Rattle.form_needs.proofs.FromSheetProblems.{forms_fit}
 use Rattle.sheet_linear_model.specs.Answers.{prepared_of}
 use Rattle.sheet_linear_model.specs.Prepared.{IsPrepared, Prepared, rows_of}
 use Rattle.sheet_linear_model.specs.declared.prepared.Prepared.{Prepared as Declared}

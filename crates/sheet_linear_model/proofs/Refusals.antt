@@ -22,7 +22,7 @@ use Rattle.solver_names.specs.Answers.{Answers}
 use Rattle.solver_names.specs.Statement.{Statement}
 use Rattle.solver_names.specs.declared.fault.NamesFault.{NamesFault}
 use Rattle.solver_names.specs.declared.fault.NamesFault.TheVariants as told
-use Rattle.sheet_problems.specs.Places.{tree_of}
+use Rattle.form_needs.specs.FromSheetProblems.{tree_of}
 use Rattle.form_needs.specs.FirstRefusal.{FirstRefusal, NeedsWith}
 use Rattle.form_needs.specs.Needed.{Asked, IsNeeded, asked_of, roots_of}
 use Rattle.form_needs.specs.Needed as needed

@@ -13,14 +13,14 @@ use Rattle.solver_names.specs.Sides.{sides_in}
 use Rattle.solver_names.specs.Statement.{RowOf, Statement}
 use Rattle.solver_names.specs.declared.statements.RowOf.{RowOf as Row}
 use Rattle.solver_names.specs.declared.statements.Statement.{Statement as Declared}
-use Rattle.sheet_problems.specs.Places.{Sides}
+use Rattle.form_needs.specs.FromSheetProblems.{Sides}
 use Rattle.form_needs.specs.FirstRefusal.{AllNumbers, IsRefusal}
 use Rattle.form_needs.specs.Needed.{Asked, asked_of, roots_of}
 use Rattle.form_needs.specs.declared.refusal.FormRefusal.{FormRefusal}
 use Rattle.form_needs.proofs.Numbers.{forms_where_none_is_refused}
 use Rattle.statement_laws.specs.Laws.{IsThere, IsWhole, RowIsThere}
-use Rattle.needed_cells.specs.Settled.{IsRoot}
-use Rattle.extract_incr.specs.Keeping.{Kept, asked_from}
+use Rattle.kept_forms.specs.FromNeededCells.{IsRoot}
+use Rattle.kept_forms.specs.FromExtractIncr.{Kept, asked_from}
 use Rattle.commands.specs.Refusals.{PlaceIsListed}
 use Rattle.sheet_linear_model.specs.Inner.{HasNumber, IsKeptFor, RowHasNumbers}
 

@@ -9,11 +9,11 @@ use Rattle.solver_names.specs.Statement.{Statement}
 use Rattle.solver_names.specs.declared.fault.NamesFault.{NamesFault}
 use Rattle.solver_names.specs.declared.fault.NamesFault.TheVariants as told
 use Rattle.solver_names.specs.declared.statements.Statement.{Statement as Declared}
-use Rattle.kept_tables.specs.Settled.{Parts}
-use Rattle.kept_tables.specs.Steps.{MakesFew}
-use Rattle.extract_incr.specs.Keeping.{AllAreKept, Kept}
-use Rattle.form_tables.specs.Settling.{Settles}
-use Rattle.form_tables.specs.Tables.{SheetKept, all_forms, parts_of, settled_of}
+use Rattle.kept_forms.specs.FromKeptTables.{Parts}
+use Rattle.kept_forms.specs.FromKeptTables.{MakesFew}
+use Rattle.kept_forms.specs.FromExtractIncr.{AllAreKept, Kept}
+use Rattle.kept_forms.specs.Settling.{Settles}
+use Rattle.kept_forms.specs.Tables.{SheetKept, all_forms, parts_of, settled_of}
 use Rattle.sheet_linear_model.specs.Answers.{AreSettled, CountsFew, SettlesForms, parts_in, parts_or, parts_stated}
 use Rattle.sheet_linear_model.specs.Inner.{GivesNone, IsKeptFor, IsStatement, stop_of}
 use Rattle.sheet_linear_model.specs.declared.prepared.NoModel.{NoModel}

@@ -18,8 +18,8 @@ use Rattle.solver_names.specs.Statement.{RowOf, Statement}
 use Rattle.solver_names.specs.Stated.{statement_in}
 use Rattle.solver_names.specs.declared.fault.NamesFault.{NamesFault}
 use Rattle.solver_names.specs.declared.fault.NamesFault.TheVariants as told
-use Rattle.sheet_problems.specs.Forms.{HasForm, HasSides}
-use Rattle.sheet_problems.specs.Places.{Sides}
+use Rattle.form_needs.specs.FromSheetProblems.{HasForm, HasSides}
+use Rattle.form_needs.specs.FromSheetProblems.{Sides}
 use Rattle.form_needs.specs.FirstRefusal.{AllNumbers, FirstRefusal}
 use Rattle.form_needs.specs.Needed.{Asked, asked_of}
 use Rattle.form_needs.specs.declared.refusal.FormRefusal.{FormRefusal}

@@ -2,11 +2,11 @@
 use Rattle.std.specs.Prelude.{◌≡◌, ℕ, Bool, List, Option, Some, None, Result, Ok, Err, ⊤}
 use Rattle.workbook.specs.Kinds.{book_of}
 use Rattle.workbook.specs.State.{State}
-use Rattle.extract_incr.specs.Keeping.{Kept}
-use Rattle.form_tables.specs.Settling.{Settles}
-use Rattle.form_tables.specs.Tables.{SheetKept, all_forms}
-use Rattle.kept_tables.specs.Settled.{Parts}
-use Rattle.kept_tables.specs.Steps.{MakesFew}
+use Rattle.kept_forms.specs.FromExtractIncr.{Kept}
+use Rattle.kept_forms.specs.Settling.{Settles}
+use Rattle.kept_forms.specs.Tables.{SheetKept, all_forms}
+use Rattle.kept_forms.specs.FromKeptTables.{Parts}
+use Rattle.kept_forms.specs.FromKeptTables.{MakesFew}
 use Rattle.solver_names.specs.Answers.{Answers, statement_of}
 use Rattle.solver_names.specs.Sides.{sides_in}
 use Rattle.solver_names.specs.Stated.{statement_in}

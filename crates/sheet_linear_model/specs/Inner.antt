@@ -23,11 +23,11 @@ use Rattle.solver_names.specs.Statement.{RowOf, Statement}
 use Rattle.solver_names.specs.Stated.{statement_in}
 use Rattle.solver_names.specs.declared.fault.NamesFault.{NamesFault}
 use Rattle.solver_names.specs.declared.fault.NamesFault.TheVariants as told
-use Rattle.sheet_problems.specs.Forms.{form_at, number_form}
-use Rattle.sheet_problems.specs.Places.{Sides}
+use Rattle.form_needs.specs.FromSheetProblems.{form_at, number_form}
+use Rattle.form_needs.specs.FromSheetProblems.{Sides}
 use Rattle.statement_laws.specs.Laws.{IsWhole}
-use Rattle.needed_cells.specs.Settled.{IsSettled}
-use Rattle.extract_incr.specs.Keeping.{Kept}
+use Rattle.kept_forms.specs.FromNeededCells.{IsSettled}
+use Rattle.kept_forms.specs.FromExtractIncr.{Kept}
 use Rattle.commands.specs.declared.answer.Answer.TheVariants as answer
 use Rattle.sheet_linear_model.specs.Answers.{parts_in}
 use Rattle.sheet_linear_model.specs.declared.prepared.NoModel.{NoModel}

@@ -1,4 +1,13 @@
-pub mod Prepared
-pub mod Lines
 pub mod Answers
+pub mod FromExtract
+pub mod FromExtractIncr
+pub mod FromFormExtraction
+pub mod FromKeptForms
+pub mod FromKeptMarks
+pub mod FromKeptTables
+pub mod FromSheetProblems
+pub mod FromStatementLaws
+pub mod FromTouchedPlaces
 pub mod Inner
+pub mod Lines
+pub mod Prepared

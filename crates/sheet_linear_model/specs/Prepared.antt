@@ -23,8 +23,8 @@ use Rattle.linear_models.specs.Statement as rows
 use Rattle.solver_names.specs.Sides.{sides_in}
 use Rattle.solver_names.specs.Statement.{Statement}
 use Rattle.solver_names.specs.Stated.{statement_in}
-use Rattle.sheet_problems.specs.Forms.{HasForms, conditions_of}
-use Rattle.sheet_problems.specs.Places.{tree_of}
+use Rattle.form_needs.specs.FromSheetProblems.{HasForms, conditions_of}
+use Rattle.form_needs.specs.FromSheetProblems.{tree_of}
 use Rattle.form_needs.specs.FirstRefusal.{AllNumbers, FirstRefusal}
 use Rattle.form_needs.specs.Needed.{Asked, asked_of}
 use Rattle.form_needs.specs.declared.refusal.FormRefusal.{FormRefusal}

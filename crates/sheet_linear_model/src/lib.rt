@@ -8,6 +8,7 @@ mod preparing;
 mod roots;
 mod stated;
 
+pub use kept_forms::{FormTables, Linked, Steps};
 pub use lines::{model_lines, row_numbers};
 pub use prepared::{NoModel, Prepared};
 pub use preparing::prepare;

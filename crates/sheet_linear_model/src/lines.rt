@@ -8,7 +8,7 @@ ghost use Rattle.sheet_linear_model.specs.Answers.{prepared_of};
 ghost use Rattle.sheet_linear_model.specs.Inner.{number_where};
 ghost use Rattle.sheet_linear_model.specs.Lines.{lines_of, numbers_of, row_numbers};
 ghost use Rattle.sheet_linear_model.specs.Prepared.{IsPrepared};
-ghost use Rattle.sheet_problems.specs.Forms.{condition_of};
+ghost use Rattle.form_needs.specs.FromSheetProblems.{condition_of};
 ghost use Rattle.solver_names.specs.Answers.{row_of};
 ghost use Rattle.workbook.specs.State.{State};
 

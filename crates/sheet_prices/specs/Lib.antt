@@ -1,6 +1,7 @@
-pub mod Raised
-pub mod Prices
 pub mod Answers
+pub mod Examples
+pub mod FromSheetProblems
 pub mod Inner
 pub mod Laws
-pub mod Examples
+pub mod Prices
+pub mod Raised

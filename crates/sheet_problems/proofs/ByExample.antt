@@ -13,10 +13,10 @@ use Rattle.cell_refs.specs.declared.error_kind.ErrorKind.TheVariants as kind
 use Rattle.formula_ast.specs.Tree.{Tree}
 use Rattle.sheet_model.specs.declared.value.Value.{Value}
 use Rattle.sheet_model.specs.declared.value.Value.TheVariants.{Error}
-use Rattle.recalculation.specs.Entries.{Entry, Formula, Overriding}
-use Rattle.recalculation.specs.Evaluation.{evaluated, cell_value}
-use Rattle.recalculation.specs.Recalculation.{bounded_val, entry_value, number_or, val}
-use Rattle.recalculation.specs.Walks.{has_walk, is_formula, refers, unfolded}
+use Rattle.form_extraction.specs.FromRecalculation.{Entry, Formula, Overriding}
+use Rattle.form_extraction.specs.FromRecalculation.{evaluated, cell_value}
+use Rattle.form_extraction.specs.FromRecalculation.{bounded_val, entry_value, number_or, val}
+use Rattle.form_extraction.specs.FromRecalculation.{has_walk, is_formula, refers, unfolded}
 use Rattle.workbook.specs.declared.place.Place.{Place}
 use Rattle.workbook.specs.declared.place.Place.TheVariants as place
 use Rattle.sheet_problems.specs.Places.{number_in, put_over, tree_of, worth_at}

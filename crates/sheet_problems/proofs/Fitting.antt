@@ -9,11 +9,11 @@ use Rattle.optimality.specs.Problem.{Goal, greatest}
 use Rattle.cell_refs.specs.declared.cell.Cell.{Cell}
 use Rattle.affine_forms.specs.Assigned.{ReachTo}
 use Rattle.affine_forms.specs.Forms.{AffineForm, decision_form}
-use Rattle.lin_model.specs.declared.kinds.Relation.{Relation}
+use Rattle.solver_names.specs.FromLinModel.{Relation}
 use Rattle.linear_models.specs.Agreement.{Fits, IsGroupIn, IsOwn, SidesReach}
 use Rattle.linear_models.specs.Conditions.{constraint_of, constraints, goal_or_greatest, objective_where}
 use Rattle.linear_models.specs.Statement.{IsOnce}
-use Rattle.recalculation.specs.Entries.{Book}
+use Rattle.form_extraction.specs.FromRecalculation.{Book}
 use Rattle.workbook.specs.Kinds.{book_of}
 use Rattle.workbook.specs.declared.place.Place.{Place}
 use Rattle.workbook.specs.declared.place.Place.TheVariants as place

@@ -8,8 +8,8 @@ use Rattle.cell_refs.specs.Cells.{is_same_cell}
 use Rattle.cell_refs.specs.declared.cell.Cell.{Cell}
 use Rattle.affine_forms.specs.Assigned.{assigned}
 use Rattle.affine_forms.specs.Forms as forms
-use Rattle.recalculation.specs.Entries.{Overriding}
-use Rattle.recalculation.proofs.Values.{val_overridden}
+use Rattle.form_extraction.specs.FromRecalculation.{Overriding}
+use Rattle.form_extraction.proofs.FromRecalculation.{val_overridden}
 use Rattle.form_extraction.specs.Places.{overriding, numbered_in}
 use Rattle.sheet_problems.specs.Laws.{DecisionIsItsNumber, DependsOnDecisions, EqualNumbersGiveEqualValues}
 use Rattle.sheet_problems.specs.Places.{number_in, put_over, value_at}

@@ -7,7 +7,7 @@ use Rattle.fractions.proofs.Laws.{add-zero}
 use Rattle.cell_refs.specs.declared.cell.Cell.{Cell}
 use Rattle.formula_ast.specs.Tree.{Tree}
 use Rattle.sheet_model.specs.declared.value.Value.TheVariants.{Number, Text, Logical, Empty, Error}
-use Rattle.recalculation.specs.Entries.{Book}
+use Rattle.form_extraction.specs.FromRecalculation.{Book}
 use Rattle.affine_forms.specs.Assigned.{assigned, ReachTo}
 use Rattle.affine_forms.specs.Forms.{Assignment, AffineForm, IsForm, constant_form, worth}
 use Rattle.form_values.specs.Meaning.{abs_at}

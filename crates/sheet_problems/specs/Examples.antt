@@ -20,7 +20,7 @@ use Rattle.formula_ast.specs.Tree.{Tree, Listed, none, more}
 use Rattle.formula_ast.specs.Tree as tree
 use Rattle.formula_ast.specs.declared.func.Func.TheVariants as func
 use Rattle.sheet_model.specs.declared.value.Value.TheVariants.{Number, Text}
-use Rattle.recalculation.specs.Entries.{Book, Entry, Constant, Formula, Malformed}
+use Rattle.form_extraction.specs.FromRecalculation.{Book, Entry, Constant, Formula, Malformed}
 use Rattle.workbook.specs.declared.place.Place.{Place}
 use Rattle.workbook.specs.declared.place.Place.TheVariants as place
 use Rattle.sheet_problems.specs.Places.{Sides, worth_at}

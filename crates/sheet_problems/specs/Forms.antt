@@ -5,7 +5,7 @@ use Rattle.std.specs.Option.{option_and_then}
 use Rattle.fractions.specs.Rational.{zero_ℚ}
 use Rattle.cell_refs.specs.declared.cell.Cell.{Cell}
 use Rattle.sheet_model.specs.declared.value.Value.TheVariants.{Number, Empty}
-use Rattle.recalculation.specs.Entries.{Book}
+use Rattle.form_extraction.specs.FromRecalculation.{Book}
 use Rattle.affine_forms.specs.Forms.{AffineForm, constant_form}
 use Rattle.form_values.specs.declared.abs.Abs.{Abs}
 use Rattle.form_values.specs.declared.abs.Abs.TheVariants.{Known, Affine}

@@ -12,7 +12,7 @@ use Rattle.linear_models.specs.Linear.{linear}
 use Rattle.linear_models.specs.Model.{Model, IsPoint}
 use Rattle.linear_models.specs.Model as model
 use Rattle.linear_models.specs.Statement.{stated}
-use Rattle.recalculation.specs.Entries.{Book, Overriding}
+use Rattle.form_extraction.specs.FromRecalculation.{Book, Overriding}
 use Rattle.workbook.specs.Kinds.{book_of}
 use Rattle.workbook.specs.State.{State}
 use Rattle.workbook.specs.declared.place.Place.{Place}

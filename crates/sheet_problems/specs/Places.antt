@@ -7,8 +7,8 @@ use Rattle.cell_refs.specs.declared.cell.Cell.{Cell}
 use Rattle.formula_ast.specs.Tree.{Tree}
 use Rattle.sheet_model.specs.declared.value.Value.{Value}
 use Rattle.sheet_model.specs.declared.value.Value.TheVariants.{Number, Empty}
-use Rattle.recalculation.specs.Entries.{Book, Overriding}
-use Rattle.recalculation.specs.Recalculation.{val}
+use Rattle.form_extraction.specs.FromRecalculation.{Book, Overriding}
+use Rattle.form_extraction.specs.FromRecalculation.{val}
 use Rattle.affine_forms.specs.Assigned.{assigned}
 use Rattle.workbook.specs.declared.place.Place.{Place}
 use Rattle.workbook.specs.declared.place.Place.TheVariants as place

@@ -4,7 +4,7 @@ use Rattle.std.specs.Prelude.{ℕ, not, if◌then◌else◌, List, [], map, filt
 use Rattle.std.specs.List.{range_with_len}
 use Rattle.optimality.specs.Problem.{Row, Problem}
 use Rattle.linear_models.specs.Statement.{is_in}
-use Rattle.recalculation.specs.Entries.{Book}
+use Rattle.form_extraction.specs.FromRecalculation.{Book}
 use Rattle.workbook.specs.Kinds.{book_of}
 use Rattle.workbook.specs.State.{State}
 use Rattle.workbook.specs.declared.place.Place.TheVariants as place

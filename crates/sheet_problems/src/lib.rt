@@ -5,6 +5,8 @@
 ghost use Rattle.sheet_problems.specs.Examples.{WorthsHold};
 ghost use Rattle.sheet_problems.specs.Laws.{DecisionIsItsNumber, DependsOnDecisions, EqualNumbersGiveEqualValues, FormsFit, FormsStateTheProblem, LinearModelIsTheSheet};
 
+pub use solver_names::{RowOf, Statement};
+
 /// What places are worth is determined by the numbers of the decision cells.
 pub fn worth_laws()
     ensures equal { EqualNumbersGiveEqualValues }

@@ -24,8 +24,8 @@ use Rattle.workbook.specs.State.{State}
 use Rattle.std.specs.FinMap.{insert}
 use Rattle.solver_names.specs.Statement.{Statement}
 use Rattle.sheet_linear_model.specs.Prepared.{IsPrepared, Prepared, rows_of}
-use Rattle.sheet_problems.specs.Laws.{ModelIsTheSheet}
-use Rattle.statement_laws.specs.Laws.{IsWhole}
+use Rattle.commands.specs.FromSheetProblems.{ModelIsTheSheet}
+use Rattle.sheet_linear_model.specs.FromStatementLaws.{IsWhole}
 use Rattle.write_back.specs.Writing.{number_text, texts_of}
 use Rattle.commands.specs.declared.answer.Answer.{Answer}
 use Rattle.commands.specs.declared.answer.Answer.TheVariants as answer

@@ -1,6 +1,9 @@
+pub mod Budgets
+pub mod Ends
+pub mod FromKeptTables
+pub mod FromSheetLinearModel
+pub mod FromTouchedPlaces
 pub mod Meaning
 pub mod Paths
 pub mod Recalculated
 pub mod Running
-pub mod Ends
-pub mod Budgets

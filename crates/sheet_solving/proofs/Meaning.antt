@@ -18,9 +18,9 @@ use Rattle.workbook.specs.State.{State}
 use Rattle.workbook.specs.declared.place.Place.TheVariants as place
 use Rattle.solver_names.specs.Sides.{sides_in}
 use Rattle.solver_names.specs.Statement.{Statement}
-use Rattle.sheet_problems.specs.Laws.{ModelIsTheSheet}
-use Rattle.sheet_problems.specs.Places.{worth_at}
-use Rattle.sheet_problems.specs.SheetProblem.{problem_in}
+use Rattle.commands.specs.FromSheetProblems.{ModelIsTheSheet}
+use Rattle.commands.specs.FromSheetProblems.{worth_at}
+use Rattle.commands.specs.FromSheetProblems.{problem_in}
 use Rattle.sheet_solving.specs.Inner.{told_of, value_told}
 
 -- the objective of the model by the number that its search has

@@ -19,9 +19,9 @@ use Rattle.workbook.specs.declared.place.Place.{Place}
 use Rattle.workbook.specs.declared.place.Place.TheVariants as place
 use Rattle.solver_names.specs.Sides.{sides_in}
 use Rattle.solver_names.specs.Statement.{RowOf, Statement}
-use Rattle.sheet_problems.specs.Places.{number_in, put_over, tree_of, value_at, worth_at}
-use Rattle.sheet_problems.specs.SheetProblem.{not_negative_in, problem_in, row_of}
-use Rattle.sheet_problems.proofs.Numbers.{decision_is_its_number}
+use Rattle.commands.specs.FromSheetProblems.{number_in, put_over, tree_of, value_at, worth_at}
+use Rattle.commands.specs.FromSheetProblems.{not_negative_in, problem_in, row_of}
+use Rattle.commands.proofs.FromSheetProblems.{decision_is_its_number}
 use Rattle.write_back.specs.Writing.{AreDistinct, with_numbers}
 use Rattle.write_back.proofs.Contents.{own_place}
 use Rattle.sheet_solving.specs.Inner.{IsWritten, told_of}

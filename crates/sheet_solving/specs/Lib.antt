@@ -1,3 +1,13 @@
+pub mod FromBranchBound
+pub mod FromFormExtraction
+pub mod FromKeptForms
+pub mod FromKeptMarks
+pub mod FromKeptTables
+pub mod FromSheetLinearModel
+pub mod FromSheetProblems
+pub mod FromStatementLaws
+pub mod FromTouchedPlaces
+pub mod FromWriteBack
+pub mod Inner
 pub mod Searches
 pub mod Solving
-pub mod Inner

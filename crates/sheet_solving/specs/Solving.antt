@@ -20,8 +20,8 @@ use Rattle.workbook.specs.declared.place.Place.{Place}
 use Rattle.workbook.specs.declared.place.Place.TheVariants as place
 use Rattle.solver_names.specs.Sides.{sides_in}
 use Rattle.solver_names.specs.Statement.{RowOf, Statement}
-use Rattle.sheet_problems.specs.Places.{number_in, put_over, value_at}
-use Rattle.sheet_problems.specs.SheetProblem.{not_negative_in, problem_in}
+use Rattle.commands.specs.FromSheetProblems.{number_in, put_over, value_at}
+use Rattle.commands.specs.FromSheetProblems.{not_negative_in, problem_in}
 use Rattle.write_back.specs.Writing.{with_numbers, without_room}
 use Rattle.sheet_solving.specs.Searches.{EndsWith, HasOpenLeaf, HasUnits, Opened, Searched, Task, led_to, total}
 

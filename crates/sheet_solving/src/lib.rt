@@ -10,5 +10,6 @@ mod told;
 
 pub use open_search::OpenSearch;
 pub use searched::Allowed;
+pub use sheet_linear_model::{FormTables, Linked, NoModel, Prepared, Steps, model_lines, prepare};
 pub use slicing::slice;
 pub use solving::solve;

@@ -4,12 +4,12 @@ ghost use Rattle.commands.specs.Lines.{CanBeSaid};
 ghost use Rattle.search_bounds.specs.Choices.{IsBounded};
 ghost use Rattle.search_bounds.specs.Enough.{enough_for};
 ghost use Rattle.sheet_linear_model.specs.Prepared.{IsPrepared, Prepared};
-ghost use Rattle.sheet_problems.specs.Laws.{ModelIsTheSheet};
+ghost use Rattle.commands.specs.FromSheetProblems.{ModelIsTheSheet};
 ghost use Rattle.sheet_solving.specs.Inner.{TellsStop};
 ghost use Rattle.sheet_solving.specs.Searches.{GoesFurther, task_from};
 ghost use Rattle.sheet_solving.specs.Solving.{HasBudgetLeft, Slices};
 ghost use Rattle.solver_names.specs.Answers.{statement_of};
-ghost use Rattle.statement_laws.specs.Laws.{IsWhole};
+ghost use Rattle.sheet_linear_model.specs.FromStatementLaws.{IsWhole};
 
 use crate::open_search::OpenSearch;
 use crate::path::by_cells;

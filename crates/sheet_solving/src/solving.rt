@@ -5,11 +5,11 @@ ghost use Rattle.search_bounds.specs.Choices.{IsBounded};
 ghost use Rattle.search_bounds.specs.Enough.{enough_for};
 ghost use Rattle.sheet_linear_model.specs.Answers.{prepared_of};
 ghost use Rattle.sheet_linear_model.specs.Prepared.{IsPrepared};
-ghost use Rattle.sheet_problems.specs.Laws.{ModelIsTheSheet};
+ghost use Rattle.commands.specs.FromSheetProblems.{ModelIsTheSheet};
 ghost use Rattle.sheet_solving.specs.Searches.{whole_task};
 ghost use Rattle.sheet_solving.specs.Solving.{HasBudgetLeft, Solves};
 ghost use Rattle.solver_names.specs.Answers.{statement_of};
-ghost use Rattle.statement_laws.specs.Laws.{IsWhole};
+ghost use Rattle.sheet_linear_model.specs.FromStatementLaws.{IsWhole};
 
 use crate::open_search::OpenSearch;
 use crate::searched::Allowed;

@@ -9,7 +9,7 @@ use Rattle.recalculation.specs.Evaluation.{grid_of_areas}
 use Rattle.form_table.specs.Operators.{minus_form, percent_form}
 use Rattle.form_extraction.specs.declared.forms.Outcome.TheVariants.{Without}
 use Rattle.form_extraction.specs.Formulas.{call_part, joined, part_of, parts_of, referred, signed, turned}
-use Rattle.form_parts.specs.Steps.{unread}
+use Rattle.form_calls.specs.FromFormParts.{unread}
 use Rattle.extract.specs.Unread.{read_at, table_place, unread_at}
 use Rattle.extract.proofs.Nodes.{unread_go, parts-count, of_node}
 use Rattle.extract.proofs.Unread.{call_unread, unread_length}

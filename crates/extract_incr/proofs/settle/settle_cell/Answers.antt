@@ -1,7 +1,7 @@
 use Rattle.std.proofs.Common.{◌≡◌, ◌∙◌, ap, sym, Option, None, ℕ}
 use Rattle.std.specs.Prelude.{is_some}
-use Rattle.extract.specs.Tables.{form_at}
-use Rattle.form_extraction.specs.Places.{numbered_in}
+use Rattle.needed_forms.specs.FromExtract.{form_at}
+use Rattle.needed_forms.specs.FromFormExtraction.{numbered_in}
 use Rattle.recalculation.specs.Entries.{entry}
 use Rattle.workbook.specs.Kinds.{book_of}
 use Rattle.workbook.specs.declared.place.Place.TheVariants as place

@@ -2,7 +2,7 @@ use Rattle.std.proofs.Common.{◌≡◌, Some, arith, subst, sym, ◌∙◌}
 use Rattle.std.specs.Prelude.{IsSome, slice_get, slice_index_or}
 use Rattle.std.proofs.lemmas.Option.{slice_get-get_or}
 use Rattle.cell_refs.specs.declared.cell.Cell.{Cell}
-use Rattle.extract.specs.Tables.{form_at}
+use Rattle.needed_forms.specs.FromExtract.{form_at}
 use Rattle.workbook.specs.Kinds.{book_of}
 use Rattle.workbook.specs.declared.place.Place.TheVariants as place
 use Rattle.extract_incr.specs.Settling.{kept_in}

@@ -2,7 +2,7 @@
 use Rattle.std.proofs.Common.{◌≡◌, ◌<◌, ℕ, Some}
 use Rattle.std.specs.Prelude.{IsSome, slice_get}
 use Rattle.cell_refs.specs.declared.cell.Cell.{Cell}
-use Rattle.extract.specs.Tables.{form_at}
+use Rattle.needed_forms.specs.FromExtract.{form_at}
 use Rattle.extract_incr.specs.Settling.{Goes, kept_in}
 use Rattle.workbook.specs.Kinds.{book_of}
 use Rattle.workbook.specs.declared.place.Place.TheVariants as place

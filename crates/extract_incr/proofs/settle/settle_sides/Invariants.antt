@@ -1,7 +1,7 @@
 -- The sides so far have their forms, for as many steps as there are forms to be made less.
 use Rattle.std.proofs.Common.{◌≡◌, ◌<◌, ◌≤◌, ◌+◌, ℕ, Some}
 use Rattle.std.specs.Prelude.{IsSome, slice_get}
-use Rattle.extract.specs.Tables.{form_at}
+use Rattle.needed_forms.specs.FromExtract.{form_at}
 use Rattle.formula_ast.specs.Tree.{Tree}
 use Rattle.extract_incr.specs.Settling.{Goes, kept_in, unmade}
 use Rattle.workbook.specs.Kinds.{book_of}

@@ -1,5 +1,5 @@
 use Rattle.formula_ast.specs.declared.func.Func.TheVariants as func
-use Rattle.form_truth.proofs.Rows.{countif_is_right}
+use Rattle.form_ops.proofs.FromFormTruth.{countif_is_right}
 use Rattle.form_ops.proofs.Truth.{call_true}
 use Rattle.form_areas.proofs.conditional.countif.Goals as goal
 

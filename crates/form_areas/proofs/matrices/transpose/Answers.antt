@@ -1,6 +1,6 @@
 use Rattle.std.proofs.Common.{rules, Ok}
 use Rattle.formula_ast.specs.declared.func.Func.TheVariants as func
-use Rattle.form_truth.proofs.Rows.{transpose_is_right}
+use Rattle.form_ops.proofs.FromFormTruth.{transpose_is_right}
 use Rattle.form_ops.proofs.Truth.{call_true}
 use Rattle.form_areas.proofs.matrices.transpose.Goals as goal
 

@@ -3,7 +3,7 @@ use Rattle.form_values.specs.declared.abs.Abs.TheVariants.{Known}
 use Rattle.form_values.specs.declared.abs.AbsArg.TheVariants.{One}
 use Rattle.formula_ast.specs.declared.func.Func.TheVariants as func
 use Rattle.sheet_model.specs.declared.value.Value.TheVariants.{Number}
-use Rattle.form_truth.proofs.Rows.{count_is_right}
+use Rattle.form_ops.proofs.FromFormTruth.{count_is_right}
 use Rattle.form_ops.proofs.Truth.{call_true}
 use Rattle.form_areas.proofs.sums.count.Goals as goal
 

@@ -1,5 +1,5 @@
 use Rattle.formula_ast.specs.declared.func.Func.TheVariants as func
-use Rattle.form_truth.proofs.Rows.{sum_is_right}
+use Rattle.form_ops.proofs.FromFormTruth.{sum_is_right}
 use Rattle.form_ops.proofs.Truth.{call_true}
 use Rattle.form_areas.proofs.sums.sum.Goals as goal
 

@@ -1,5 +1,5 @@
 use Rattle.std.proofs.Common.{◌≡◌, rules, subst, true, IfOk}
-use Rattle.form_functions.specs.Whole.{is_whole}
+use Rattle.form_parts.specs.FromFormFunctions.{is_whole}
 use Rattle.form_calls.proofs.Whole.{whole_call}
 use Rattle.form_calls.proofs.calls.call_part.Goals as goal
 

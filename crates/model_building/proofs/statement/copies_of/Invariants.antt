@@ -1,6 +1,6 @@
 use Rattle.std.proofs.Common.{◌≡◌, take}
 use Rattle.lin_model.specs.Lists.{lists_of}
-use Rattle.solver_names.specs.Answers.{groups_of}
+use Rattle.sheet_problems.specs.FromSolverNames.{groups_of}
 use Rattle.model_building.proofs.statement.copies_of.Given as goal
 
 -- the copies of the lists so far

@@ -1,6 +1,6 @@
 use Rattle.std.proofs.Common.{◌≡◌, ◌++◌, drop, map}
 use Rattle.sheet_problems.specs.Forms.{condition_of}
-use Rattle.solver_names.specs.Answers.{row_of}
+use Rattle.sheet_problems.specs.FromSolverNames.{row_of}
 use Rattle.model_building.proofs.statement.row_conditions.Given as goal
 
 -- with those of the rows that are left the conditions are all

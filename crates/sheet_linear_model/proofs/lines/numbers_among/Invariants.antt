@@ -1,7 +1,7 @@
 use Rattle.std.proofs.Common.{◌≡◌, ◌++◌, drop, map}
 use Rattle.linear_models.specs.Conditions.{constraints}
 use Rattle.solver_names.specs.Answers.{row_of}
-use Rattle.sheet_problems.specs.Forms.{condition_of}
+use Rattle.form_needs.specs.FromSheetProblems.{condition_of}
 use Rattle.sheet_linear_model.specs.Lines.{row_numbers}
 use Rattle.sheet_linear_model.proofs.lines.numbers_among.Given as goal
 

@@ -1,5 +1,5 @@
 use Rattle.workbook.specs.Kinds.{book_of}
-use Rattle.sheet_problems.specs.Forms.{HasSides}
+use Rattle.form_needs.specs.FromSheetProblems.{HasSides}
 use Rattle.solver_names.specs.Sides.{sides_in}
 use Rattle.sheet_linear_model.proofs.Looping.{sides_step}
 use Rattle.sheet_linear_model.proofs.numbers.sides_of_rows.Goals as goal

@@ -1,7 +1,7 @@
 use Rattle.std.proofs.Common.{map, take}
 use Rattle.std.specs.List.{AllZip}
 use Rattle.workbook.specs.Kinds.{book_of}
-use Rattle.sheet_problems.specs.Forms.{HasSides}
+use Rattle.form_needs.specs.FromSheetProblems.{HasSides}
 use Rattle.solver_names.specs.Answers.{row_of}
 use Rattle.solver_names.specs.Sides.{sides_in}
 use Rattle.sheet_linear_model.proofs.numbers.sides_of_rows.Given as goal

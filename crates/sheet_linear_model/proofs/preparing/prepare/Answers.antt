@@ -1,4 +1,4 @@
-use Rattle.form_tables.specs.Tables.{is_searching}
+use Rattle.kept_forms.specs.Tables.{is_searching}
 use Rattle.sheet_linear_model.proofs.Settled.{are_settled}
 use Rattle.sheet_linear_model.proofs.preparing.prepare.Goals as goal
 

@@ -5,10 +5,10 @@ use Rattle.cell_refs.specs.declared.cell.Cell.{Cell}
 use Rattle.cell_refs.proofs.Order.{cells_total}
 use Rattle.dep_table.specs.Affected.{AreAffected}
 use Rattle.column_strips.specs.Affected.{has_cell}
-use Rattle.extract.specs.Tables.{form_at}
+use Rattle.needed_forms.specs.FromExtract.{form_at}
 use Rattle.kept_marks.specs.Marks.{without_marked}
-use Rattle.sheet_problems.specs.Places.{tree_of}
-use Rattle.touched_places.specs.Tests.{touches}
+use Rattle.needed_forms.specs.FromSheetProblems.{tree_of}
+use Rattle.kept_marks.specs.FromTouchedPlaces.{touches}
 use Rattle.extract_incr.specs.Keeping.{Kept}
 use Rattle.extract_incr.specs.Marking.{AreAreasOf}
 use Rattle.extract_incr.proofs.Taken.{touched_are_taken}

@@ -1,5 +1,5 @@
 use Rattle.std.proofs.Common.{◌≤◌, ◌+◌, ap, subst, sym, ◌∙◌}
-use Rattle.extract.specs.Tables.{form_count}
+use Rattle.needed_forms.specs.FromExtract.{form_count}
 use Rattle.extract_incr.specs.Keeping.{AreKept, HaveOwnNumbers, stale_count}
 use Rattle.extract_incr.specs.Settling.{kept_in, left, unmade}
 use Rattle.workbook.specs.Kinds.{book_of}

@@ -1,0 +1,3 @@
+-- What the crates above name of sheet_problems, handed on.
+pub use Rattle.sheet_problems.specs.Laws.{ModelIsTheSheet}
+pub use Rattle.sheet_problems.specs.Places.{tree_of}

@@ -1,0 +1,2 @@
+-- What the crates above name of extract, handed on.
+pub use Rattle.needed_cells.proofs.FromExtract.{said_plain}

@@ -1,0 +1,2 @@
+-- What the crates above name of touched_places, handed on.
+pub use Rattle.kept_forms.proofs.FromTouchedPlaces.{apart, texts_differ_at_one}

@@ -1,0 +1,2 @@
+-- What the crates above name of kept_marks, handed on.
+pub use Rattle.kept_forms.specs.FromKeptMarks.{marks, marks_all}

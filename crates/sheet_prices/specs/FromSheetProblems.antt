@@ -1,0 +1,2 @@
+-- What the crates above name of sheet_problems, handed on.
+pub use Rattle.sheet_problems.specs.Laws.{ModelIsTheSheet}
