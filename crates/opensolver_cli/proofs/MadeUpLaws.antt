@@ -8,7 +8,8 @@ use Rattle.commands.specs.Lines.{is_refusal}
 use Rattle.commands.specs.declared.answer.Answer.{Answer}
 use Rattle.node_pick.specs.Rules.{Rule}
 use Rattle.made_up_books.specs.MadeUp.{made_up, sheet_name}
-use Rattle.session.specs.States.{Session, SessionState, opened}
+use Rattle.session.specs.States.{SessionState, opened}
+use Rattle.opensolver_cli.specs.Counted.{CountedState}
 use Rattle.session.specs.Steps.{Applies, once_written}
 use Rattle.opensolver_cli.specs.Answering.{AnswersSize, Says, IsSinkFault, SolvesSize}
 use Rattle.opensolver_cli.specs.Completeness.{EndsExactly, IsEarly, IsWhole}
@@ -47,8 +48,8 @@ was_said (Ok t) line refused size here begins applied s a opens is does line_is 
 was_said (Err e) line refused size here begins applied s a opens is does line_is refusal = tt
 
 -- the session of its workbook
-pub opened_so : (size : ℕ) (book : State) (session : Session) → book ≡ made_up size → session ≡ record { state = opened book default_budget } → session.state ≡ opened (made_up size) default_budget
-opened_so size book session is opens = ap (λ (z : Session). z.state) opens ∙ ap (λ (z : State). opened z default_budget) is
+pub opened_so : (size : ℕ) (book : State) (session : CountedState) → book ≡ made_up size → session.state ≡ opened book default_budget → session.state ≡ opened (made_up size) default_budget
+opened_so size book session is opens = opens ∙ ap (λ (z : State). opened z default_budget) is
 
 -- ---- one line
 -- the line of the answer was said

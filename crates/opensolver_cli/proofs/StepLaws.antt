@@ -14,7 +14,8 @@ use Rattle.commands.specs.Commands.{command_of}
 use Rattle.commands.specs.Lines.{answer_text, is_refusal}
 use Rattle.commands.specs.declared.answer.Answer.{Answer}
 use Rattle.node_pick.specs.Rules.{Rule}
-use Rattle.session.specs.States.{Session, SessionState, opened}
+use Rattle.session.specs.States.{SessionState, opened}
+use Rattle.opensolver_cli.specs.Counted.{CountedState}
 use Rattle.session.specs.Steps.{Step}
 use Rattle.opensolver_cli.specs.Answering.{AnswersRecord, AnswersRecords, IsAnswered, IsCutInFolder, IsCutOff, IsPutFault, IsSaved, IsUnprinted, NothingIsWritten}
 use Rattle.opensolver_cli.specs.Courses.{AllAnswered, CutShort, EndsBefore, EndsInFolder, EndsInSink, EndsUnprinted, Setting, sheets_of}
@@ -331,7 +332,7 @@ all_were_answered rule named begins (Some files) m rows i u v refused all is lon
     subst (λ (b : Bool). AllAnswered (begun rule named begins files) rows u v b) is (all_answered (begun rule named begins files) m rows i u v refused long are)
 
 -- ---- the same over a workbook that was opened
-pub over_opened : (rule : Rule) (job : Job) (book : State) (content : Option Files) (s : Session) (rows : List Record) (u v : Written) (ends : Status) → s ≡ record { state = opened book job.budget }
+pub over_opened : (rule : Rule) (job : Job) (book : State) (content : Option Files) (s : CountedState) (rows : List Record) (u v : Written) (ends : Status) → s.state ≡ opened book job.budget
     → IfSome content (λ files. AnswersRecords (begun rule job.named s.state files) rows u v ends) → IfSome content (λ files. AnswersRecords (setting_of rule job book files) rows u v ends)
 over_opened rule job book content s rows u v ends opens h =
-    subst (λ (z : Session). IfSome content (λ files. AnswersRecords (begun rule job.named z.state files) rows u v ends)) opens h
+    subst (λ (z : SessionState). IfSome content (λ files. AnswersRecords (begun rule job.named z files) rows u v ends)) opens h

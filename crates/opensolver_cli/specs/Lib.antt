@@ -1,7 +1,9 @@
-pub mod Outside
-pub mod MadeUp
-pub mod Worlds
-pub mod Courses
-pub mod Headline
-pub mod Completeness
 pub mod Answering
+pub mod Completeness
+pub mod Counted
+pub mod Courses
+pub mod FromCommandLine
+pub mod Headline
+pub mod MadeUp
+pub mod Outside
+pub mod Worlds

@@ -1,5 +1,5 @@
 // Answering the records of a script.
-ghost use Rattle.std.specs.Prelude.{◌≡◌, ◌≤◌, IfSome, List, ℕ};
+ghost use Rattle.std.specs.Prelude.{◌≡◌, ◌≤◌, ◌<◌, IfSome, List, ℕ};
 ghost use Rattle.commands.specs.Commands.{command_of, spoken};
 ghost use Rattle.commands.specs.Lines.{CanBeSaid};
 ghost use Rattle.commands.specs.declared.units.TheConstants.{MOST_UNITS};
@@ -12,13 +12,16 @@ ghost use Rattle.session.specs.Steps.{Applies};
 ghost use Rattle.command_line.specs.Read.{job_read, named_of};
 
 use crate::Status;
+use crate::counted::{Beginning, CountedSession};
 use crate::saving::save;
 use command_line::Job;
 use node_pick::Picker;
-use session::{Answer, Command, Session, line};
+use session::{Answer, Command, line};
 use sheet_csv::{Record, Rows};
 use solver_io::{Folder, PutEnd, Sink};
 use std::alloc::Global;
+use std::marker::Brand;
+use std::sync::ledger::{Blank, Ledger};
 use workbook::Workbook;
 
 /// Answers each of the records, over a workbook that was opened, with the job's budget for a search, which opens the nodes that the
@@ -50,16 +53,54 @@ pub(crate) fn answer_records<F: Folder, K: Sink>(
         result }
     ensures reads { F.read_faults folder.new ≡ F.read_faults folder.old }
 {
-    let Ok(mut session) = Session::open(alloc, book, job.budget) else {
+    let beginning = Beginning {
+        book,
+        blank: Blank::new(1),
+    };
+    answer_counted::<F, K, Brand>(alloc, beginning, job, rows, folder, out, pick)
+}
+
+// The same with the counter's beginning.
+fn answer_counted<F: Folder, K: Sink, L: Ledger>(
+    alloc: Global,
+    of: Beginning,
+    job: &Job,
+    rows: &Rows,
+    folder: &mut F,
+    out: &mut K,
+    pick: &mut Box<dyn Picker>,
+) -> Status
+    requires name { of.blank.name ≡ L.name }
+    requires parts { of.blank.parts ≡ L.parts }
+    requires some { 0 < of.blank.parts }
+    requires few { job.now.budget ≤ MOST_UNITS }
+    ensures answers { IfSome (F.content folder.old)
+        (λ files. AnswersRecords (setting_of (rule pick.old) (job_read job.now) of.book files)
+        rows.now
+        (put_in (F.content folder.old) (F.write_faults folder.old)
+        (F.write_wants folder.old) (K.pieces out.old) (K.faults out.old))
+        (put_in (F.content folder.new) (F.write_faults folder.new)
+        (F.write_wants folder.new) (K.pieces out.new) (K.faults out.new))
+        result) }
+    ensures ends { EndsAnswering result }
+    ensures cause { IsPutFault
+        (put_in (F.content folder.old) (F.write_faults folder.old)
+        (F.write_wants folder.old) (K.pieces out.old) (K.faults out.old))
+        (put_in (F.content folder.new) (F.write_faults folder.new)
+        (F.write_wants folder.new) (K.pieces out.new) (K.faults out.new))
+        result }
+    ensures reads { F.read_faults folder.new ≡ F.read_faults folder.old }
+{
+    let Ok(mut session) = CountedSession::<L>::open(alloc, of, job.budget) else {
         return Status::Memory;
     };
     answer_each(alloc, &mut session, job, rows, folder, out, pick)
 }
 
 // Answers each of the records over a session.
-fn answer_each<F: Folder, K: Sink>(
+fn answer_each<F: Folder, K: Sink, L: Ledger>(
     alloc: Global,
-    session: &mut Session,
+    session: &mut CountedSession<L>,
     job: &Job,
     rows: &Rows,
     folder: &mut F,
@@ -104,9 +145,9 @@ fn answer_each<F: Folder, K: Sink>(
 }
 
 // Answers a record, and says whether the answer is a refusal.
-fn answer_record<F: Folder, K: Sink>(
+fn answer_record<F: Folder, K: Sink, L: Ledger>(
     alloc: Global,
-    session: &mut Session,
+    session: &mut CountedSession<L>,
     job: &Job,
     fields: &Record,
     folder: &mut F,
@@ -132,9 +173,9 @@ fn answer_record<F: Folder, K: Sink>(
 }
 
 // The same of the command that a record spells.
-fn answer_command<F: Folder, K: Sink>(
+fn answer_command<F: Folder, K: Sink, L: Ledger>(
     alloc: Global,
-    session: &mut Session,
+    session: &mut CountedSession<L>,
     job: &Job,
     command: &Command,
     folder: &mut F,
@@ -153,16 +194,16 @@ fn answer_command<F: Folder, K: Sink>(
     ensures rule { rule pick.new ≡ rule pick.old }
     ensures reads { F.read_faults folder.new ≡ F.read_faults folder.old }
 {
-    let Ok(answer) = session.apply(command, pick) else {
+    let Ok(answer) = session.session.apply(command, pick, &mut session.steps) else {
         return Err(PutEnd::Memory);
     };
     tell_answer(alloc, session, job, &answer, folder, out)
 }
 
 // Writes what an answer saves and its lines, and says whether it is a refusal. Its command led from some state to that of the session.
-fn tell_answer<F: Folder, K: Sink>(
+fn tell_answer<F: Folder, K: Sink, L: Ledger>(
     alloc: Global,
-    session: &mut Session,
+    session: &mut CountedSession<L>,
     job: &Job,
     answer: &Answer,
     folder: &mut F,

@@ -1,5 +1,5 @@
 // The solve of a workbook that is made up.
-ghost use Rattle.std.specs.Prelude.{◌≡◌, ◌≤◌, ◌∷◌, [], IfOk, string_bytes};
+ghost use Rattle.std.specs.Prelude.{◌≡◌, ◌≤◌, ◌<◌, ◌∷◌, [], IfOk, string_bytes};
 ghost use Rattle.commands.specs.Commands.{Solve, spoken};
 ghost use Rattle.commands.specs.Lines.{CanBeSaid, is_refusal};
 ghost use Rattle.command_line.specs.Words.{default_budget, most_made_up};
@@ -10,13 +10,16 @@ ghost use Rattle.session.specs.States.{opened};
 
 use crate::Status;
 use crate::answer::say;
+use crate::counted::{Beginning, CountedSession};
 use command_line::DEFAULT_BUDGET;
 use itoa::Buffer;
 use made_up_books::made_up;
 use node_pick::Picker;
-use session::{Answer, Command, Memory, Session, line};
+use session::{Answer, Command, Memory, line};
 use solver_io::Sink;
 use std::alloc::Global;
+use std::marker::Brand;
+use std::sync::ledger::{Blank, Ledger};
 
 /// Solves the sheet of the workbook of this size, and prints one line.
 pub(crate) fn solve_made_up<K: Sink>(
@@ -47,16 +50,34 @@ fn answer_to(alloc: Global, size: u8, pick: &mut Box<dyn Picker>) -> Result<(Str
     requires few { size ≤ most_made_up }
     ensures { IfOk result (λ said. AnswersSize (rule pick.old) size (string_bytes said.0) said.1) }
 {
+    answer_counted::<Brand>(alloc, Blank::new(1), size, pick)
+}
+
+// The same with the counter's beginning.
+fn answer_counted<L: Ledger>(
+    alloc: Global,
+    blank: Blank,
+    size: u8,
+    pick: &mut Box<dyn Picker>,
+) -> Result<(String, bool), Memory>
+    requires name { blank.name ≡ L.name }
+    requires parts { blank.parts ≡ L.parts }
+    requires counted { 0 < blank.parts }
+    requires some { 1 ≤ size }
+    requires few { size ≤ most_made_up }
+    ensures { IfOk result (λ said. AnswersSize (rule pick.old) size (string_bytes said.0) said.1) }
+{
     let book = made_up(alloc, size)?;
-    let mut session = Session::open(alloc, book, DEFAULT_BUDGET)?;
+    let beginning = Beginning { book, blank };
+    let mut session = CountedSession::<L>::open(alloc, beginning, DEFAULT_BUDGET)?;
     answer_over(alloc, size, &mut session, pick)
 }
 
 // The same over the session that was opened.
-fn answer_over(
+fn answer_over<L: Ledger>(
     alloc: Global,
     size: u8,
-    session: &mut Session,
+    session: &mut CountedSession<L>,
     pick: &mut Box<dyn Picker>,
 ) -> Result<(String, bool), Memory>
     requires opened { session.now.state ≡ opened (made_up size) default_budget }
@@ -67,27 +88,27 @@ fn answer_over(
 }
 
 // The same of the command to solve the sheet.
-fn answer_command(
+fn answer_command<L: Ledger>(
     alloc: Global,
     size: u8,
     command: &Command,
-    session: &mut Session,
+    session: &mut CountedSession<L>,
     pick: &mut Box<dyn Picker>,
 ) -> Result<(String, bool), Memory>
     requires opened { session.now.state ≡ opened (made_up size) default_budget }
     requires solve { spoken command.now ≡ Solve sheet_name }
     ensures solves { IfOk result (λ said. AnswersSize (rule pick.old) size (string_bytes said.0) said.1) }
 {
-    let answer = session.apply(command, pick)?;
+    let answer = session.session.apply(command, pick, &mut session.steps)?;
     line_of(alloc, size, &answer, session)
 }
 
 // The line of an answer, before which the size comes, and whether the answer is a refusal.
-fn line_of(
+fn line_of<L: Ledger>(
     alloc: Global,
     size: u8,
     answer: &Answer,
-    session: &Session,
+    session: &CountedSession<L>,
 ) -> Result<(String, bool), Memory>
     requires sheets { session.now.state.book.sheets ≡ sheet_name ∷ [] }
     requires said { CanBeSaid session.now.state.book.sheets answer.now }

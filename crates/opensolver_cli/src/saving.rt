@@ -6,16 +6,18 @@ ghost use Rattle.opensolver_cli.specs.Answering.{SavesAnswer, SavesFiles};
 ghost use Rattle.command_line.specs.Read.{named_of};
 ghost use Rattle.opensolver_cli.specs.Worlds.{word_of};
 
+use crate::counted::CountedSession;
 use cell_refs::SheetId;
 use command_line::Named;
-use session::{Answer, SaveFile, Session};
+use session::{Answer, SaveFile};
 use solver_io::{Folder, PutEnd};
+use std::sync::ledger::Ledger;
 
 /// Writes the files that an answer names, in their order, and tells the session that they are written.
-pub(crate) fn save<F: Folder>(
+pub(crate) fn save<F: Folder, L: Ledger>(
     named: &Named,
     answer: &Answer,
-    session: &mut Session,
+    session: &mut CountedSession<L>,
     folder: &mut F,
 ) -> Result<(), PutEnd>
     ensures files { SavesAnswer (named_of named.now) answer.now

@@ -8,19 +8,19 @@ use Rattle.linear_models.specs.Model.{Model}
 use Rattle.node_pick.specs.Rules.{Rule}
 use Rattle.searches.specs.Answers as answers
 use Rattle.searches.specs.Trails.{SearchUnit, State as SearchState, Trail}
-use Rattle.branch_bound.specs.Ends.{IsWideAt}
+use Rattle.kept_book.specs.FromBranchBound.{IsWideAt}
 use Rattle.search_bounds.specs.Choices.{IsBounded}
 use Rattle.search_bounds.specs.Enough.{enough_for}
 use Rattle.workbook.specs.State.{State}
-use Rattle.write_back.specs.Writing.{without_room}
+use Rattle.kept_book.specs.FromWriteBack.{without_room}
 use Rattle.commands.specs.declared.answer.Answer.{Answer}
 use Rattle.commands.specs.declared.answer.Answer.TheVariants as answer
 use Rattle.sheet_linear_model.specs.Answers.{HasNoModel, Prepares}
 use Rattle.sheet_linear_model.specs.Prepared.{IsPrepared, Prepared}
 use Rattle.sheet_linear_model.specs.declared.prepared.NoModel.{NoModel}
 use Rattle.sheet_linear_model.proofs.Single.{never_both, prepared_is_one}
-use Rattle.sheet_solving.specs.Searches.{EndsWith, whole_task}
-use Rattle.sheet_solving.specs.Solving.{HasBudgetLeft, HasNoRoom, Solves}
+use Rattle.kept_book.specs.FromSheetSolving.{EndsWith, whole_task}
+use Rattle.kept_book.specs.FromSheetSolving.{HasBudgetLeft, HasNoRoom, Solves}
 use Rattle.session.specs.Completeness.{CanBeSolved, IsSettled, PivotsAreNarrow}
 use Rattle.session.specs.Solves.{SearchEnds}
 use Rattle.session.specs.States.{SessionState}

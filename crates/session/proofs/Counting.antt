@@ -5,7 +5,7 @@ use Rattle.std.proofs.lemmas.List.{get_or-set_same}
 use Rattle.linear_models.specs.Model.{Model}
 use Rattle.node_pick.specs.Rules.{Rule}
 use Rattle.sheet_linear_model.specs.Prepared.{Prepared}
-use Rattle.sheet_solving.specs.Searches.{Opened, Searched, Task, begun, led_to, task_from, total}
+use Rattle.kept_book.specs.FromSheetSolving.{Opened, Searched, Task, begun, led_to, task_from, total}
 use Rattle.commands.specs.declared.answer.Answer.{Answer}
 use Rattle.commands.specs.declared.answer.Answer.TheVariants as answer
 use Rattle.commands.specs.Commands.{Spoken, Slice}

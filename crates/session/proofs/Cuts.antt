@@ -9,7 +9,7 @@ use Rattle.node_pick.specs.Rules.{Rule}
 use Rattle.cell_refs.specs.declared.cell.SheetId.{SheetId}
 use Rattle.cell_refs.specs.Names.{place_in}
 use Rattle.sheet_linear_model.specs.Prepared.{IsPrepared, Prepared}
-use Rattle.sheet_solving.specs.Searches.{GoesFurther, Opened, Task, begun, task_from}
+use Rattle.kept_book.specs.FromSheetSolving.{GoesFurther, Opened, Task, begun, task_from}
 use Rattle.commands.specs.declared.answer.Answer.{Answer}
 use Rattle.commands.specs.declared.answer.Answer.TheVariants as answer
 use Rattle.commands.specs.Commands.{Slice, Spoken}
@@ -162,8 +162,8 @@ stops_there s name sheet search e h = stop_there (place_in s.book.sheets name) (
 
 -- ---- what is left of a search
 -- put in twice, and taken out twice
-put_again : (s : SessionState) (sheet : ℕ) (o : Opened) → with_search (without_search s sheet) sheet o ≡ with_search s sheet o
-put_again s sheet o = ap (λ (l : List (Option Opened)). record s { searches = l }) (set-set s.searches sheet None (Some o))
+pub put_twice : (s : SessionState) (sheet : ℕ) (o : Opened) → with_search (without_search s sheet) sheet o ≡ with_search s sheet o
+put_twice s sheet o = ap (λ (l : List (Option Opened)). record s { searches = l }) (set-set s.searches sheet None (Some o))
 
 taken_again : (s : SessionState) (sheet : ℕ) → without_search (without_search s sheet) sheet ≡ without_search s sheet
 taken_again s sheet = ap (λ (l : List (Option Opened)). record s { searches = l }) (set-set s.searches sheet None None)
@@ -204,7 +204,7 @@ gone_on task before sheet p (answer.More n) o middle after h e = (
   h.1.3,
   h.1.4,
   e ∙ (ap (λ (m : SessionState). with_search m sheet o) (h.2 ∙ ap (λ (b : State). with_book (without_search before sheet) b) h.1.6)
-      ∙ (put_again before sheet o ∙ ap (λ (o : Opened). with_search before sheet o) h.1.5)),
+      ∙ (put_twice before sheet o ∙ ap (λ (o : Opened). with_search before sheet o) h.1.5)),
 )
 gone_on task before sheet p a o middle after h e = (
   with_written a p.statement.decisions (with_book before h.0),
@@ -260,21 +260,6 @@ all_gone_on rule before sheet units p a old new apart middle after taken same he
 pub further_by : (rule : Rule) (units budget now : ℕ) (old new : Opened) → budget ≡ now → GoesFurther (task_from rule old units budget) old.model new → GoesFurther (task_from rule old units now) old.model new
 further_by rule units budget now old new e h = subst (λ (b : ℕ). GoesFurther (task_from rule old units b) old.model new) e h
 
--- put back for want of memory
-pub all_under_way : (rule : Rule) (before : SessionState) (sheet units : ℕ) (p : Prepared) (old new : Opened) (apart middle after : SessionState) → IsPrepared before.book sheet p
-    → open_search before sheet ≡ Some old → old.model ≡ p.model → apart ≡ without_search before sheet → GoesFurther (task_from rule old units apart.budget) old.model new
-    → middle ≡ apart → after ≡ with_left middle sheet (Some new) → (search : Opened) → open_search before sheet ≡ Some search → IsUnderWay rule before (cut sheet units search) after
-all_under_way rule before sheet units p old new apart middle after is_prepared taken same here further kept e search is =
-    subst (λ (s : Opened). IsUnderWay rule before (cut sheet units s) after) (same_search (open_search before sheet) old search taken is)
-    (record {
-      prepared = p;
-      is_prepared = is_prepared;
-      same = same;
-      search = new;
-      further = subst (λ (m : Model). GoesFurther (task_from rule old units before.budget) m new) same (subst (λ (s : SessionState). GoesFurther (task_from rule old units s.budget) old.model new) here further);
-      after_is = e ∙ (ap (λ (m : SessionState). with_search m sheet new) (kept ∙ here) ∙ put_again before sheet new);
-    })
-
 -- ---- slices
 pub slices_on : (rule : Rule) (before : SessionState) (sheet units : ℕ) (p : Prepared) (a : Answer) (after : SessionState) → ((search : Opened) → open_search before sheet ≡ Some search → search.model ≡ p.model)
     → ((search : Opened) → open_search before sheet ≡ Some search → Sliced (task_from rule search units before.budget) before sheet p a after) → (search : Opened) → open_search before sheet ≡ Some search
@@ -287,9 +272,8 @@ slices_anew rule before sheet units p a after other h search is = (task_from rul
 
 -- a slice that is cut off by want of memory
 pub interrupted : (rule : Rule) (before : SessionState) (name text : List ℕ) (sheet units : ℕ) (search : Opened) (after : SessionState) → cut_of before name text ≡ Ok (cut sheet units search)
-    → (after ≡ before) ⊎ IsUnderWay rule before (cut sheet units search) after → IsInterrupted rule before (Slice name text) after
-interrupted rule before name text sheet units search after e (inl same) = inl (allowed (cut_of before name text) (cut sheet units search) e, same)
-interrupted rule before name text sheet units search after e (inr way) = inr (cut sheet units search, e, way)
+    → IsUnderWay rule before (cut sheet units search) after → IsInterrupted rule before (Slice name text) after
+interrupted rule before name text sheet units search after e way = inr (cut sheet units search, e, way)
 
 -- the same of the command that says so
 pub slice_interrupted : {E : Type 0} (rule : Rule) (before after : SessionState) (command : Spoken) (name text sheet units : List ℕ) (r : Result Answer E) → command ≡ Slice name text → sheet ≡ name → units ≡ text

@@ -6,7 +6,7 @@ use Rattle.workbook.specs.State.{State}
 use Rattle.sheet_linear_model.specs.Answers.{HasNoModel, Prepares}
 use Rattle.sheet_linear_model.specs.Prepared.{IsPrepared, Prepared}
 use Rattle.sheet_linear_model.specs.declared.prepared.NoModel.{NoModel}
-use Rattle.sheet_solving.specs.Searches.{Opened, whole_task}
+use Rattle.kept_book.specs.FromSheetSolving.{Opened, whole_task}
 use Rattle.commands.specs.declared.answer.Answer.{Answer}
 use Rattle.commands.specs.declared.answer.Answer.TheVariants as answer
 use Rattle.session.specs.Cuts.{Slices as CutSlices, cut}
@@ -52,7 +52,7 @@ not_modelled book sheet (answer.WideRow row) h = h
 not_modelled book sheet _ h = absurd h
 
 -- the end of a search over a sheet's model solves the sheet
-ends_solve : (rule : Rule) (before : SessionState) (sheet : ℕ) (p : Prepared) (a : Answer) (after : SessionState) → IsPrepared before.book sheet p
+pub ends_solve : (rule : Rule) (before : SessionState) (sheet : ℕ) (p : Prepared) (a : Answer) (after : SessionState) → IsPrepared before.book sheet p
     → SearchEnds (whole_task rule before.budget) before p.statement p.model a after → SolvesSheet rule before sheet a after
 ends_solve rule before sheet p (answer.Names fault) after is h = absurd h.1
 ends_solve rule before sheet p (answer.Form refusal) after is h = absurd h.1

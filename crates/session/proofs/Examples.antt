@@ -2,7 +2,7 @@
 use Rattle.std.proofs.Common.{◌≡◌, [], ◌∷◌, codes, refl}
 use Rattle.std.specs.Prelude.{Some, None, Err, Ok}
 use Rattle.node_pick.specs.Rules.{Rule}
-use Rattle.sheet_solving.specs.Searches.{Opened}
+use Rattle.kept_book.specs.FromSheetSolving.{Opened}
 use Rattle.commands.specs.declared.answer.Answer.TheVariants as answer
 use Rattle.commands.specs.Commands.{Slice, Stop}
 use Rattle.session.specs.Cuts.{cut, cut_of, sheet_to_begin}

@@ -6,7 +6,7 @@ use Rattle.node_pick.specs.Rules.{Rule}
 use Rattle.workbook.specs.State.{State}
 use Rattle.solver_names.specs.Statement.{Statement}
 use Rattle.sheet_linear_model.specs.Prepared.{Prepared}
-use Rattle.sheet_solving.specs.Searches.{Task, whole_task}
+use Rattle.kept_book.specs.FromSheetSolving.{Task, whole_task}
 use Rattle.commands.specs.declared.answer.Answer.{Answer}
 use Rattle.commands.specs.declared.answer.Answer.TheVariants as answer
 use Rattle.commands.specs.Commands.{Spoken, Set, Clear, Name, Unname, Show, Model as ToModel, Solve, Prices, Begin, Slice, Stop, Budget, Save, Unknown}

@@ -13,8 +13,8 @@ use Rattle.searches.specs.Trails.{SearchUnit, State, Trail, Work}
 use Rattle.search_bounds.specs.Choices.{IsBounded}
 use Rattle.search_bounds.specs.Enough.{enough_for}
 use Rattle.sheet_linear_model.specs.Prepared.{IsPrepared, Prepared}
-use Rattle.sheet_solving.specs.Searches.{EndsWith}
-use Rattle.write_back.specs.Writing.{without_room}
+use Rattle.kept_book.specs.FromSheetSolving.{EndsWith}
+use Rattle.kept_book.specs.FromWriteBack.{without_room}
 use Rattle.commands.specs.declared.answer.Answer.{Answer}
 use Rattle.commands.specs.declared.answer.Answer.TheVariants as answer
 use Rattle.commands.specs.Commands.{Spoken, Solve}

@@ -2,13 +2,13 @@
 use Rattle.std.specs.Prelude.{◌≡◌, ◌≢◌, ◌<◌, ◌⊎◌, ℕ, nat_le, if◌then◌else◌, List, length, Option, Some, None, Result, Ok, Err}
 use Rattle.node_pick.specs.Rules.{Rule}
 use Rattle.sheet_linear_model.specs.Prepared.{IsPrepared, Prepared}
-use Rattle.sheet_solving.specs.Searches.{GoesFurther, HasOpenLeaf, Opened, Searched, Task, begun, led_to, task_from, total}
+use Rattle.kept_book.specs.FromSheetSolving.{GoesFurther, HasOpenLeaf, Opened, Searched, Task, begun, led_to, task_from, total}
 use Rattle.commands.specs.declared.answer.Answer.{Answer}
 use Rattle.commands.specs.declared.answer.Answer.TheVariants as answer
 use Rattle.commands.specs.Locating.{sheet_named, units_named}
 use Rattle.session.specs.Edits.{and_then}
-use Rattle.session.specs.Solves.{SearchEnds}
-use Rattle.session.specs.States.{SessionState, open_search, other_searches, with_search, without_search}
+use Rattle.session.specs.Solves.{SearchEnds, WithModel}
+use Rattle.session.specs.States.{SessionState, open_search, other_searches, with_contents, with_search, without_search}
 use Rattle.session.specs.declared.open_searches.TheConstants.{MOST_SEARCHES}
 
 -- ---- what the records name
@@ -72,11 +72,20 @@ abbrev pub Slices : Rule → SessionState → Cut → Prepared → Answer → Se
 Slices rule before c p a after = (task : Task) × Resumes rule before c p task × Sliced task before c.sheet p a after
 
 -- ---- want of memory
+-- the contents and the files that count as changed are as before, or as once the slice is answered; all else is as before
+abbrev pub HasWritten : Rule → SessionState → Cut → SessionState → Type 0
+HasWritten rule before c after =
+    (after ≡ before) ⊎ ((a : Answer) × (answered : SessionState) × WithModel (Slices rule before c) before c.sheet a answered × (after ≡ with_contents before answered))
+
 -- the model of the search is still that of the sheet, some of the units that are asked for are spent, or none, and none is lost
-pub record IsUnderWay (rule : Rule) (before : SessionState) (c : Cut) (after : SessionState) : Type 0 where
+pub record HasGoneOn (rule : Rule) (before : SessionState) (c : Cut) (written after : SessionState) : Type 0 where
   pub prepared : Prepared
   pub is_prepared : IsPrepared before.book c.sheet prepared
   pub same : c.search.model ≡ prepared.model
   pub search : Opened
   pub further : GoesFurther (task_from rule c.search c.units before.budget) prepared.model search
-  pub after_is : after ≡ with_search before c.sheet search
+  pub after_is : after ≡ with_search written c.sheet search
+
+-- the search is as before, or so
+abbrev pub IsUnderWay : Rule → SessionState → Cut → SessionState → Type 0
+IsUnderWay rule before c after = (written : SessionState) × HasWritten rule before c written × ((after ≡ written) ⊎ HasGoneOn rule before c written after)

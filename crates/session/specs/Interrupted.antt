@@ -4,10 +4,12 @@ use Rattle.cell_refs.specs.Names.{place_in}
 use Rattle.commands.specs.Commands.{Spoken, Set, Clear, Name, Unname, Show, Model, Solve, Prices, Begin, Slice, Stop, Budget, Save, Unknown}
 use Rattle.commands.specs.Locating.{cell_named}
 use Rattle.node_pick.specs.Rules.{Rule}
+use Rattle.commands.specs.declared.answer.Answer.{Answer}
 use Rattle.session.specs.Cuts.{Cut, IsUnderWay, cut_of, sheet_to_begin}
 use Rattle.session.specs.Edits.{cell_to_set, home_to_name, home_to_unname}
 use Rattle.session.specs.Saves.{files_to_save}
 use Rattle.session.specs.States.{SessionState}
+use Rattle.session.specs.Steps.{Applies}
 
 -- nothing is refused
 abbrev pub IsAllowed : {A E : Type 0} → Result A E → Type 0
@@ -15,8 +17,8 @@ IsAllowed (Ok x) = Unit {0}
 IsAllowed (Err e) = ⊥
 
 -- the command is none that is refused before any memory is taken, and none that takes no memory: a text is put where it may be and isn't
--- empty, a name is given or removed where it may be, the cell to be shown or the sheet to be modelled, solved or priced is there, a search may be opened, one
--- is open that is to go on, or there is a file to be saved
+-- empty, a name is given or removed where it may be, the cell to be shown or the sheet to be modelled, solved or priced is there, a search
+-- may be opened, one is open that is to go on, or there is a file to be saved
 abbrev pub TakesMemory : SessionState → Spoken → Type 0
 TakesMemory s (Set address text) = IsAllowed (cell_to_set s.book address text) × (text ≢ [])
 TakesMemory s (Clear address) = ⊥
@@ -37,8 +39,12 @@ TakesMemory s Unknown = ⊥
 abbrev pub IsUntouched : SessionState → Spoken → SessionState → Type 0
 IsUntouched before command after = TakesMemory before command × (after ≡ before)
 
--- the same, but that a slice may have spent units of its search
+-- or as it is once the command is answered: what was to be written was written, and memory is wanted for what is kept beside the workbook
+abbrev pub IsStopped : Rule → SessionState → Spoken → SessionState → Type 0
+IsStopped rule before command after = TakesMemory before command × ((after ≡ before) ⊎ ((a : Answer) × Applies rule before command a after))
+
+-- the same, but that a slice closes no search and opens none anew, and that it may have spent units of its search
 abbrev pub IsInterrupted : Rule → SessionState → Spoken → SessionState → Type 0
 IsInterrupted rule before (Slice sheet units) after =
     IsUntouched before (Slice sheet units) after ⊎ ((c : Cut) × (cut_of before sheet units ≡ Ok c) × IsUnderWay rule before c after)
-IsInterrupted rule before command after = IsUntouched before command after
+IsInterrupted rule before command after = IsStopped rule before command after

@@ -1,48 +1,77 @@
--- References and forms that are kept beside a workbook.
-use Rattle.std.specs.Prelude.{◌≡◌, List, [], Contains, IfSome, Option, None, Some, Result, Ok, Err}
-use Rattle.std.specs.FinMap.{get, insert, remove}
-use Rattle.cell_refs.specs.Areas.{Area}
+-- The forms that a session keeps across commands: which stay settled, and how few are made.
+use Rattle.std.specs.Prelude.{◌≡◌, ℕ, Bool, List, [], ◌∷◌, Option, Some, None, option_map, is_some, Result, Ok, Err}
+use Rattle.std.specs.Option.{option_and_then}
+use Rattle.cell_refs.specs.Names.{place_in}
 use Rattle.cell_refs.specs.declared.cell.Cell.{Cell}
-use Rattle.dep_table.specs.References.{AreReferencesOf, References, areas_said}
-use Rattle.recalculation.specs.Entries.{entry}
 use Rattle.workbook.specs.Kinds.{book_of}
+use Rattle.workbook.specs.Naming.{SayOtherwise}
 use Rattle.workbook.specs.State.{State}
-use Rattle.touched_places.specs.Alike.{DifferAt}
-use Rattle.kept_tables.specs.Settled.{AreRight}
-use Rattle.form_tables.specs.Tables.{SheetKept, all_forms}
+use Rattle.solver_names.specs.Stated.{statement_in}
+use Rattle.solver_names.specs.Statement.{Statement}
 use Rattle.commands.specs.declared.answer.Answer.{Answer}
 use Rattle.commands.specs.declared.answer.Answer.TheVariants as answer
+use Rattle.commands.specs.Commands.{Spoken, Set, Clear, Name, Unname, Model, Solve, Prices, Begin, Slice}
+use Rattle.commands.specs.Locating.{cell_named, sheet_named}
+use Rattle.kept_tables.specs.Commands as kept
+use Rattle.sheet_linear_model.specs.FromKeptForms.{all_forms}
+use Rattle.sheet_linear_model.specs.Answers.{parts_in}
+use Rattle.session.specs.Cuts.{Cut, cut_of, sheet_to_begin}
+use Rattle.session.specs.Edits.{and_then}
+use Rattle.session.specs.States.{Session, SessionState, open_search}
 
--- where some are kept, they are those of the workbook
-abbrev pub AreKept : Option References → State → Type 0
-AreKept references book = IfSome references (λ r. AreReferencesOf r (book_of book))
+-- ---- what is kept
+-- whether a sheet has an open search
+abbrev pub is_searched : SessionState → ℕ → Bool
+is_searched s sheet = is_some (open_search s sheet)
 
--- but for these cells they are
-abbrev pub AreKeptBut : List Cell → State → References → Type 0
-AreKeptBut cells book references = (a : Cell) → ¬ (Contains cells a) → get references a ≡ areas_said (entry (book_of book) a)
+-- the workbook, what the names of each sheet give, which sheets have an open search, and the forms that are kept
+abbrev pub kept_of : Session → kept.Kept
+kept_of s = record { book = book_of s.state.book; gives = parts_in s.state.book; searching = is_searched s.state; tables = all_forms s.tables }
 
--- with these areas for a cell, or with none
-abbrev pub with_areas : References → Cell → Option (List Area) → References
-with_areas references cell None = remove references cell
-with_areas references cell (Some areas) = insert references cell areas
+-- ---- what a command needs and edits
+abbrev pub sheet_or : Result ℕ Answer → Option ℕ
+sheet_or (Ok sheet) = Some sheet
+sheet_or (Err a) = None
 
--- ---- with the forms of sheets
--- references that are kept are those of the workbook, and without them no form is kept; each form that is kept is that of its place
-pub record IsKept (r : Option References) (tables : List SheetKept) (book : State) : Type 0 where
-  pub references : AreKept r book
-  pub none : r ≡ None → tables ≡ []
-  pub right : AreRight (book_of book) (all_forms tables)
+-- the sheet whose model the command asks for, unless it is refused before
+abbrev pub sheet_modelled : SessionState → Spoken → Option ℕ
+sheet_modelled s (Model name) = sheet_or (sheet_named s.book.sheets name)
+sheet_modelled s (Solve name) = sheet_or (sheet_named s.book.sheets name)
+sheet_modelled s (Prices name) = sheet_or (sheet_named s.book.sheets name)
+sheet_modelled s (Begin name) = sheet_or (sheet_to_begin s name)
+sheet_modelled s (Slice name units) = sheet_or (and_then (cut_of s name units) (λ (c : Cut). Ok c.sheet))
+sheet_modelled s command = None
 
--- so they were, before these cells were edited
-abbrev pub WereKept : List Cell → Option References → List SheetKept → State → Type 0
-WereKept cells r tables after = (before : State) × IsKept r tables before × DifferAt (Contains cells) (book_of before) (book_of after)
+-- a sheet, if its names have no fault
+abbrev pub without_fault : State → ℕ → Option ℕ
+without_fault book sheet = option_map (λ parts. sheet) (parts_in book sheet)
 
--- the cells that are edited by an answer: those to be decided, where an optimum is written into them
-abbrev pub written_cells : Answer → List Cell → List Cell
-written_cells (answer.Optimal value) cells = cells
-written_cells a cells = []
+-- the sheet whose forms the command needs
+abbrev pub sheet_needed : SessionState → Spoken → Option ℕ
+sheet_needed s command = option_and_then (without_fault s.book) (sheet_modelled s command)
 
--- none is where memory is wanted
-abbrev pub edited_cells : {E : Type 0} → Result Answer E → List Cell → List Cell
-edited_cells (Ok a) cells = written_cells a cells
-edited_cells (Err e) cells = []
+-- the decision cells of the sheet of that name
+abbrev pub AreDecisions : SessionState → List ℕ → List Cell → Type 0
+AreDecisions s name cells = (sheet : ℕ) × (stated : Statement) × (place_in s.book.sheets name ≡ Some sheet) × (statement_in s.book sheet ≡ Ok stated) × (cells ≡ stated.decisions)
+
+-- the cells that are edited: the one to which a text is given or from which it is taken, those that say something else once a name is
+-- edited, or the decision cells into which an optimum is written
+abbrev pub Edits : SessionState → Spoken → Answer → SessionState → List Cell → Type 0
+Edits before (Set address text) answer.Done after cells = (c : Cell) × (cell_named before.book.sheets address ≡ Ok c) × (cells ≡ c ∷ [])
+Edits before (Clear address) answer.Done after cells = (c : Cell) × (cell_named before.book.sheets address ≡ Ok c) × (cells ≡ c ∷ [])
+Edits before (Name sheet name text) answer.Done after cells = SayOtherwise before.book after.book cells
+Edits before (Unname sheet name) answer.Done after cells = SayOtherwise before.book after.book cells
+Edits before (Solve name) (answer.Optimal value) after cells = AreDecisions before name cells
+Edits before (Slice name units) (answer.Optimal value) after cells = AreDecisions before name cells
+Edits before command a after cells = cells ≡ []
+
+-- ---- what stands after an answer
+-- forms stay settled but for those that edits touch, and all of the sheet that the command needs are settled
+abbrev pub KeepsForms : Session → Spoken → Answer → Session → Type 0
+KeepsForms before command a after =
+    (cells : List Cell) × Edits before.state command a after.state cells
+    × kept.Keeps (kept_of before) (record { edited = cells; needed = sheet_needed before.state command }) (kept_of after)
+
+-- at most one step for each place of that sheet that wasn't settled, and none where no sheet is needed
+abbrev pub CountsFew : Session → Spoken → ℕ → Type 0
+CountsFew before command steps = kept.CountsFew (kept_of before) (sheet_needed before.state command) steps

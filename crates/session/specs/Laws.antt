@@ -2,7 +2,7 @@
 use Rattle.std.specs.Prelude.{◌≡◌, ◌≢◌, ◌+◌, ℕ, true, List, [], ◌∷◌, All, Option, Some, None, ⊤}
 use Rattle.cell_refs.specs.Names.{place_in}
 use Rattle.node_pick.specs.Rules.{Rule}
-use Rattle.sheet_solving.specs.Searches.{Opened}
+use Rattle.kept_book.specs.FromSheetSolving.{Opened}
 use Rattle.commands.specs.declared.answer.Answer.{Answer}
 use Rattle.commands.specs.declared.answer.Answer.TheVariants as answer
 use Rattle.commands.specs.Commands.{Spoken, Begin, Slice, Stop}

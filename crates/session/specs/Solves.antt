@@ -7,8 +7,8 @@ use Rattle.workbook.specs.State.{State}
 use Rattle.sheet_linear_model.specs.Answers.{HasNoModel}
 use Rattle.sheet_linear_model.specs.Prepared.{IsPrepared, Prepared}
 use Rattle.solver_names.specs.Statement.{Statement}
-use Rattle.sheet_solving.specs.Searches.{Task, whole_task}
-use Rattle.sheet_solving.specs.Solving.{Solves}
+use Rattle.kept_book.specs.FromSheetSolving.{Task, whole_task}
+use Rattle.kept_book.specs.FromSheetSolving.{Solves}
 use Rattle.commands.specs.declared.answer.Answer.{Answer}
 use Rattle.commands.specs.declared.answer.Answer.TheVariants as answer
 use Rattle.session.specs.States.{SessionState, with_book, with_changed}

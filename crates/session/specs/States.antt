@@ -5,23 +5,26 @@ use Rattle.cell_refs.specs.declared.cell.Cell.{Cell}
 use Rattle.workbook.specs.State.{State}
 use Rattle.workbook.specs.Codes.{state_code}
 use Rattle.commands.specs.declared.units.TheConstants.{MOST_UNITS}
-use Rattle.sheet_solving.specs.Searches.{Opened}
+use Rattle.sheet_linear_model.specs.FromKeptForms.{SheetKept}
+use Rattle.kept_book.specs.FromSheetSolving.{Opened}
 
 -- which files differ from what was read or saved: for each sheet whether it does, and whether the names do
 pub record Changes : Type 0 where
   pub sheets : List Bool
   pub names : Bool
 
--- the workbook, the files that have changed, how many units a search or a run for prices may spend, and for each sheet its open search, if it has one
+-- the workbook, the files that have changed, how many units a search or a run for prices may spend, and for each sheet its open search,
+-- if it has one
 pub record SessionState : Type 0 where
   pub book : State
   pub changed : Changes
   pub budget : ℕ
   pub searches : List (Option Opened)
 
--- a session as a contract sees it: its state; what is kept beside the state changes no answer
+-- a session as a contract sees it: its state, and the forms that are kept of its sheets, which change no answer
 pub record Session : Type 0 where
   pub state : SessionState
+  pub tables : List SheetKept
 
 -- ---- changes of one part; all other parts stay as they were
 -- no file has changed
@@ -34,6 +37,10 @@ opened book budget = record { book = book; changed = none_changed (length book.s
 
 abbrev pub with_book : SessionState → State → SessionState
 with_book s book = record s { book = book }
+
+-- with the contents, the names and the files that count as changed of another one
+abbrev pub with_contents : SessionState → SessionState → SessionState
+with_contents s other = record s { book = other.book; changed = other.changed }
 
 -- the file of a sheet counts as changed
 abbrev pub mark_sheet : Changes → ℕ → Changes
@@ -91,5 +98,7 @@ state_of_session_code searches_code =
     code_by (State × (Changes × (ℕ × List (Option Opened)))) (coded× state_code (coded× changes_code (coded× coded_ℕ searches_code)))
     (λ s. (s.book, (s.changed, (s.budget, s.searches)))) (λ p. record { book = p.0; changed = p.1.0; budget = p.1.1.0; searches = p.1.1.1 }) (λ _. refl)
 
-abbrev pub session_code : Coded (List (Option Opened)) → Coded Session
-session_code searches_code = code_by SessionState (state_of_session_code searches_code) (λ s. s.state) (λ s. record { state = s }) (λ _. refl)
+abbrev pub session_code : Coded (List (Option Opened)) → Coded (List SheetKept) → Coded Session
+session_code searches_code tables_code =
+    code_by (SessionState × List SheetKept) (coded× (state_of_session_code searches_code) tables_code)
+    (λ s. (s.state, s.tables)) (λ p. record { state = p.0; tables = p.1 }) (λ _. refl)

@@ -1,17 +1,85 @@
-// Edits of names and of the budget.
-ghost use Rattle.std.specs.Prelude.{◌≡◌, ◌≢◌, IfOk, OnErr};
-ghost use Rattle.commands.specs.Commands.{Name, Unname};
+// Edits of cells, of names and of the budget.
+ghost use Rattle.std.specs.Prelude.{◌<◌, ◌≡◌, ◌≢◌, ◌⊎◌, IfOk, None, OnErr, [], length};
+ghost use Rattle.commands.specs.Commands.{Clear, Name, Set, Unname};
 ghost use Rattle.commands.specs.Lines.{CanBeSaid};
-ghost use Rattle.commands.specs.Locating.{units_named};
-ghost use Rattle.session.specs.Edits.{home_to_name, home_to_unname, refused};
-ghost use Rattle.session.specs.Interrupted.{IsUntouched};
+ghost use Rattle.commands.specs.Locating.{cell_named, units_named};
+ghost use Rattle.node_pick.specs.Rules.{Rule};
+ghost use Rattle.session.specs.Edits.{cell_to_set, home_to_name, home_to_unname, refused, unless};
+ghost use Rattle.session.specs.Inner.{FollowsCommand, FollowsEdit};
+ghost use Rattle.session.specs.Interrupted.{IsStopped};
 ghost use Rattle.session.specs.States.{with_budget};
-ghost use Rattle.session.specs.Steps.{Does, IsDone, with_name, without_name};
+ghost use Rattle.session.specs.Steps.{Does, IsDone, with_name, with_text, without_name};
+ghost use Rattle.workbook.specs.Edits.{set_fault};
 
 use crate::Session;
-use commands::{Answer, Memory, units_in};
+use cell_refs::Cell;
+use commands::{Answer, Memory, locate, units_in};
 use workbook::{EditFault, sheet_in, unname_fault};
 
+// ---- cells
+impl Session {
+    // Puts a text into the cell that is named.
+    pub(crate) fn set(&mut self, address: &str, text: &str) -> Result<Answer, Memory>
+        ensures step { IfOk result (λ answer.
+            Does (λ cell. IsDone (with_text self.old.state cell text.now)) self.old.state
+            (cell_to_set self.old.state.book address.now text.now) answer self.new.state) }
+        ensures said { IfOk result (CanBeSaid self.old.state.book.sheets) }
+        ensures sheets { self.new.state.book.sheets ≡ self.old.state.book.sheets }
+        ensures memory { OnErr result
+            ((r : Rule) → IsStopped r self.old.state (Set address.now text.now) self.new.state) }
+        ensures follows { IfOk result (λ answer.
+            FollowsCommand self.old (Set address.now text.now) answer self.new) }
+    {
+        match locate(self.book.sheets(), address) {
+            Ok(cell) => self.put(cell, text),
+            Err(answer) => Ok(answer),
+        }
+    }
+
+    // Puts a text into a cell.
+    fn put(&mut self, cell: Cell, text: &str) -> Result<Answer, Memory>
+        requires listed { cell.sheet.0 < length self.old.state.book.sheets }
+        ensures step { IfOk result (λ answer.
+            Does (λ c. IsDone (with_text self.old.state c text.now)) self.old.state
+            (unless (set_fault self.old.state.book cell text.now) cell) answer self.new.state) }
+        ensures said { IfOk result (CanBeSaid self.old.state.book.sheets) }
+        ensures sheets { self.new.state.book.sheets ≡ self.old.state.book.sheets }
+        ensures allowed { OnErr result (set_fault self.old.state.book cell text.now ≡ None) }
+        ensures some { OnErr result (text.now ≢ []) }
+        ensures memory { OnErr result ((self.new.state ≡ self.old.state)
+            ⊎ (self.new.state ≡ with_text self.old.state cell text.now)) }
+        ensures follows { IfOk result (λ answer. FollowsEdit cell answer self.old self.new) }
+    {
+        match self.book.set(cell, text) {
+            Ok(kept) => {
+                self.changed_sheets[usize::from(cell.sheet.0)] = true;
+                kept?;
+                Ok(Answer::Done)
+            }
+            Err(fault) => told_fault(fault),
+        }
+    }
+
+    // Takes away the text of the cell that is named.
+    pub(crate) fn clear(&mut self, address: &str) -> Answer
+        ensures step { Does (λ cell. IsDone (with_text self.old.state cell [])) self.old.state
+            (cell_named self.old.state.book.sheets address.now) result self.new.state }
+        ensures said { CanBeSaid self.old.state.book.sheets result }
+        ensures sheets { self.new.state.book.sheets ≡ self.old.state.book.sheets }
+        ensures follows { FollowsCommand self.old (Clear address.now) result self.new }
+    {
+        match locate(self.book.sheets(), address) {
+            Ok(cell) => {
+                self.book.clear(cell);
+                self.changed_sheets[usize::from(cell.sheet.0)] = true;
+                Answer::Done
+            }
+            Err(answer) => answer,
+        }
+    }
+}
+
+// ---- names and the budget
 impl Session {
     // Gives a name a text, for the sheet that is named or for the whole workbook.
     pub(crate) fn name(&mut self, sheet: &str, name: &str, text: &str) -> Result<Answer, Memory>
@@ -20,15 +88,18 @@ impl Session {
             (home_to_name self.old.state.book sheet.now name.now text.now) answer self.new.state) }
         ensures said { IfOk result (CanBeSaid self.old.state.book.sheets) }
         ensures sheets { self.new.state.book.sheets ≡ self.old.state.book.sheets }
-        ensures memory { OnErr result
-            (IsUntouched self.old.state (Name sheet.now name.now text.now) self.new.state) }
+        ensures memory { OnErr result ((r : Rule)
+            → IsStopped r self.old.state (Name sheet.now name.now text.now) self.new.state) }
+        ensures follows { IfOk result (λ answer.
+            FollowsCommand self.old (Name sheet.now name.now text.now) answer self.new) }
     {
         let Some(home) = sheet_in(self.book.sheets(), sheet) else {
             return Ok(Answer::UnknownSheet);
         };
         match self.book.name(home, name, text) {
-            Ok(_) => {
+            Ok(kept) => {
                 self.changed_names = true;
+                kept?;
                 Ok(Answer::Done)
             }
             Err(fault) => told_fault(fault),
@@ -42,8 +113,10 @@ impl Session {
             (home_to_unname self.old.state.book sheet.now name.now) answer self.new.state) }
         ensures said { IfOk result (CanBeSaid self.old.state.book.sheets) }
         ensures sheets { self.new.state.book.sheets ≡ self.old.state.book.sheets }
-        ensures memory { OnErr result
-            (IsUntouched self.old.state (Unname sheet.now name.now) self.new.state) }
+        ensures memory { OnErr result ((r : Rule)
+            → IsStopped r self.old.state (Unname sheet.now name.now) self.new.state) }
+        ensures follows { IfOk result (λ answer.
+            FollowsCommand self.old (Unname sheet.now name.now) answer self.new) }
     {
         let Some(home) = sheet_in(self.book.sheets(), sheet) else {
             return Ok(Answer::UnknownSheet);
@@ -51,8 +124,9 @@ impl Session {
         if let Some(fault) = unname_fault(name) {
             return told_fault(fault);
         }
-        self.book.unname(home, name)?;
+        let kept = self.book.unname(home, name)?;
         self.changed_names = true;
+        kept?;
         Ok(Answer::Done)
     }
 
@@ -62,6 +136,8 @@ impl Session {
             (units_named units.now) result self.new.state }
         ensures said { CanBeSaid self.old.state.book.sheets result }
         ensures sheets { self.new.state.book.sheets ≡ self.old.state.book.sheets }
+        ensures book { self.new.state.book ≡ self.old.state.book }
+        ensures tables { self.new.tables ≡ self.old.tables }
     {
         let Some(budget) = units_in(units) else {
             return Answer::BadNumber;

@@ -1,11 +1,11 @@
 // The open searches of sheets, in a list with a place for each sheet.
-ghost use Rattle.std.specs.Prelude.{◌≡◌, ◌<◌, ◌↔◌, IfOk, IsTrue, None, Some, filter, is_some, length, replicate, slice_index_or, slice_set};
+ghost use Rattle.std.specs.Prelude.{◌≡◌, ◌<◌, ◌↔◌, IfOk, IsTrue, None, Some, filter, is_some, length, map, replicate, slice_index_or, slice_set};
 ghost use Rattle.session.specs.Inner.{search_after};
-ghost use Rattle.sheet_solving.specs.Searches.{Opened};
+ghost use Rattle.kept_book.specs.FromSheetSolving.{Opened};
 
 use commands::{Answer, Memory};
+use kept_book::OpenSearch;
 use lin_model::LinModel;
-use sheet_solving::OpenSearch;
 use std::alloc::Global;
 use std::mem;
 
@@ -61,7 +61,7 @@ pub(crate) fn has_search(searches: &[Option<OpenSearch>], place: usize) -> bool
 
 /// For each sheet whether it has an open search.
 pub(crate) fn searching(alloc: Global, searches: &[Option<OpenSearch>]) -> Result<Vec<bool>, Memory>
-    ensures { IfOk result (λ found. length found.items ≡ length searches.now) }
+    ensures { IfOk result (λ found. found.items ≡ map is_some searches.now) }
 {
     let mut found = Vec::new(alloc);
     for search in searches {

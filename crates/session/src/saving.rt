@@ -14,7 +14,8 @@ use saved_sheets::{names_file, sheet_file};
 impl Session {
     /// Says that the files are written that an answer has named: none counts as changed any more.
     pub fn saved(&mut self)
-        ensures { self.new.state ≡ with_none_changed self.old.state }
+        ensures state { self.new.state ≡ with_none_changed self.old.state }
+        ensures tables { self.new.tables ≡ self.old.tables }
     {
         self.changed_sheets.fill(false);
         self.changed_names = false;

@@ -1,40 +1,26 @@
 // A session: a workbook and the commands on it.
-ghost use Rattle.std.specs.Prelude.{◌≡◌, ◌≢◌, ◌≤◌, ◌<◌, All, IfOk, None, OnErr, [], false, length};
-ghost use Rattle.sheet_linear_model.specs.Answers.{prepared_of};
-ghost use Rattle.sheet_linear_model.specs.Prepared.{IsPrepared};
-ghost use Rattle.sheet_problems.specs.Laws.{ModelIsTheSheet};
-ghost use Rattle.search_bounds.specs.Choices.{IsBounded};
-ghost use Rattle.search_bounds.specs.Enough.{enough_for};
-ghost use Rattle.sheet_solving.specs.Searches.{whole_task};
-ghost use Rattle.sheet_solving.specs.Solving.{HasBudgetLeft};
-ghost use Rattle.solver_names.specs.Answers.{statement_of};
-ghost use Rattle.statement_laws.specs.Laws.{IsWhole};
-ghost use Rattle.workbook.specs.Edits.{is_outside, set_fault};
-ghost use Rattle.workbook.specs.Listed.{IsListed};
-ghost use Rattle.commands.specs.Commands.{Model as ToModel, Set, Show, Solve, spoken};
+ghost use Rattle.std.specs.Prelude.{◌-◌, ◌≡◌, ◌≤◌, IfOk, OnErr, []};
+ghost use Rattle.commands.specs.Commands.{Show, spoken};
 ghost use Rattle.commands.specs.Lines.{CanBeSaid};
-ghost use Rattle.commands.specs.Locating.{cell_named, sheet_named};
-ghost use Rattle.session.specs.Completeness.{CanBeSolved, IsComplete, IsSettled};
-ghost use Rattle.session.specs.Edits.{cell_to_set, unless};
+ghost use Rattle.commands.specs.Locating.{cell_named};
+ghost use Rattle.session.specs.Completeness.{IsComplete};
+ghost use Rattle.session.specs.Inner.{FollowsCommand};
 ghost use Rattle.session.specs.Interrupted.{IsInterrupted, IsUntouched};
+ghost use Rattle.session.specs.Kept.{CountsFew, KeepsForms};
 ghost use Rattle.session.specs.Laws.{Counts, OthersStay};
-ghost use Rattle.session.specs.Solves.{SearchEnds, SolvesSheet, with_written};
-ghost use Rattle.session.specs.States.{IsSession, opened, with_changed};
-ghost use Rattle.session.specs.Steps.{Applies, Does, IsDone, ModelsSheet, Shows, with_text};
+ghost use Rattle.session.specs.States.{opened};
+ghost use Rattle.session.specs.Steps.{Applies, Does, Shows};
 
-use crate::edits::told_fault;
-use crate::kept_book::KeptBook;
-use crate::models::{answer_without_model, model_of};
-use crate::open_searches::{no_searches, searching};
-use cell_refs::{Cell, SheetId, SheetNames};
+use crate::open_searches::no_searches;
+use cell_refs::{Cell, SheetNames};
 use commands::{Answer, Command, MOST_UNITS, Memory, locate};
+use kept_book::{KeptBook, OpenSearch, Steps};
 use node_pick::Picker;
 use recalc::Shown;
-use sheet_linear_model::Prepared;
-use sheet_solving::OpenSearch;
 use std::alloc::Global;
 use std::marker::Model;
-use workbook::{Adj, Workbook};
+use std::sync::ledger::Ledger;
+use workbook::Workbook;
 
 /// A workbook to which commands are applied, the files that have changed since they were read, the budget in units, and
 /// the open searches, one for a sheet. A slice goes by the budget as it is then, so that a new budget reaches every open search.
@@ -49,24 +35,29 @@ pub struct Session {
 }
 
 impl Model for Session {
-    ghost use Rattle.std.specs.Coded.{codes};
+    ghost use Rattle.std.specs.Coded.{codes, coded_ℕ};
+    ghost use Rattle.std.specs.FinMap.{code};
+    ghost use Rattle.cell_refs.specs.Cells.{coded_cell};
+    ghost use Rattle.kept_book.specs.Codes.{tables_code};
     ghost use Rattle.session.specs.States.{IsSession, Session, session_code};
 
     ghost Value = { Session };
 
-    ghost coded = { session_code (Prim.hlevel codes) };
+    ghost coded = { session_code (Prim.hlevel codes) (tables_code (Prim.hlevel codes)
+        (code coded_cell (Prim.hlevel codes)) (code coded_ℕ (Prim.hlevel codes))) };
 
     ghost view = { λ s. record {
       state = record {
-        book = s.book;
+        book = s.book.book;
         changed = record { sheets = s.changed_sheets.items; names = s.changed_names };
         budget = s.budget;
         searches = s.searches.items;
       };
+      tables = s.book.tables;
     } };
 
     ghost invariant = { λ s. IsSession (record {
-      book = s.book;
+      book = s.book.book;
       changed = record { sheets = s.changed_sheets.items; names = s.changed_names };
       budget = s.budget;
       searches = s.searches.items;
@@ -77,7 +68,8 @@ impl Session {
     /// A session over a workbook that was opened from files.
     pub fn open(alloc: Global, book: Workbook, budget: u64) -> Result<Session, Memory>
         requires { budget ≤ MOST_UNITS }
-        ensures { IfOk result (λ session. session ≡ record { state = opened book budget }) }
+        ensures { IfOk result
+            (λ session. session ≡ record { state = opened book budget; tables = [] }) }
     {
         let mut changed_sheets = Vec::new(alloc);
         changed_sheets.resize(book.sheets().len(), false)?;
@@ -104,8 +96,13 @@ impl Session {
         self.book.extractions()
     }
 
-    /// Does what the command says.
-    pub fn apply(&mut self, command: &Command, pick: &mut Box<dyn Picker>) -> Result<Answer, Memory>
+    /// Does what the command says. Each form that is made is a step.
+    pub fn apply<L: Ledger>(
+        &mut self,
+        command: &Command,
+        pick: &mut Box<dyn Picker>,
+        steps: &mut Steps<L>,
+    ) -> Result<Answer, Memory>
         ensures rule { rule pick.new ≡ rule pick.old }
         ensures step { IfOk result (λ answer.
             Applies (rule pick.old) self.old.state (spoken command.now) answer self.new.state) }
@@ -119,12 +116,22 @@ impl Session {
             Counts self.old.state (spoken command.now) answer self.new.state) }
         ensures complete { IfOk result
             (IsComplete (rule pick.old) self.old.state (spoken command.now)) }
+        ensures keeps { IfOk result
+            (λ answer. KeepsForms self.old (spoken command.now) answer self.new) }
+        ensures counted { steps.old ≤ steps.new }
+        ensures few { CountsFew self.old (spoken command.now) (steps.new - steps.old) }
     {
-        self.follow(command, pick)
+        self.book.forms_are_right();
+        self.follow(command, pick, steps)
     }
 
     // Does what the command says.
-    fn follow(&mut self, command: &Command, pick: &mut Box<dyn Picker>) -> Result<Answer, Memory>
+    fn follow<L: Ledger>(
+        &mut self,
+        command: &Command,
+        pick: &mut Box<dyn Picker>,
+        steps: &mut Steps<L>,
+    ) -> Result<Answer, Memory>
         ensures rule { rule pick.new ≡ rule pick.old }
         ensures step { IfOk result (λ answer.
             Applies (rule pick.old) self.old.state (spoken command.now) answer self.new.state) }
@@ -134,6 +141,10 @@ impl Session {
             (spoken command.now) self.new.state) }
         ensures complete { IfOk result
             (IsComplete (rule pick.old) self.old.state (spoken command.now)) }
+        ensures follows { IfOk result
+            (λ answer. FollowsCommand self.old (spoken command.now) answer self.new) }
+        ensures counted { steps.old ≤ steps.new }
+        ensures few { CountsFew self.old (spoken command.now) (steps.new - steps.old) }
     {
         match command {
             Command::Set(address, text) => self.set(address.as_str(), text.as_str()),
@@ -143,69 +154,17 @@ impl Session {
             }
             Command::Unname(sheet, name) => self.unname(sheet.as_str(), name.as_str()),
             Command::Show(address) => self.show(address.as_str()),
-            Command::Model(sheet) => self.model(sheet.as_str()),
-            Command::Solve(sheet) => self.solve(sheet.as_str(), pick),
-            Command::Prices(sheet) => self.prices(sheet.as_str()),
-            Command::Begin(sheet) => self.begin(sheet.as_str()),
-            Command::Slice(sheet, units) => self.slice(sheet.as_str(), units.as_str(), pick),
+            Command::Model(sheet) => self.model(sheet.as_str(), steps),
+            Command::Solve(sheet) => self.solve(sheet.as_str(), pick, steps),
+            Command::Prices(sheet) => self.prices(sheet.as_str(), steps),
+            Command::Begin(sheet) => self.begin(sheet.as_str(), steps),
+            Command::Slice(sheet, units) => {
+                self.slice(sheet.as_str(), units.as_str(), pick, steps)
+            }
             Command::Stop(sheet) => Ok(self.stop(sheet.as_str())),
             Command::Budget(units) => Ok(self.set_budget(units.as_str())),
             Command::Save => self.save(),
             Command::Unknown => Ok(Answer::UnknownCommand),
-        }
-    }
-
-    // Puts a text into the cell that is named.
-    fn set(&mut self, address: &str, text: &str) -> Result<Answer, Memory>
-        ensures step { IfOk result (λ answer.
-            Does (λ cell. IsDone (with_text self.old.state cell text.now)) self.old.state
-            (cell_to_set self.old.state.book address.now text.now) answer self.new.state) }
-        ensures said { IfOk result (CanBeSaid self.old.state.book.sheets) }
-        ensures sheets { self.new.state.book.sheets ≡ self.old.state.book.sheets }
-        ensures memory { OnErr result
-            (IsUntouched self.old.state (Set address.now text.now) self.new.state) }
-    {
-        match locate(self.book.sheets(), address) {
-            Ok(cell) => self.put(cell, text),
-            Err(answer) => Ok(answer),
-        }
-    }
-
-    // Puts a text into a cell.
-    fn put(&mut self, cell: Cell, text: &str) -> Result<Answer, Memory>
-        requires listed { cell.sheet.0 < length self.old.state.book.sheets }
-        ensures step { IfOk result (λ answer.
-            Does (λ c. IsDone (with_text self.old.state c text.now)) self.old.state
-            (unless (set_fault self.old.state.book cell text.now) cell) answer self.new.state) }
-        ensures said { IfOk result (CanBeSaid self.old.state.book.sheets) }
-        ensures sheets { self.new.state.book.sheets ≡ self.old.state.book.sheets }
-        ensures allowed { OnErr result (set_fault self.old.state.book cell text.now ≡ None) }
-        ensures some { OnErr result (text.now ≢ []) }
-        ensures memory { OnErr result (self.new.state ≡ self.old.state) }
-    {
-        match self.book.set(cell, text) {
-            Ok(()) => {
-                self.changed_sheets[usize::from(cell.sheet.0)] = true;
-                Ok(Answer::Done)
-            }
-            Err(fault) => told_fault(fault),
-        }
-    }
-
-    // Takes away the text of the cell that is named.
-    fn clear(&mut self, address: &str) -> Answer
-        ensures step { Does (λ cell. IsDone (with_text self.old.state cell [])) self.old.state
-            (cell_named self.old.state.book.sheets address.now) result self.new.state }
-        ensures said { CanBeSaid self.old.state.book.sheets result }
-        ensures sheets { self.new.state.book.sheets ≡ self.old.state.book.sheets }
-    {
-        match locate(self.book.sheets(), address) {
-            Ok(cell) => {
-                self.book.clear(cell);
-                self.changed_sheets[usize::from(cell.sheet.0)] = true;
-                Answer::Done
-            }
-            Err(answer) => answer,
         }
     }
 
@@ -214,7 +173,7 @@ impl Session {
         ensures step { IfOk result (λ answer. Does (Shows self.old.state) self.old.state
             (cell_named self.old.state.book.sheets address.now) answer self.new.state) }
         ensures said { IfOk result (CanBeSaid self.old.state.book.sheets) }
-        ensures same { self.new.state ≡ self.old.state }
+        ensures same { self.new ≡ self.old }
         ensures memory { OnErr result
             (IsUntouched self.old.state (Show address.now) self.new.state) }
     {
@@ -228,115 +187,12 @@ impl Session {
     fn show_cell(&mut self, cell: Cell) -> Result<Answer, Memory>
         ensures step { IfOk result (λ answer. Shows self.old.state cell answer self.new.state) }
         ensures said { IfOk result (CanBeSaid self.old.state.book.sheets) }
-        ensures same { self.new.state ≡ self.old.state }
+        ensures same { self.new ≡ self.old }
     {
         self.book.workbook().texts_are_listed();
-        match self.book.value(self.alloc, cell)? {
+        match self.book.value(cell)? {
             Shown::Is(value) => Ok(Answer::Shown(value)),
             Shown::Wide(wide) => Ok(Answer::WideCell(wide)),
         }
-    }
-
-    // The model of the sheet that is named.
-    fn model(&mut self, name: &str) -> Result<Answer, Memory>
-        ensures step { IfOk result (λ answer. Does (ModelsSheet self.old.state) self.old.state
-            (sheet_named self.old.state.book.sheets name.now) answer self.new.state) }
-        ensures said { IfOk result (CanBeSaid self.old.state.book.sheets) }
-        ensures same { self.new.state ≡ self.old.state }
-        ensures memory { OnErr result
-            (IsUntouched self.old.state (ToModel name.now) self.new.state) }
-    {
-        match self.book.sheets().find(name) {
-            Some(sheet) => {
-                let searching = searching(self.alloc, &self.searches)?;
-                model_of(self.alloc, &mut self.book, sheet, &searching)
-            }
-            None => Ok(Answer::UnknownSheet),
-        }
-    }
-
-    // Solves the sheet that is named.
-    fn solve(&mut self, name: &str, pick: &mut Box<dyn Picker>) -> Result<Answer, Memory>
-        ensures step { IfOk result (λ answer.
-            Applies (rule pick.old) self.old.state (Solve name.now) answer self.new.state) }
-        ensures said { IfOk result (CanBeSaid self.old.state.book.sheets) }
-        ensures sheets { self.new.state.book.sheets ≡ self.old.state.book.sheets }
-        ensures memory { OnErr result
-            (IsUntouched self.old.state (Solve name.now) self.new.state) }
-        ensures complete { IfOk result
-            (IsComplete (rule pick.old) self.old.state (Solve name.now)) }
-        ensures rule { rule pick.new ≡ rule pick.old }
-    {
-        match self.book.sheets().find(name) {
-            Some(sheet) => self.solve_sheet(sheet, pick),
-            None => Ok(Answer::UnknownSheet),
-        }
-    }
-
-    // Solves a sheet.
-    fn solve_sheet(&mut self, sheet: SheetId, pick: &mut Box<dyn Picker>) -> Result<Answer, Memory>
-        requires listed { sheet.0 < length self.old.state.book.sheets }
-        ensures step { IfOk result (λ answer.
-            SolvesSheet (rule pick.old) self.old.state sheet.0 answer self.new.state) }
-        ensures said { IfOk result (CanBeSaid self.old.state.book.sheets) }
-        ensures sheets { self.new.state.book.sheets ≡ self.old.state.book.sheets }
-        ensures memory { OnErr result (self.new.state ≡ self.old.state) }
-        ensures complete { IfOk result (λ answer.
-            CanBeSolved (rule pick.old) self.old.state sheet.0 → IsSettled answer) }
-        ensures rule { rule pick.new ≡ rule pick.old }
-    {
-        match self.prepare(sheet) {
-            Ok(prepared) => self.search(sheet, prepared, pick),
-            Err(stop) => answer_without_model(stop),
-        }
-    }
-
-    // Searches the model of a sheet.
-    fn search(
-        &mut self,
-        sheet: SheetId,
-        prepared: Prepared,
-        pick: &mut Box<dyn Picker>,
-    ) -> Result<Answer, Memory>
-        requires prepared { IsPrepared self.old.state.book sheet.0 (prepared_of prepared) }
-        requires model { ModelIsTheSheet self.old.state.book
-            (statement_of prepared.statement) prepared.model }
-        requires whole { IsWhole self.old.state.book (statement_of prepared.statement) }
-        ensures step { IfOk result (λ answer.
-            SearchEnds (whole_task (rule pick.old) self.old.state.budget) self.old.state
-            (statement_of prepared.statement) prepared.model answer self.new.state) }
-        ensures said { IfOk result (CanBeSaid self.old.state.book.sheets) }
-        ensures sheets { self.new.state.book.sheets ≡ self.old.state.book.sheets }
-        ensures memory { OnErr result (self.new.state ≡ self.old.state) }
-        ensures enough { IsBounded prepared.model
-            → enough_for prepared.model ≤ self.old.state.budget → IfOk result HasBudgetLeft }
-        ensures rule { rule pick.new ≡ rule pick.old }
-    {
-        let adj = prepared.statement.adj.copy()?;
-        let answer = self.book.solve(self.alloc, prepared, self.budget, pick)?;
-        self.mark_written(&adj, &answer);
-        Ok(answer)
-    }
-
-    // Where an optimum is written into these cells, the files of their sheets count as changed.
-    pub(crate) fn mark_written(&mut self, adj: &Adj, answer: &Answer)
-        requires { All (IsListed self.old.state.book.sheets) adj.now }
-        ensures { self.new.state ≡ with_written answer.now adj.now self.old.state }
-    {
-        if let Answer::Optimal(_) = answer {
-            self.mark(adj.cells());
-        }
-    }
-
-    // The files of the sheets of these cells count as changed.
-    fn mark(&mut self, cells: &[Cell])
-        requires { All (IsListed self.old.state.book.sheets) cells.now }
-        ensures { self.new.state ≡ with_changed self.old.state cells.now }
-    {
-        let [cell, later @ ..] = cells else {
-            return;
-        };
-        self.changed_sheets[usize::from(cell.sheet.0)] = true;
-        self.mark(later);
     }
 }

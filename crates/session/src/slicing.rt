@@ -1,109 +1,42 @@
-// Searches that are opened, gone on with in slices, and closed.
-ghost use Rattle.std.specs.Prelude.{◌≡◌, ◌≢◌, ◌<◌, ◌⊎◌, ℕ, IfOk, IsSome, OnErr, Some, length};
-ghost use Rattle.commands.specs.Commands.{Begin, Slice};
+// Searches that are gone on with in slices.
+ghost use Rattle.std.specs.Prelude.{◌-◌, ◌<◌, ◌≡◌, ◌≤◌, ◌⊎◌, IfOk, IsSome, OnErr, Some, length, ℕ};
+ghost use Rattle.commands.specs.Commands.{Slice};
 ghost use Rattle.commands.specs.Lines.{CanBeSaid};
-ghost use Rattle.session.specs.Cuts.{Begins, Cut, IsUnderWay, Sliced, Slices, Stops, cut, cut_of, sheet_to_begin, sheet_to_stop};
-ghost use Rattle.session.specs.Inner.{Spends};
-ghost use Rattle.session.specs.Interrupted.{IsInterrupted, IsUntouched};
+ghost use Rattle.commands.specs.declared.answer.Answer.{Answer as Said};
+ghost use Rattle.kept_book.specs.Kept.{written_cells};
+ghost use Rattle.session.specs.Cuts.{Cut, IsUnderWay, Sliced, Slices, cut, cut_of};
+ghost use Rattle.session.specs.Inner.{Drops, FewOfSheet, FollowsCommand, FollowsSheet, Spends};
+ghost use Rattle.session.specs.Interrupted.{IsInterrupted};
+ghost use Rattle.session.specs.Kept.{CountsFew};
 ghost use Rattle.session.specs.Solves.{WithModel};
-ghost use Rattle.session.specs.States.{open_search, with_search};
+ghost use Rattle.session.specs.States.{SessionState, open_search, with_contents};
 ghost use Rattle.session.specs.Steps.{Does};
 ghost use Rattle.sheet_linear_model.specs.Answers.{prepared_of};
 ghost use Rattle.sheet_linear_model.specs.Prepared.{IsPrepared, Prepared as OfSheet};
-ghost use Rattle.sheet_problems.specs.Laws.{ModelIsTheSheet};
-ghost use Rattle.sheet_solving.specs.Searches.{GoesFurther, Opened, begun, task_from};
+ghost use Rattle.kept_tables.specs.FromSheetProblems.{ModelIsTheSheet};
+ghost use Rattle.kept_book.specs.FromSheetSolving.{GoesFurther, Opened, begun, task_from};
 ghost use Rattle.solver_names.specs.Answers.{statement_of};
-ghost use Rattle.statement_laws.specs.Laws.{IsWhole};
+ghost use Rattle.sheet_linear_model.specs.FromStatementLaws.{IsWhole};
 
 use crate::Session;
 use crate::models::answer_without_model;
-use crate::open_searches::{
-    MOST_SEARCHES, count_others, has_model, has_search, put_search, search_after, take_search,
-};
+use crate::open_searches::{has_model, has_search, put_search, search_after, take_search};
 use cell_refs::SheetId;
 use commands::{Answer, Memory, units_in};
+use kept_book::{Allowed, OpenSearch, Steps};
 use node_pick::Picker;
 use sheet_linear_model::Prepared;
-use sheet_solving::{Allowed, OpenSearch};
 use solver_names::Statement;
+use std::sync::ledger::Ledger;
 
-// ---- opening and closing
-impl Session {
-    // Opens a search of the sheet that is named.
-    pub(crate) fn begin(&mut self, name: &str) -> Result<Answer, Memory>
-        ensures step { IfOk result (λ answer.
-            Does (λ i. WithModel (Begins self.old.state i) self.old.state i) self.old.state
-            (sheet_to_begin self.old.state name.now) answer self.new.state) }
-        ensures said { IfOk result (CanBeSaid self.old.state.book.sheets) }
-        ensures sheets { self.new.state.book.sheets ≡ self.old.state.book.sheets }
-        ensures memory { OnErr result
-            (IsUntouched self.old.state (Begin name.now) self.new.state) }
-    {
-        let Some(sheet) = self.book.sheets().find(name) else {
-            return Ok(Answer::UnknownSheet);
-        };
-        if count_others(&self.searches, usize::from(sheet.0)) >= MOST_SEARCHES {
-            return Ok(Answer::TooManySearches);
-        }
-        self.begin_sheet(sheet)
-    }
-
-    // Opens a search of a sheet.
-    fn begin_sheet(&mut self, sheet: SheetId) -> Result<Answer, Memory>
-        requires listed { sheet.0 < length self.old.state.book.sheets }
-        ensures step { IfOk result (λ answer. WithModel (Begins self.old.state sheet.0)
-            self.old.state sheet.0 answer self.new.state) }
-        ensures said { IfOk result (CanBeSaid self.old.state.book.sheets) }
-        ensures sheets { self.new.state.book.sheets ≡ self.old.state.book.sheets }
-        ensures memory { OnErr result (self.new.state ≡ self.old.state) }
-    {
-        match self.prepare(sheet) {
-            Ok(prepared) => self.begin_model(sheet, prepared),
-            Err(stop) => answer_without_model(stop),
-        }
-    }
-
-    // Opens a search of the model of a sheet.
-    fn begin_model(&mut self, sheet: SheetId, of: Prepared) -> Result<Answer, Memory>
-        requires listed { sheet.0 < length self.old.state.book.sheets }
-        ensures step { IfOk result (λ answer. Begins self.old.state sheet.0 (prepared_of of)
-            answer self.new.state) }
-        ensures said { IfOk result (CanBeSaid self.old.state.book.sheets) }
-        ensures sheets { self.new.state.book.sheets ≡ self.old.state.book.sheets }
-        ensures memory { OnErr result (self.new.state ≡ self.old.state) }
-    {
-        let Prepared { model, .. } = of;
-        let search = OpenSearch::begin(self.alloc, model)?;
-        put_search(&mut self.searches, usize::from(sheet.0), Some(search));
-        Ok(Answer::Begun)
-    }
-
-    // Closes the search of the sheet that is named.
-    pub(crate) fn stop(&mut self, name: &str) -> Answer
-        ensures step { Does (Stops self.old.state) self.old.state
-            (sheet_to_stop self.old.state name.now) result self.new.state }
-        ensures said { CanBeSaid self.old.state.book.sheets result }
-        ensures sheets { self.new.state.book.sheets ≡ self.old.state.book.sheets }
-    {
-        let Some(sheet) = self.book.sheets().find(name) else {
-            return Answer::UnknownSheet;
-        };
-        if !has_search(&self.searches, usize::from(sheet.0)) {
-            return Answer::NoSearch;
-        }
-        put_search(&mut self.searches, usize::from(sheet.0), None);
-        Answer::Stopped
-    }
-}
-
-// ---- slices
 impl Session {
     // Goes on with the search of the sheet that is named.
-    pub(crate) fn slice(
+    pub(crate) fn slice<L: Ledger>(
         &mut self,
         name: &str,
         units: &str,
         pick: &mut Box<dyn Picker>,
+        steps: &mut Steps<L>,
     ) -> Result<Answer, Memory>
         ensures step { IfOk result (λ answer. Does (λ (c : Cut). WithModel
             (Slices (rule pick.old) self.old.state c) self.old.state c.sheet) self.old.state
@@ -112,6 +45,10 @@ impl Session {
         ensures sheets { self.new.state.book.sheets ≡ self.old.state.book.sheets }
         ensures memory { OnErr result (IsInterrupted (rule pick.old) self.old.state
             (Slice name.now units.now) self.new.state) }
+        ensures follows { IfOk result
+            (λ answer. FollowsCommand self.old (Slice name.now units.now) answer self.new) }
+        ensures counted { steps.old ≤ steps.new }
+        ensures few { CountsFew self.old (Slice name.now units.now) (steps.new - steps.old) }
         ensures rule { rule pick.new ≡ rule pick.old }
     {
         let Some(sheet) = self.book.sheets().find(name) else {
@@ -123,15 +60,16 @@ impl Session {
         if !has_search(&self.searches, usize::from(sheet.0)) {
             return Ok(Answer::NoSearch);
         }
-        self.slice_sheet(sheet, units, pick)
+        self.slice_sheet(sheet, units, pick, steps)
     }
 
     // Goes on with the search of a sheet.
-    fn slice_sheet(
+    fn slice_sheet<L: Ledger>(
         &mut self,
         sheet: SheetId,
         units: u64,
         pick: &mut Box<dyn Picker>,
+        steps: &mut Steps<L>,
     ) -> Result<Answer, Memory>
         requires listed { sheet.0 < length self.old.state.book.sheets }
         requires open { IsSome (open_search self.old.state sheet.0) }
@@ -143,11 +81,13 @@ impl Session {
         ensures sheets { self.new.state.book.sheets ≡ self.old.state.book.sheets }
         ensures memory { OnErr result ((search : Opened)
             → open_search self.old.state sheet.0 ≡ Some search
-            → (self.new.state ≡ self.old.state) ⊎ IsUnderWay (rule pick.old)
-            self.old.state (cut sheet.0 units search) self.new.state) }
+            → IsUnderWay (rule pick.old) self.old.state (cut sheet.0 units search) self.new.state) }
+        ensures follows { IfOk result (λ answer. FollowsSheet self.old sheet.0 answer self.new) }
+        ensures counted { steps.old ≤ steps.new }
+        ensures few { FewOfSheet self.old sheet.0 (steps.new - steps.old) }
         ensures rule { rule pick.new ≡ rule pick.old }
     {
-        match self.prepare(sheet) {
+        match self.prepare(sheet, steps) {
             Ok(prepared) => self.slice_model(sheet, prepared, units, pick),
             Err(stop) => answer_without_model(stop),
         }
@@ -175,8 +115,9 @@ impl Session {
         ensures sheets { self.new.state.book.sheets ≡ self.old.state.book.sheets }
         ensures memory { OnErr result ((search : Opened)
             → open_search self.old.state sheet.0 ≡ Some search
-            → (self.new.state ≡ self.old.state) ⊎ IsUnderWay (rule pick.old)
-            self.old.state (cut sheet.0 units search) self.new.state) }
+            → IsUnderWay (rule pick.old) self.old.state (cut sheet.0 units search) self.new.state) }
+        ensures drops { IfOk result (λ answer.
+            Drops (written_cells answer of.statement.adj) self.old self.new) }
         ensures rule { rule pick.new ≡ rule pick.old }
     {
         if has_model(&self.searches, usize::from(sheet.0), &of.model) {
@@ -210,8 +151,9 @@ impl Session {
         ensures sheets { self.new.state.book.sheets ≡ self.old.state.book.sheets }
         ensures memory { OnErr result ((search : Opened)
             → open_search self.old.state sheet.0 ≡ Some search
-            → IsUnderWay (rule pick.old)
-            self.old.state (cut sheet.0 units search) self.new.state) }
+            → IsUnderWay (rule pick.old) self.old.state (cut sheet.0 units search) self.new.state) }
+        ensures drops { IfOk result (λ answer.
+            Drops (written_cells answer of.now.statement.adj) self.old self.new) }
         ensures rule { rule pick.new ≡ rule pick.old }
     {
         let place = usize::from(sheet.0);
@@ -249,7 +191,13 @@ impl Session {
             self.old.state sheet.0 (prepared_of of) answer self.new.state) }
         ensures said { IfOk result (CanBeSaid self.old.state.book.sheets) }
         ensures sheets { self.new.state.book.sheets ≡ self.old.state.book.sheets }
-        ensures memory { OnErr result (self.new.state ≡ self.old.state) }
+        ensures memory { OnErr result ((self.new.state ≡ self.old.state)
+            ⊎ ((a : Said) × (answered : SessionState)
+            × Sliced (task_from (rule pick.old) (begun of.model) units self.old.state.budget)
+            self.old.state sheet.0 (prepared_of of) a answered
+            × (self.new.state ≡ with_contents self.old.state answered))) }
+        ensures drops { IfOk result (λ answer.
+            Drops (written_cells answer of.statement.adj) self.old self.new) }
         ensures rule { rule pick.new ≡ rule pick.old }
     {
         let Prepared {
@@ -261,7 +209,8 @@ impl Session {
         self.put_anew(sheet, &statement, search, units, pick)
     }
 
-    // Spends units of a search that was begun apart, and puts it in the place of the open one, or closes that one where it ends.
+    // Spends units of a search that was begun apart, and puts it in the place of the open one, or closes that one where it ends. After
+    // want of memory that one stays.
     fn put_anew(
         &mut self,
         sheet: SheetId,
@@ -282,7 +231,14 @@ impl Session {
             self.old.state sheet.0 p answer self.new.state) }
         ensures said { IfOk result (CanBeSaid self.old.state.book.sheets) }
         ensures sheets { self.new.state.book.sheets ≡ self.old.state.book.sheets }
-        ensures memory { OnErr result (self.new.state ≡ self.old.state) }
+        ensures memory { OnErr result ((self.new.state ≡ self.old.state)
+            ⊎ ((a : Said) × (answered : SessionState)
+            × ((p : OfSheet) → p.statement ≡ statement_of statement.now → p.model ≡ search.model
+            → Sliced (task_from (rule pick.old) search units self.old.state.budget)
+            self.old.state sheet.0 p a answered)
+            × (self.new.state ≡ with_contents self.old.state answered))) }
+        ensures drops { IfOk result (λ answer.
+            Drops (written_cells answer statement.now.adj) self.old self.new) }
         ensures rule { rule pick.new ≡ rule pick.old }
     {
         let mut search = search;
@@ -318,7 +274,12 @@ impl Session {
             search.new self.new.state) }
         ensures said { IfOk result (CanBeSaid self.old.state.book.sheets) }
         ensures sheets { self.new.state.book.sheets ≡ self.old.state.book.sheets }
-        ensures memory { OnErr result (self.new.state ≡ self.old.state) }
+        ensures memory { OnErr result ((self.new.state ≡ self.old.state) ⊎ ((a : Said)
+            × Spends (task_from (rule pick.old) search.old units self.old.state.budget)
+            self.old.state (statement_of statement.now) search.old.model a
+            search.new self.new.state)) }
+        ensures drops { IfOk result (λ answer.
+            Drops (written_cells answer statement.now.adj) self.old self.new) }
         ensures further { GoesFurther
             (task_from (rule pick.old) search.old units self.old.state.budget)
             search.old.model search.new }
@@ -328,10 +289,14 @@ impl Session {
             units,
             budget: self.budget,
         };
-        let answer = self
-            .book
-            .slice(self.alloc, statement, search, allowed, pick)?;
+        let (answer, kept) = self.book.slice(statement, search, allowed, pick)?;
         self.mark_written(&statement.adj, &answer);
-        Ok(answer)
+        match kept {
+            Ok(()) => Ok(answer),
+            Err(memory) => {
+                drop(answer);
+                Err(memory)
+            }
+        }
     }
 }

@@ -10,15 +10,15 @@ use Rattle.workbook.specs.State.{State}
 use Rattle.solver_names.specs.Statement.{Statement}
 use Rattle.commands.specs.declared.answer.Answer.{Answer}
 use Rattle.commands.specs.declared.answer.Answer.TheVariants as answer
-use Rattle.sheet_linear_model.specs.Answers.{HasNoModel}
-use Rattle.sheet_linear_model.specs.Prepared.{IsPrepared, Prepared}
-use Rattle.sheet_solving.specs.Searches.{HasOpenLeaf, Opened, Searched, Task, begun, led_to, task_from, total, whole_task}
+use Rattle.session.specs.FromSheetLinearModel.{HasNoModel}
+use Rattle.session.specs.FromSheetLinearModel.{IsPrepared, Prepared}
+use Rattle.session.specs.FromSheetSolving.{HasOpenLeaf, Opened, Searched, Task, begun, led_to, task_from, total, whole_task}
 use Rattle.session.specs.Cuts.{Cut, Resumes, Sliced, Slices}
 use Rattle.session.specs.Solves.{SearchEnds, WithModel, with_written}
 use Rattle.session.specs.States.{SessionState, with_book, with_search, without_search}
 use Rattle.session_laws.specs.Answers.{SameAnswer}
 use Rattle.session_laws.proofs.Ends.{not_more, one_end}
-use Rattle.sheet_linear_model.proofs.Single.{never_both, prepared_is_one}
+use Rattle.session.proofs.FromSheetLinearModel.{never_both, prepared_is_one}
 use Rattle.session_laws.proofs.Models.{one_without_model}
 use Rattle.session_laws.proofs.Same.{equal_are_same}
 use Rattle.session_laws.proofs.Tasks.{Follows, asked_last, last_is_one}

@@ -17,8 +17,8 @@ use Rattle.solver_names.specs.Statement.{Statement}
 use Rattle.commands.specs.declared.answer.Answer.{Answer}
 use Rattle.commands.specs.declared.answer.Answer.TheVariants as answer
 use Rattle.commands.specs.declared.answer.PathStep.{PathStep}
-use Rattle.sheet_solving.specs.Searches.{EndsWith, HasOpenLeaf, Searched, Task, total}
-use Rattle.sheet_solving.specs.Solving.{HasNoRoom, IsSolved, Solves, StandsAt, by_cells}
+use Rattle.session.specs.FromSheetSolving.{EndsWith, HasOpenLeaf, Searched, Task, total}
+use Rattle.session.specs.FromSheetSolving.{HasNoRoom, IsSolved, Solves, StandsAt, by_cells}
 use Rattle.session_laws.specs.Answers.{SameAnswer}
 use Rattle.session_laws.proofs.Same.{equal_are_same, same_by}
 use Rattle.session_laws.proofs.Tasks.{Follows, IsLast, asked_last, last_is_one, over_last, spent_last, wide_last}

@@ -8,7 +8,7 @@ use Rattle.solver_names.specs.Stated.{statement_in}
 use Rattle.solver_names.specs.Texts.{name_text}
 use Rattle.solver_names.specs.declared.fault.NamesFault.{NamesFault}
 use Rattle.solver_names.specs.declared.fault.NamesFault.TheVariants as told
-use Rattle.sheet_linear_model.specs.Answers.{HasFault}
+use Rattle.session.specs.FromSheetLinearModel.{HasFault}
 use Rattle.session_laws.specs.Answers.{SameFault}
 
 same_error : {A E : Type 0} (r : Result A E) (f g : E) → r ≡ Err f → r ≡ Err g → f ≡ g

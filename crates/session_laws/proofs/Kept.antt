@@ -9,13 +9,13 @@ use Rattle.searches.specs.Trails.{start, stays}
 use Rattle.searches.proofs.Slices.{free_leads, slices_join}
 use Rattle.branch_bound.specs.Searches.{HasTrail}
 use Rattle.solver_names.specs.Statement.{Statement}
-use Rattle.sheet_linear_model.specs.Prepared.{Prepared}
-use Rattle.sheet_solving.specs.Searches.{Opened, Searched, Task, total, whole_task}
+use Rattle.session.specs.FromSheetLinearModel.{Prepared}
+use Rattle.session.specs.FromSheetSolving.{Opened, Searched, Task, total, whole_task}
 use Rattle.commands.specs.declared.answer.Answer.{Answer}
 use Rattle.commands.specs.declared.answer.Answer.TheVariants as answer
 use Rattle.commands.specs.Commands.{Spoken, Set, Clear, Name, Unname, Show, Model as ToModel, Solve, Prices, Begin, Slice, Stop, Budget, Save, Unknown}
 use Rattle.commands.specs.Locating.{cell_named, sheet_named, units_named}
-use Rattle.session.specs.Cuts.{Begins, Cut, Resumes, Sliced, Slices, cut_of, sheet_to_begin, sheet_to_stop}
+use Rattle.session.specs.Cuts.{Begins, Cut, HasWritten, IsUnderWay, Resumes, Sliced, Slices, cut_of, sheet_to_begin, sheet_to_stop}
 use Rattle.session.specs.Edits.{cell_to_set, home_to_name, home_to_unname}
 use Rattle.session.specs.Interrupted.{IsInterrupted}
 use Rattle.session.specs.Prices.{TellsPrices}
@@ -171,14 +171,27 @@ module _ (rule : Rule) (before after : SessionState) (stand : SearchesHaveTrails
   untouched : after ≡ before → SearchesHaveTrails after
   untouched e = subst (λ (s : SessionState). SearchesHaveTrails s) (sym e) stand
 
+  applied : (command : Spoken) → (after ≡ before) ⊎ ((a : Answer) × Applies rule before command a after) → SearchesHaveTrails after
+  applied command (inl e) = untouched e
+  applied command (inr (a, h)) = same_stand after.searches after.searches (applies before after stand rule command a h) refl
+
+  -- what is written beside the searches leaves them
+  beside : (c : Cut) (written : SessionState) → HasWritten rule before c written → written.searches ≡ before.searches
+  beside c written (inl e) = ap (λ (s : SessionState). s.searches) e
+  beside c written (inr (a, answered, h, e)) = ap (λ (s : SessionState). s.searches) e
+
+  under_way : (c : Cut) → HasTrail c.search.model c.search.units c.search.state → IsUnderWay rule before c after → SearchesHaveTrails after
+  under_way c has (written, contents, inl e) = same_stand before.searches after.searches stand (ap (λ (s : SessionState). s.searches) e ∙ beside c written contents)
+  under_way c has (written, contents, inr w) =
+      let trail = subst (λ (m : Model). HasTrail m c.search.units c.search.state) w.same has in
+      one_put before.searches after.searches c.sheet w.search stand (subst (λ (s : Opened). Stands s) (sym w.further.1) (led_on _ w.prepared.model w.further.0 trail))
+      (ap (λ (s : SessionState). s.searches) w.after_is ∙ ap (λ (l : List (Option Opened)). set l c.sheet (Some w.search)) (beside c written contents))
+
   interrupted : (command : Spoken) → IsInterrupted rule before command after → SearchesHaveTrails after
   interrupted (Slice name units) (inl h) = untouched h.1
   interrupted (Slice name units) (inr h) =
-      let w = h.2 in
-      let has = stand h.0.sheet h.0.search (is_open (open_search before) (units_named units) (place_in before.book.sheets name) h.0 h.1) in
-      let trail = subst (λ (m : Model). HasTrail m h.0.search.units h.0.search.state) w.same has in
-      one_put before.searches after.searches h.0.sheet w.search stand (subst (λ (s : Opened). Stands s) (sym w.further.1) (led_on _ w.prepared.model w.further.0 trail)) (ap (λ (s : SessionState). s.searches) w.after_is)
-  interrupted _ h = untouched h.1
+      under_way h.0 (stand h.0.sheet h.0.search (is_open (open_search before) (units_named units) (place_in before.book.sheets name) h.0 h.1)) h.2
+  interrupted command h = applied command h.1
 
 pub trails_are_kept : TrailsAreKept
 trails_are_kept = record {

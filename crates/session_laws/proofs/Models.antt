@@ -22,8 +22,8 @@ use Rattle.form_needs.specs.declared.refusal.FormRefusal.{FormRefusal}
 use Rattle.form_needs.proofs.One.{one_refusal}
 use Rattle.commands.specs.declared.answer.Answer.{Answer}
 use Rattle.commands.specs.declared.answer.Answer.TheVariants as answer
-use Rattle.sheet_linear_model.specs.Answers.{HasFault, HasNoModel}
-use Rattle.sheet_linear_model.specs.Prepared.{HasWideRow, HaveForms, IsRefusedBy, rows_of}
+use Rattle.session.specs.FromSheetLinearModel.{HasFault, HasNoModel}
+use Rattle.session.specs.FromSheetLinearModel.{HasWideRow, HaveForms, IsRefusedBy, rows_of}
 use Rattle.session_laws.specs.Answers.{SameAnswer}
 use Rattle.session_laws.proofs.Faults.{no_fault, one_fault}
 use Rattle.session_laws.proofs.Same.{equal_are_same, same_by}

@@ -1,6 +1,6 @@
 -- The search that a slice names is the open one of its sheet.
 use Rattle.std.proofs.Common.{◌≡◌, ℕ, Option, Some, None, Result, Ok, Err, refl, subst}
-use Rattle.sheet_solving.specs.Searches.{Opened}
+use Rattle.session.specs.FromSheetSolving.{Opened}
 use Rattle.commands.specs.declared.answer.Answer.{Answer}
 use Rattle.commands.specs.Locating.{or_unknown}
 use Rattle.session.specs.Cuts.{Cut, cut, search_or}

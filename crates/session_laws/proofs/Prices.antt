@@ -14,10 +14,10 @@ use Rattle.commands.specs.declared.answer.Answer.{Answer}
 use Rattle.commands.specs.declared.answer.Answer.TheVariants as answer
 use Rattle.commands.specs.declared.answer.PathStep.{PathStep}
 use Rattle.commands.specs.declared.price_lines.PriceLines.{PriceLines}
-use Rattle.sheet_linear_model.specs.Lines.{numbers_of}
-use Rattle.sheet_linear_model.specs.Prepared.{Prepared}
-use Rattle.sheet_prices.specs.Answers.{ComesTo, HasAim, IsFirstWhole, Prices, Tells}
-use Rattle.sheet_prices.specs.Prices.{lines_of}
+use Rattle.session.specs.FromSheetLinearModel.{numbers_of}
+use Rattle.session.specs.FromSheetLinearModel.{Prepared}
+use Rattle.session.specs.FromSheetPrices.{ComesTo, HasAim, IsFirstWhole, Prices, Tells}
+use Rattle.session.specs.FromSheetPrices.{lines_of}
 use Rattle.session_laws.specs.Answers.{SameAnswer}
 use Rattle.session_laws.proofs.Priced.{IsFound, SameResult, priced_once}
 use Rattle.session_laws.proofs.Runs.{three}

@@ -13,9 +13,9 @@ use Rattle.recalc.specs.Showing.{IsShown}
 use Rattle.recalc.specs.declared.shown.Shown.TheVariants as shown
 use Rattle.recalculation.specs.Entries.{Book, no_overriding}
 use Rattle.recalculation.specs.Narrow.{IsLeastWide, NoneIsWide}
-use Rattle.sheet_linear_model.specs.Answers.{HasNoModel}
-use Rattle.sheet_linear_model.specs.Lines.{lines_of}
-use Rattle.sheet_linear_model.specs.Prepared.{IsPrepared, Prepared}
+use Rattle.session.specs.FromSheetLinearModel.{HasNoModel}
+use Rattle.session.specs.FromSheetLinearModel.{lines_of}
+use Rattle.session.specs.FromSheetLinearModel.{IsPrepared, Prepared}
 use Rattle.sheet_model.specs.declared.value.Value.{Value}
 use Rattle.workbook.specs.Kinds.{book_of}
 use Rattle.workbook.specs.State.{State}
@@ -27,7 +27,7 @@ use Rattle.session.specs.Saves.{Saves, files_to_save}
 use Rattle.session.specs.States.{SessionState}
 use Rattle.session.specs.Steps.{Shows}
 use Rattle.session_laws.specs.Answers.{SameAnswer}
-use Rattle.sheet_linear_model.proofs.Single.{never_both, prepared_is_one}
+use Rattle.session.proofs.FromSheetLinearModel.{never_both, prepared_is_one}
 use Rattle.session_laws.proofs.Models.{one_without_model}
 use Rattle.session_laws.proofs.Same.{equal_are_same, same_by}
 

@@ -3,8 +3,8 @@ use Rattle.std.proofs.Common.{◌≡◌, ◌≢◌, ◌∙◌, List, [], ◌∷�
 use Rattle.std.specs.List.{AllZip}
 use Rattle.cell_refs.specs.Names.{place_in}
 use Rattle.node_pick.specs.Rules.{Rule, free}
-use Rattle.sheet_linear_model.specs.Prepared.{Prepared}
-use Rattle.sheet_solving.specs.Searches.{whole_task}
+use Rattle.session.specs.FromSheetLinearModel.{Prepared}
+use Rattle.session.specs.FromSheetSolving.{whole_task}
 use Rattle.commands.specs.declared.answer.Answer.{Answer}
 use Rattle.commands.specs.declared.answer.Answer.TheVariants as answer
 use Rattle.commands.specs.Commands.{Spoken, Set, Clear, Name, Unname, Show, Model as ToModel, Solve, Prices, Begin, Slice, Stop, Budget, Save, Unknown}

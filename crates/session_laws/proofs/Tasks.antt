@@ -6,7 +6,7 @@ use Rattle.node_pick.specs.Rules.{free}
 use Rattle.searches.specs.Trails.{State, SearchUnit, Grows, Trail, IsOver}
 use Rattle.searches.proofs.Slices.{slices_agree}
 use Rattle.branch_bound.specs.Ends.{IsWideAt}
-use Rattle.sheet_solving.specs.Searches.{Searched, Task, total}
+use Rattle.session.specs.FromSheetSolving.{Searched, Task, total}
 use Rattle.session_laws.proofs.Trails.{leads_on, over_is_last, trail_on, wide_is_last}
 
 -- a task of a valid model that goes on from where a trail has led, by a rule that names a node

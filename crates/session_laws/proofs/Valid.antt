@@ -24,7 +24,7 @@ use Rattle.solver_names.specs.Statement.{RowOf}
 use Rattle.sheet_problems.specs.Forms.{HasForm, HasSides, condition_of, form_at, number_form}
 use Rattle.sheet_problems.specs.Places.{Sides}
 use Rattle.sheet_problems.proofs.Fitting.{forms_fit}
-use Rattle.sheet_linear_model.specs.Prepared.{IsPrepared, Prepared, rows_of}
+use Rattle.session.specs.FromSheetLinearModel.{IsPrepared, Prepared, rows_of}
 
 some_is : {f g : AffineForm} → Some f ≡ Some g → f ≡ g
 some_is e = cc

@@ -6,7 +6,7 @@ use Rattle.node_pick.specs.Rules.{Rule, free}
 use Rattle.workbook.specs.State.{State}
 use Rattle.commands.specs.declared.answer.Answer.{Answer}
 use Rattle.commands.specs.Commands.{Spoken}
-use Rattle.sheet_solving.specs.Searches.{Opened}
+use Rattle.session.specs.FromSheetSolving.{Opened}
 use Rattle.session.specs.Interrupted.{IsInterrupted}
 use Rattle.session.specs.States.{SessionState, open_search, opened}
 use Rattle.session.specs.Steps.{Step}

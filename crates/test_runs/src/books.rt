@@ -42,10 +42,19 @@ fn files(alloc: Global, plan: &str, data: &str) -> Result<Vec<File>, Fail>
     Ok(files)
 }
 
-// The workbook of two sheets and four names.
-fn open_workbook(alloc: Global, plan: &str, data: &str) -> Result<Workbook, Fail> {
+const NAMES: &str = ",rate,0.5\nplan,tax,=$A$1:$B$2\nplan,own,what\n,own,7\n";
+
+/// The workbook of two sheets, plan and data, and some names.
+pub(crate) fn open_workbook(
+    alloc: Global,
+    plan: &str,
+    data: &str,
+    names: &str,
+) -> Result<Workbook, Fail> {
+    if names.len() > 200_000 {
+        return Err(Fail::new("the names are long"));
+    }
     let files = files(alloc, plan, data)?;
-    let names = ",rate,0.5\nplan,tax,=$A$1:$B$2\nplan,own,what\n,own,7\n";
     match Workbook::open(alloc, &files, names.as_bytes()) {
         Ok(workbook) => Ok(workbook),
         Err(_) => Err(Fail::new("it is not opened")),
@@ -54,7 +63,7 @@ fn open_workbook(alloc: Global, plan: &str, data: &str) -> Result<Workbook, Fail
 
 /// A workbook of two sheets, with the texts 1 and x in the first row, a formula in the third, and 7 on the other sheet.
 pub(crate) fn small(alloc: Global) -> Result<Workbook, Fail> {
-    open_workbook(alloc, "1,,x\n,\n,=A1\n", ",\n7\n")
+    open_workbook(alloc, "1,,x\n,\n,=A1\n", ",\n7\n", NAMES)
 }
 
 /// A workbook with one text less than there may be: 16 in each row of a sheet, and 15 in the last.
@@ -64,5 +73,5 @@ pub(crate) fn nearly_full(alloc: Global) -> Result<Workbook, Fail> {
         plan.push_str("1,1,1,1,1,1,1,1,1,1,1,1,1,1,1,1\n")?;
     }
     plan.push_str("1,1,1,1,1,1,1,1,1,1,1,1,1,1,1\n")?;
-    open_workbook(alloc, &plan, "")
+    open_workbook(alloc, &plan, "", NAMES)
 }

@@ -3,10 +3,11 @@ ghost use Rattle.std.specs.Prelude.{◌≢◌, ◌<◌, [], length};
 ghost use Rattle.node_pick.specs.Rules.{IsRising};
 
 use crate::runs::{NEVER, folder, words};
+use crate::texts::check;
 use frac128::Frac;
 use memory::Memory;
 use node_pick::{Depth, NodeEvent, NodeInfo, Picker};
-use opensolver_cli::{Status, run};
+use opensolver_cli::run;
 use solver_io::{MemSink, MemSource};
 use std::alloc::Global;
 use std::cell::{Cell, RefCell};
@@ -143,14 +144,8 @@ fn recorder(of: &Kept, choice: Choice) -> Result<Recording, Fail> {
     })
 }
 
-// Whether a run by these words answers its one record so, by three pickers of this choice, of which this is kept.
-fn is_answered(
-    alloc: Global,
-    line: &str,
-    choice: Choice,
-    all: &[Kept; 3],
-    answer: &str,
-) -> Result<bool, Fail> {
+// How a run by these words ends and what it prints for its one record, by three pickers of this choice, of which this is kept.
+fn outcome(alloc: Global, line: &str, choice: Choice, all: &[Kept; 3]) -> Result<String, Fail> {
     let mut pickers: Vec<Box<dyn Picker>> = Vec::new(alloc);
     pickers.push(Box::new(alloc, recorder(&all[0], choice)?)?)?;
     pickers.push(Box::new(alloc, recorder(&all[1], choice)?)?)?;
@@ -161,24 +156,35 @@ fn is_answered(
     let mut source = MemSource::new(alloc, script, [NEVER.1].to_vec(alloc)?);
     let mut sink = MemSink::new(alloc, [NEVER.2].to_vec(alloc)?);
     let status = run(alloc, &words, &mut folder, &mut source, &mut sink, pickers);
-    Ok(status == Status::Done && sink.bytes() == answer.as_bytes())
+    let printed = str::from_utf8(sink.bytes())?;
+    Ok(format!(in alloc; "{status:?}: {printed}")?)
 }
 
-// Whether a run finds the optimum, asks the picker of this place alone, and lets each go once.
-fn asks(alloc: Global, line: &str, choice: Choice, place: usize) -> Result<bool, Fail> {
+// The same, with the places of the pickers that were asked or told something, and how often each was let go.
+fn outcome_with_pickers(alloc: Global, line: &str, choice: Choice) -> Result<String, Fail> {
     let all = [
         nothing_heard(alloc)?,
         nothing_heard(alloc)?,
         nothing_heard(alloc)?,
     ];
-    let mut is_so = is_answered(alloc, line, choice, &all, "optimal 20\n")?;
-    for (number, of) in all.iter().enumerate() {
+    let mut told = outcome(alloc, line, choice, &all)?;
+    for (place, of) in all.iter().enumerate() {
         let Ok(heard) = of.heard.try_borrow() else {
-            return Ok(false);
+            return Err("it is lent".into());
         };
-        is_so = is_so && of.drops.get() == 1 && heard.is_empty() == (number != place);
+        if !heard.is_empty() {
+            write!(told, "picker {place} is asked; ")?;
+        }
     }
-    Ok(is_so)
+    let [first, second, third] = &all;
+    write!(
+        told,
+        "let go {} {} {}",
+        first.drops.get(),
+        second.drops.get(),
+        third.drops.get()
+    )?;
+    Ok(told)
 }
 
 // The words, which picker they name, and by which of its nodes it chooses.
@@ -200,10 +206,11 @@ const ASKED: &[(&str, usize, Choice)] = &[
 
 #[test]
 fn a_run_asks_the_picker_that_is_named(rt: HostRuntime) -> Result<(), Fail> {
+    let alloc = rt.alloc();
     for (line, place, choice) in ASKED {
-        if !asks(rt.alloc(), line, *choice, *place)? {
-            return Err(Fail::new(line));
-        }
+        let found = outcome_with_pickers(alloc, line, *choice)?;
+        let want = format!(in alloc; "Done: optimal 20\npicker {place} is asked; let go 1 1 1")?;
+        check(&found, &want, line)?;
     }
     Ok(())
 }
@@ -221,8 +228,8 @@ fn a_run_tells_its_picker_each_node(rt: HostRuntime) -> Result<(), Fail> {
         nothing_heard(alloc)?,
     ];
     let words = "--names names.csv plan.csv";
-    let is_so = is_answered(alloc, words, Choice::Deepest, &all, "optimal 20\n")?;
-    assert!(rt; is_so);
+    let found = outcome(alloc, words, Choice::Deepest, &all)?;
+    check(&found, "Done: optimal 20\n", words)?;
     let Ok(heard) = all[0].heard.try_borrow() else {
         return Err("it is lent".into());
     };

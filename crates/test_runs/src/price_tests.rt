@@ -3,9 +3,9 @@ ghost use Rattle.std.specs.Prelude.{◌<◌, IfOk, length};
 
 use crate::texts::check;
 use cell_refs::SheetNames;
-use commands::{Answer, Command, PriceLine, PriceLines, line};
 use frac128::Frac;
 use memory::Memory;
+use opensolver_cli::{Answer, Command, PriceLine, PriceLines, line};
 use sheet_csv::Rows;
 use std::alloc::Global;
 use std::test::Fail;

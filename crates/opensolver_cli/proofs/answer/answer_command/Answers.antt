@@ -14,4 +14,4 @@ pub returns-clause-answers : goal.returns-clause-answers
 returns-clause-answers g c =
     let v : Written = put_in (g.F.Folder.content c.args.folder.now) (g.F.Folder.write_faults c.args.folder.now) (g.F.Folder.write_wants c.args.folder.now) (g.K.Sink.pieces c.args.out.now) (g.K.Sink.faults c.args.out.now) in
     let w : Written = put_in (g.F.Folder.content c.tell_answer.new.folder) (g.F.Folder.write_faults c.tell_answer.new.folder) (g.F.Folder.write_wants c.tell_answer.new.folder) (g.K.Sink.pieces c.tell_answer.new.out) (g.K.Sink.faults c.tell_answer.new.out) in
-    told_by _ (named_of c.args.job.now.named) c.args.session.now.state c.apply.new.self.state c.tell_answer.new.session.state (spoken c.args.command.now) c.in-Ok.answer v w c.tell_answer.result c.in-Ok.ensures.step c.in-Ok.ensures.sheets c.tell_answer.ensures.answers
+    rw (← c.session.view_is) (told_by _ (named_of c.args.job.now.named) c.session.inside.session.state c.apply.new.self.state c.tell_answer.new.session.state (spoken c.args.command.now) c.in-Ok.answer v w c.tell_answer.result c.in-Ok.ensures.step c.in-Ok.ensures.sheets c.tell_answer.ensures.answers)

@@ -1,6 +1,7 @@
-use Rattle.std.proofs.Common.{◌≡◌, length}
+use Rattle.std.proofs.Common.{◌≡◌, map, take}
+use Rattle.std.specs.Prelude.{is_some}
 use Rattle.session.proofs.open_searches.searching.Given as goal
 
--- a place for each search so far
+-- for each search so far whether it is open
 abbrev pub invariant-loop-search : goal.invariant-loop-search
-invariant-loop-search l = length l.found.items ≡ l.search-index
+invariant-loop-search l = l.found.items ≡ map is_some (take l.search-index l.searches)

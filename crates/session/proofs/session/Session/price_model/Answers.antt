@@ -12,7 +12,7 @@ price_rows-requires c = (c.args.self.now.state.book, c.args.sheet.0, c.requires.
 pub returns-clause-step : goal.returns-clause-step
 returns-clause-step c =
     let state : SessionState = record {
-      book = c.self.inside.book;
+      book = c.self.inside.book.book;
       changed = record { sheets = c.self.inside.changed_sheets.items; names = c.self.inside.changed_names };
       budget = c.self.inside.budget;
       searches = c.self.inside.searches.items;

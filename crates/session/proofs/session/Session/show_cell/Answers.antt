@@ -12,5 +12,5 @@ returns-clause-said c = elim c.match-branch-2.branch [
   | in-Wide w ↦
       let shown = rw w.in-Wide.is at c.in_ok-value.ensures.shown in
       subst (λ r. IfOk r (CanBeSaid c.args.self.now.state.book.sheets)) (sym w.result-is)
-      (rw (← c.self.view_is) (wide_is_listed c.self.inside.book w.in-Wide.wide (subst TextsAreListed c.workbook.ensures c.texts_are_listed.ensures) shown.wide))
+      (rw (← c.self.view_is) (wide_is_listed c.self.inside.book.book w.in-Wide.wide (subst TextsAreListed c.workbook.ensures c.texts_are_listed.ensures) shown.wide))
 ]

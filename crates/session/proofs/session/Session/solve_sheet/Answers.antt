@@ -5,6 +5,8 @@ use Rattle.session.specs.States.{SessionState}
 use Rattle.session.proofs.Complete.{all_settled, none_settled}
 use Rattle.session.proofs.Ends.{all_end, none_solved}
 use Rattle.session.proofs.Said.{if_ok_map}
+use Rattle.session.proofs.Leaving.{both_ok, end_leaves, follows_end}
+use Rattle.session.proofs.Stopping.{end_stopped}
 use Rattle.session.proofs.session.Session.solve_sheet.Goals as goal
 
 pub returns-in-Ok-clause-step : goal.returns-in-Ok-clause-step
@@ -28,3 +30,17 @@ returns-in-Ok-clause-complete g c =
 pub returns-in-Err-clause-complete : goal.returns-in-Err-clause-complete
 returns-in-Err-clause-complete g c =
     none_settled _ c.args.self.now.state c.args.sheet.0 c.in-Err.stop c.answer_without_model.result c.in-Err.ensures.prepares c.answer_without_model.ensures.none
+
+pub returns-in-Ok-clause-memory : goal.returns-in-Ok-clause-memory
+returns-in-Ok-clause-memory g c =
+    let prepares = subst (λ (s : SessionState). IsPrepared s.book c.args.sheet.0 (prepared_of c.in-Ok.prepared)) (sym c.prepare.ensures.same) c.in-Ok.ensures.prepares in
+    rw (← c.prepare.ensures.same) (end_stopped _ c.prepare.new.self.state c.search.new.self.state c.args.sheet.0 (prepared_of c.in-Ok.prepared) c.search.result prepares c.search.ensures.memory)
+
+pub returns-in-Ok-clause-follows : goal.returns-in-Ok-clause-follows
+returns-in-Ok-clause-follows g c =
+    let before = c.args.self.now in
+    let middle = c.prepare.new.self in
+    let p = prepared_of c.in-Ok.prepared in
+    both_ok c.search.result _ _ _ (λ a step drops. follows_end before middle c.search.new.self c.args.sheet.0 p c.in-Ok.ensures.prepares c.prepare.ensures.same c.in-Ok.ensures.follows a
+    (end_leaves _ middle.state p.statement p.model c.args.sheet.0 a c.search.new.self.state step) drops)
+    c.search.ensures.step c.search.ensures.drops

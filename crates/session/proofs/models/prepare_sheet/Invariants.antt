@@ -1,4 +1,0 @@
-use Rattle.session.proofs.models.prepare_sheet.Given as goal
-
-abbrev pub ghosts-prepare_counted : goal.ghosts-prepare_counted
-ghosts-prepare_counted a = record { name = a.counter.blank.name; parts = a.counter.blank.parts }
