@@ -3,8 +3,8 @@ use Rattle.std.specs.Prelude.{◌≡◌, ◌∷◌, ◌⊎◌, ℕ, List, []}
 use Rattle.std.specs.Process.{exit_status}
 use Rattle.std.specs.declared.process.ExitCode.{ExitCode}
 use Rattle.node_pick.specs.Rules.{best_first, depth_first, oldest_first}
-use Rattle.command_line.specs.Words.{asked_of}
-use Rattle.opensolver_cli.specs.Completeness.{EndsExactly}
+use Rattle.opensolver_cli.specs.FromCommandLine.{asked_of}
+use Rattle.opensolver_cli.specs.Completeness.{EndsExactly, IsComplete}
 use Rattle.opensolver_cli.specs.Headline.{IsCounted, RunsAs}
 use Rattle.opensolver_cli.specs.Outside.{Outside}
 use Rattle.run_inputs.specs.Numbers.{number_of}
@@ -21,6 +21,7 @@ RunsToEnd words before after ends =
     RunsAs (depth_first ∷ best_first ∷ oldest_first ∷ []) (asked_of words) before after ends
     × EndsExactly (asked_of words) before.files before.left ends
     × IsCounted before after ends
+    × IsComplete (asked_of words) before after ends
 
 -- it is how a run ends over some words, whatever was seen
 abbrev pub IsEndOfRun : Status → Type 0

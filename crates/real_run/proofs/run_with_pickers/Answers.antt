@@ -1,6 +1,6 @@
 use Rattle.std.proofs.Common.{List, refl, subst}
 use Rattle.node_pick.specs.Rules.{Rule, best_first, depth_first, oldest_first}
-use Rattle.command_line.specs.Words.{asked_of, texts_of}
+use Rattle.opensolver_cli.specs.FromCommandLine.{asked_of, texts_of}
 use Rattle.opensolver_cli.specs.Headline.{RunsAs}
 use Rattle.opensolver_cli.specs.Outside.{Outside, seen}
 use Rattle.real_run.proofs.PickerLaws.{rule_by_kind, three, three_are_three}
