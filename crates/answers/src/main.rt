@@ -46,7 +46,7 @@ mod spelling;
 
 use cases::Cases;
 use lines::Line;
-use real_run::run_here;
+use real_run::{here, run_here};
 use std::io;
 use std::io::{BufRead, BufReader};
 use std::process::ExitCode;
@@ -55,7 +55,10 @@ fn main(rt: HostRuntime) -> ExitCode {
     if print_answers(&rt).is_err() {
         return ExitCode::FAILURE;
     }
-    run_here(rt)
+    match here(rt) {
+        Ok(mut surroundings) => run_here(&mut surroundings),
+        Err(code) => code,
+    }
 }
 
 // Prints what comes of each case of standard input.
