@@ -1,10 +1,7 @@
 // How cases are read, line by line.
 
-use crate::spelling::{fails_of, push_spelled, push_times, words_of};
+use case_lists::{FileLists, Files, Piece, calls_of, words_of};
 use std::alloc::{AllocError, Global};
-
-/// Files, each a name and its bytes.
-pub(crate) type Files = Vec<(String, Vec<u8>)>;
 
 /// A check: what it shows, the words of its command line, its files, the calls of the folder and of the printer that fail, and the file
 /// that is cut, where the case is many runs.
@@ -17,35 +14,28 @@ pub(crate) struct Case {
     pub(crate) cut: Option<String>,
 }
 
-// Files that cases may share.
-#[derive(Drop)]
-struct Shared {
-    name: String,
-    files: Files,
-}
-
-/// The shared files that have been read, and the case that is being read.
+/// The files that have been read, and the case that is being read.
 #[derive(Drop)]
 pub(crate) struct Cases {
     alloc: Global,
-    shared: Vec<Shared>,
+    lists: FileLists,
     case: Option<Case>,
-    place: usize,
 }
 
 impl Cases {
     pub(crate) fn new(alloc: Global) -> Cases {
         Cases {
             alloc,
-            shared: Vec::new(alloc),
+            lists: FileLists::new(alloc),
             case: None,
-            place: 0,
         }
     }
 
     /// Gives the case that has been read.
     pub(crate) fn end(&mut self) -> Option<Case> {
-        self.case.take()
+        let mut case = self.case.take()?;
+        case.files = self.lists.end_case()?;
+        Some(case)
     }
 
     /// Takes a line, and says whether it is one that may stand here.
@@ -53,18 +43,15 @@ impl Cases {
         if line.is_empty() || line.starts_with('#') {
             return Ok(true);
         }
-        if let Some(text) = line.strip_prefix('|') {
-            return self.add_line(text);
-        }
-        if let Some(text) = line.strip_prefix('>') {
-            return self.add_spelled(text);
+        if let Some(piece) = Piece::of(line) {
+            return self.lists.push(piece);
         }
         let (word, rest) = line.split_once(' ').unwrap_or((line, ""));
         match word {
             "case" => self.begin_case(rest),
             "shared" => self.begin_shared(rest),
-            "file" => self.begin_file(rest),
-            "times" => self.add_times(rest),
+            "file" => self.lists.begin_file(rest),
+            "with" => self.lists.add_shared(rest),
             _ => self.set(word, rest),
         }
     }
@@ -75,27 +62,19 @@ impl Cases {
             return Ok(false);
         };
         match word {
-            "words" => {
-                case.words = words_of(self.alloc, rest)?;
-                Ok(true)
-            }
-            "with" => add_shared(&self.shared, rest, &mut case.files),
-            "fails" => match fails_of(rest) {
-                Some(fails) => {
-                    case.fails = fails;
-                    Ok(true)
-                }
-                None => Ok(false),
+            "words" => case.words = words_of(self.alloc, rest)?,
+            "cuts" => case.cut = Some(String::from_str(self.alloc, rest)?),
+            "fails" => match calls_of(rest) {
+                Some(fails) => case.fails = fails,
+                None => return Ok(false),
             },
-            "cuts" => {
-                case.cut = Some(String::from_str(self.alloc, rest)?);
-                Ok(true)
-            }
-            _ => Ok(false),
+            _ => return Ok(false),
         }
+        Ok(true)
     }
 
     fn begin_case(&mut self, name: &str) -> Result<bool, AllocError> {
+        self.lists.begin_case();
         self.case = Some(Case {
             name: String::from_str(self.alloc, name)?,
             words: Vec::new(self.alloc),
@@ -107,85 +86,7 @@ impl Cases {
     }
 
     fn begin_shared(&mut self, name: &str) -> Result<bool, AllocError> {
-        self.shared.push(Shared {
-            name: String::from_str(self.alloc, name)?,
-            files: Vec::new(self.alloc),
-        })?;
+        self.lists.begin_shared(name)?;
         Ok(true)
     }
-
-    // Begins a file, in the place of one of its name.
-    fn begin_file(&mut self, name: &str) -> Result<bool, AllocError> {
-        let alloc = self.alloc;
-        let Some(files) = self.files() else {
-            return Ok(false);
-        };
-        let place = place_of(files, name);
-        match files.get_mut(place) {
-            Some(file) => file.1.clear(),
-            None => files.push((String::from_str(alloc, name)?, Vec::new(alloc)))?,
-        }
-        self.place = place;
-        Ok(true)
-    }
-
-    fn add_line(&mut self, text: &str) -> Result<bool, AllocError> {
-        let Some(bytes) = self.bytes() else {
-            return Ok(false);
-        };
-        bytes.extend_from_slice(text.as_bytes())?;
-        bytes.push(b'\n')?;
-        Ok(true)
-    }
-
-    fn add_spelled(&mut self, text: &str) -> Result<bool, AllocError> {
-        match self.bytes() {
-            Some(bytes) => push_spelled(text, bytes),
-            None => Ok(false),
-        }
-    }
-
-    fn add_times(&mut self, text: &str) -> Result<bool, AllocError> {
-        let alloc = self.alloc;
-        match self.bytes() {
-            Some(bytes) => push_times(alloc, text, bytes),
-            None => Ok(false),
-        }
-    }
-
-    // The files of the case that is being read, or else the shared ones.
-    fn files(&mut self) -> Option<&mut Files> {
-        match &mut self.case {
-            Some(case) => Some(&mut case.files),
-            None => Some(&mut self.shared.last_mut()?.files),
-        }
-    }
-
-    // The bytes of the file that is being read.
-    fn bytes(&mut self) -> Option<&mut Vec<u8>> {
-        let place = self.place;
-        let files = self.files()?;
-        Some(&mut files.get_mut(place)?.1)
-    }
-}
-
-// The place of the file of this name; the number of files where there is none.
-fn place_of(files: &Files, name: &str) -> usize {
-    for (place, file) in files.iter().enumerate() {
-        if file.0.as_str() == name {
-            return place;
-        }
-    }
-    files.len()
-}
-
-// Adds the shared files of this name.
-fn add_shared(shared: &[Shared], name: &str, to: &mut Files) -> Result<bool, AllocError> {
-    for some in shared {
-        if some.name.as_str() == name {
-            to.extend_from_slice(&some.files)?;
-            return Ok(true);
-        }
-    }
-    Ok(false)
 }

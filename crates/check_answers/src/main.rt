@@ -12,6 +12,7 @@
 //     |TEXT             a line of the file that was begun, and the line feed at its end
 //     >TEXT             bytes of it with no line feed at their end; \n and \x and two digits are a byte each, so \x5c is a backslash
 //     times N TEXT      such bytes N times
+//     numbered N TEXT   the same, with the number of each time, from 0, in the place of #
 //     # TEXT            a remark; so is an empty line
 //
 // For each case this is printed:
@@ -33,12 +34,10 @@
 #![tactic(auto)]
 
 mod cases;
-mod outcomes;
 mod running;
-mod spelling;
 
 use cases::Cases;
-use optcheck_cli::check_here;
+use optcheck_cli::{check_here, check_surroundings};
 use std::io;
 use std::io::{BufRead, BufReader};
 use std::process::ExitCode;
@@ -47,7 +46,10 @@ fn main(rt: HostRuntime) -> ExitCode {
     if print_answers(&rt).is_err() {
         return ExitCode::FAILURE;
     }
-    check_here(rt)
+    match check_surroundings(rt) {
+        Ok(mut surroundings) => check_here(&mut surroundings),
+        Err(code) => code,
+    }
 }
 
 // Prints what comes of each case of standard input.

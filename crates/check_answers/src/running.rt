@@ -1,8 +1,7 @@
 // The run of a case, and those over files that are cut.
 
-use crate::cases::{Case, Files};
-use crate::outcomes::Outcomes;
-use crate::spelling::push_lines;
+use crate::cases::Case;
+use case_lists::{Files, Outcomes, push_lines};
 use optcheck_cli::check_run;
 use solver_io::{MemFolder, MemSink, has_distinct_names};
 use std::alloc::{AllocError, Global};
@@ -35,7 +34,7 @@ fn show_cuts(alloc: Global, case: &Case, cut: &str, to: &mut String) -> Result<(
             }
         }
     }
-    outcomes.show(to)
+    outcomes.show_lines(to)
 }
 
 // Makes the run with these bytes in a file.
@@ -53,7 +52,8 @@ fn run_with(
     let mut folder = MemFolder::new(alloc, files, Vec::new(alloc));
     let mut out = MemSink::new(alloc, Vec::new(alloc));
     let status = check_run(alloc, &case.words, &mut folder, &mut out);
-    outcomes.add(status.number(), out.bytes(), name, bytes.len())
+    let changed = Vec::new(alloc);
+    outcomes.add(status.number(), out.bytes(), &changed, name, bytes.len())
 }
 
 // The files with these bytes in the one of this name.
