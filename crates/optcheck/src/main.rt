@@ -1,9 +1,12 @@
 // The program: a check over the command line, the working directory and standard output.
 #![tactic(auto)]
 
-use optcheck_cli::check_here;
+use optcheck_cli::{check_here, check_surroundings};
 use std::process::ExitCode;
 
 fn main(rt: HostRuntime) -> ExitCode {
-    check_here(rt)
+    match check_surroundings(rt) {
+        Ok(mut surroundings) => check_here(&mut surroundings),
+        Err(code) => code,
+    }
 }

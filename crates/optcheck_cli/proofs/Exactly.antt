@@ -11,7 +11,7 @@ use Rattle.optcheck_cli.specs.Completeness.{CanBeChecked, EndsExactly, EndsForTo
 use Rattle.optcheck_cli.specs.Findings.{Finds, texts_in}
 use Rattle.optcheck_cli.specs.Headline.{IsCounted}
 use Rattle.optcheck_cli.specs.Inner.{EndsJudging, FindsMade, Says}
-use Rattle.optcheck_cli.specs.Lines.{status_by, status_of, usage_line}
+use Rattle.optcheck_cli.specs.Lines.{status_of, usage_line}
 use Rattle.optcheck_cli.specs.Outside.{Outside}
 use Rattle.optcheck_cli.specs.Words.{Asked}
 use Rattle.optcheck_cli.specs.declared.halt.End.TheVariants as end
@@ -19,8 +19,7 @@ use Rattle.optcheck_cli.specs.declared.halt.Halt.{Halt}
 use Rattle.optcheck_cli.specs.declared.halt.Halt.TheVariants as halt
 use Rattle.optcheck_cli.specs.declared.status.CheckStatus.{CheckStatus}
 use Rattle.optcheck_cli.specs.declared.status.CheckStatus.TheVariants as status
-use Rattle.optcheck_cli.specs.declared.verdict.Verdict.{Verdict}
-use Rattle.optcheck_cli.proofs.Running.{two_halts, two_verdicts}
+use Rattle.optcheck_cli.proofs.Running.{two_halts}
 
 -- ---- one thing is found
 -- the files' texts are none for this cause, or the certificate's text is no certificate's
@@ -69,24 +68,15 @@ judged_or_early status.Limit h = absurd h
 judged_or_early status.BadInput h = absurd h
 
 -- the line of a verdict was said
-pub ends_judging : (v : Verdict) (line : List ℕ) (before after : Option (List (List ℕ))) (r : CheckStatus) → Says line (status_by v) before after r → EndsJudging r
-ends_judging v line before after status.Yes says = tt
-ends_judging v line before after status.No says = tt
-ends_judging v line before after status.WriteFault says = tt
-ends_judging v line before after status.Memory says = tt
-ends_judging v line before after status.ReadFault says = says
-ends_judging v line before after status.Usage says = elim (two_verdicts v) [
-  | inl e ↦ cc (sym e ∙ says.0)
-  | inr e ↦ cc (sym e ∙ says.0)
-]
-ends_judging v line before after status.Limit says = elim (two_verdicts v) [
-  | inl e ↦ cc (sym e ∙ says.0)
-  | inr e ↦ cc (sym e ∙ says.0)
-]
-ends_judging v line before after status.BadInput says = elim (two_verdicts v) [
-  | inl e ↦ cc (sym e ∙ says.0)
-  | inr e ↦ cc (sym e ∙ says.0)
-]
+pub ends_judging : (said : CheckStatus) (line : List ℕ) (before after : Option (List (List ℕ))) (r : CheckStatus) → IsJudged said → Says line said before after r → EndsJudging r
+ends_judging said line before after status.Yes judged says = tt
+ends_judging said line before after status.No judged says = tt
+ends_judging said line before after status.WriteFault judged says = tt
+ends_judging said line before after status.Memory judged says = tt
+ends_judging said line before after status.ReadFault judged says = says
+ends_judging said line before after status.Usage judged says = subst IsJudged says.0 judged
+ends_judging said line before after status.Limit judged says = subst IsJudged says.0 judged
+ends_judging said line before after status.BadInput judged says = subst IsJudged says.0 judged
 
 pub judged_exactly : (asked : Asked) (content : Option Files) (book : State) (made : Made) (r : CheckStatus) → IfSome content (λ files. FindsMade asked files (Ok (book, made))) → EndsJudging r → EndsForTold asked content r
 judged_exactly asked None book made r found h = (judged_or_early r h).1.0

@@ -18,7 +18,6 @@ use Rattle.optcheck_cli.specs.Inner.{FindsMade, OpensBook, ReadsBytes, ReadsCert
 use Rattle.optcheck_cli.specs.Words.{Asked}
 use Rattle.optcheck_cli.specs.declared.halt.End.{End}
 use Rattle.optcheck_cli.specs.declared.halt.End.TheVariants as end
-use Rattle.optcheck_cli.specs.declared.halt.Halt.{Halt}
 use Rattle.optcheck_cli.specs.declared.halt.Halt.TheVariants as halt
 
 -- ---- the certificate

@@ -16,7 +16,7 @@ use Rattle.linear_models.specs.Worths.{form_at}
 use Rattle.linear_models.specs.Model as model
 use Rattle.opt_certificate.specs.Certificate as certificate
 use Rattle.opt_certificate.specs.Certificate.{Certifies, Claim, Tree, infeasible, optimal, unbounded}
-use Rattle.opt_certificate.specs.Checks.{Checked, IsNarrowCheck}
+use Rattle.opt_certificate.specs.Checks.{Checked}
 use Rattle.opt_certificate.specs.Claims.{IsOfSize, claim_of}
 use Rattle.opt_certificate.specs.Nodes.{IsListed}
 use Rattle.opt_certificate.specs.declared.checking.Claim.{Claim as Claimed}

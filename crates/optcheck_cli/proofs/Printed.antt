@@ -1,5 +1,5 @@
 -- The line of a yes, of an optimal point.
-use Rattle.std.proofs.Common.{◌≡◌, ℕ, List, Option, Result, Ok, Err}
+use Rattle.std.proofs.Common.{◌≡◌, List, Option, Result, Ok, Err}
 use Rattle.std.specs.Prelude.{String, IfOk, string_bytes}
 use Rattle.std.specs.Global.{Global}
 use Rattle.fractions.specs.Rational.{ℚ}

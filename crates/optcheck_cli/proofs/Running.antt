@@ -12,7 +12,7 @@ use Rattle.run_inputs.proofs.FileLaws.{length_texts}
 use Rattle.run_inputs.specs.declared.stop.Stop.TheVariants as stop
 use Rattle.optcheck_cli.specs.Findings.{Finds}
 use Rattle.optcheck_cli.specs.Headline.{EndsAs, EndsOver, IsCounted, LeavesTooMany, RunsAs, SaysUsage}
-use Rattle.optcheck_cli.specs.Inner.{FindsMade, IsSinkFault, Says, SaysVerdict}
+use Rattle.optcheck_cli.specs.Inner.{FindsMade, IsSinkFault, Says, SaysVerdict, TellsVerdict}
 use Rattle.optcheck_cli.specs.Lines.{halt_line, status_by, status_of, usage_line, verdict_line}
 use Rattle.optcheck_cli.specs.Outside.{IsFolderKept, Outside}
 use Rattle.optcheck_cli.specs.Verdicts.{IsVerdict}
@@ -78,11 +78,15 @@ judged_over asked None before after book made r found says = tt
 judged_over asked (Some files) before after book made r (cert, (is, found)) says = judged asked files before after book cert r found (says cert is)
 
 -- the line of a verdict was said
-pub verdict_said : (book : State) (cert : Cert) (v : Verdict) (sheets : List (List ℕ)) (line text : List ℕ) (said : CheckStatus) (before after : Option (List (List ℕ))) (r : CheckStatus) → IsVerdict book cert v
-    → sheets ≡ book.sheets → text ≡ line → line ≡ verdict_line sheets cert v → said ≡ status_by v → Says text said before after r → SaysVerdict book cert before after r
-verdict_said book cert v sheets line text said before after r is same t l s says =
-    let spelled : text ≡ verdict_line book.sheets cert v = t ∙ (l ∙ ap (λ (names : List (List ℕ)). verdict_line names cert v) same) in
-    inl (v, (is, subst (λ (z : CheckStatus). Says (verdict_line book.sheets cert v) z before after r) s (subst (λ (z : List ℕ). Says z said before after r) spelled says)))
+pub verdict_said : (book : State) (cert : Cert) (line text : List ℕ) (said : CheckStatus) (before after : Option (List (List ℕ))) (r : CheckStatus) → TellsVerdict book cert line said → text ≡ line
+    → Says text said before after r → SaysVerdict book cert before after r
+verdict_said book cert line text said before after r (v, (is, spelled, by)) same says =
+    inl (v, (is, subst (λ (z : CheckStatus). Says (verdict_line book.sheets cert v) z before after r) by (subst (λ (z : List ℕ). Says z said before after r) (same ∙ spelled) says)))
+
+-- a verdict's status and its line, by the sheets of the workbook
+pub verdict_told : (book : State) (cert : Cert) (v : Verdict) (sheets : List (List ℕ)) (line : List ℕ) (said : CheckStatus) → IsVerdict book cert v → sheets ≡ book.sheets → line ≡ verdict_line sheets cert v → said ≡ status_by v
+    → TellsVerdict book cert line said
+verdict_told book cert v sheets line said is same spelled by = (v, (is, spelled ∙ ap (λ (names : List (List ℕ)). verdict_line names cert v) same, by))
 
 -- ---- the run ends before the check
 other_halt : (cause : Halt) (s : CheckStatus) → s ≢ status.Limit → s ≢ status.BadInput → ¬ (status_of cause ≡ s)

@@ -1,5 +1,5 @@
 -- What the objective at a claimed point means of the value that is told.
-use Rattle.std.proofs.Common.{◌≡◌, ℕ, sym, ap, ◌∙◌, Option, Some}
+use Rattle.std.proofs.Common.{◌≡◌, sym, ap, ◌∙◌, Option, Some}
 use Rattle.calculations.specs.Calculation.{narrow}
 use Rattle.fractions.specs.Rational.{ℚ}
 use Rattle.optimality.specs.Problem.{Assignment, Goal}

@@ -1,5 +1,5 @@
 -- Each status comes exactly where its cause stands, and a run of which no call fails makes the check, or memory runs out.
-use Rattle.std.specs.Prelude.{◌≡◌, ◌≢◌, ◌⊎◌, ℕ, Option, Some, None, Ok, Err, ⊤}
+use Rattle.std.specs.Prelude.{◌≡◌, ◌≢◌, ◌⊎◌, Option, Some, None, Ok, Err, ⊤}
 use Rattle.solver_io.specs.Causes.{Rose}
 use Rattle.solver_io.specs.Files.{Files}
 use Rattle.certificate_lines.specs.Cert.{Cert}

@@ -1,7 +1,6 @@
 -- What inner contracts cite.
-use Rattle.std.specs.Prelude.{◌≡◌, ◌⊎◌, ◌∷◌, ℕ, List, [], Option, Some, None, Result, Ok, Err, Vec, IsUtf8, option_map, ⊤}
+use Rattle.std.specs.Prelude.{◌≡◌, ◌⊎◌, ◌∷◌, ℕ, List, [], Option, Some, Result, Ok, Err, Vec, IsUtf8, option_map, ⊤}
 use Rattle.std.specs.Global.{Global}
-use Rattle.std.specs.FinMap.{get}
 use Rattle.std.specs.Str.Lossy.{utf8_valid_len}
 use Rattle.fractions.specs.Rational.{ℚ, neg_ℚ}
 use Rattle.optimality.specs.Problem.{Goal, greatest, least, reach}
@@ -143,6 +142,10 @@ Says line said before after status.ReadFault = ⊥
 abbrev pub IsSinkFault : ℕ → ℕ → CheckStatus → Type 0
 IsSinkFault before now status.WriteFault = Rose before now
 IsSinkFault before now _ = now ≡ before
+
+-- the line of a verdict, and the status that goes with it
+abbrev pub TellsVerdict : State → Cert → List ℕ → CheckStatus → Type 0
+TellsVerdict book cert line said = (v : Verdict) × (IsVerdict book cert v × (line ≡ verdict_line book.sheets cert v) × (said ≡ status_by v))
 
 -- the line of a verdict was said; or memory ran out
 abbrev pub SaysVerdict : State → Cert → Option (List (List ℕ)) → Option (List (List ℕ)) → CheckStatus → Type 0

@@ -10,4 +10,5 @@ pub mod Outside
 pub mod Headline
 pub mod Completeness
 pub mod Exits
+pub mod Surroundings
 pub mod Inner

@@ -1,11 +1,10 @@
 -- What is found of a certificate for the first sheet of a workbook. A yes means that the claim is true of the sheet: of the problem that
 -- its names state, by recalculation.
-use Rattle.std.specs.Prelude.{◌≡◌, ◌⊎◌, ℕ, List, length, Option, Ok, ⊤}
+use Rattle.std.specs.Prelude.{◌≡◌, ◌⊎◌, ℕ, length, Option, Ok, ⊤}
 use Rattle.fractions.specs.Rational.{ℚ}
 use Rattle.optimality.specs.Problem.{Problem}
 use Rattle.optimality.specs.Optimal.{Infeasible, Optimal, Unbounded, objective_at}
-use Rattle.linear_models.specs.Model.{Model}
-use Rattle.opt_certificate.specs.Certificate.{Certifies, Claim, Tree, infeasible, optimal, unbounded}
+use Rattle.opt_certificate.specs.Certificate.{Certifies, Claim, infeasible, optimal, unbounded}
 use Rattle.opt_certificate.specs.Checks.{IsNarrowCheck, IsWideAt}
 use Rattle.certificate_lines.specs.Cert.{Cert}
 use Rattle.workbook.specs.State.{State}

@@ -1,4 +1,4 @@
-//! The check of a certificate against a workbook, over a folder and a sink that are handed in, or over the runtime's own. It stands on no
+//! The check of a certificate against a workbook, over surroundings that are made here, or over words and handles that are handed in. It stands on no
 //! search.
 #![tactic(auto)]
 
@@ -11,13 +11,15 @@ mod reading;
 mod real;
 mod say;
 mod status;
+mod surroundings;
 mod top;
 mod value;
 mod verdict;
 mod words;
 
 pub use halt::Halt;
-pub use real::{check_for_real, check_here};
+pub use real::check_for_real;
 pub use status::CheckStatus;
+pub use surroundings::{CheckSurroundings, check_here, check_surroundings};
 pub use top::check_run;
 pub use verdict::Verdict;

@@ -8,8 +8,7 @@ ghost use Rattle.workbook.specs.Kinds.{book_of};
 
 use cell_refs::SheetId;
 use dep_table::Deps;
-use form_tables::{FormTables, Linked, Steps};
-use sheet_linear_model::{NoModel, Prepared, prepare};
+use sheet_linear_model::{FormTables, Linked, NoModel, Prepared, Steps, prepare};
 use std::alloc::Global;
 use std::marker::Brand;
 use std::sync::ledger::{Blank, Ledger};

@@ -6,8 +6,11 @@ ghost use Rattle.certificate_texts.specs.Answers.{IsTheCert};
 ghost use Rattle.fractions.specs.Rational.{ℚ};
 ghost use Rattle.opt_certificate.specs.Certificate.{optimal};
 ghost use Rattle.opt_certificate.specs.Claims.{claim_of};
-ghost use Rattle.optcheck_cli.specs.Inner.{IsSaid, IsSinkFault, Says, VerdictIsListed};
+ghost use Rattle.optcheck_cli.specs.Completeness.{IsJudged};
+ghost use Rattle.optcheck_cli.specs.Inner.{IsSaid, IsSinkFault, Says, TellsVerdict, VerdictIsListed};
 ghost use Rattle.optcheck_cli.specs.Lines.{status_by, verdict_line, yes_line};
+ghost use Rattle.optcheck_cli.specs.Verdicts.{IsVerdict};
+ghost use Rattle.workbook.specs.State.{State};
 
 use crate::CheckStatus;
 use crate::halt::end_with;
@@ -34,9 +37,28 @@ pub(crate) fn say<K: Sink>(out: &mut K, line: &str, status: CheckStatus) -> Chec
     }
 }
 
-/// The status that goes with a verdict.
-pub(crate) fn status_by(verdict: &Verdict) -> CheckStatus
+/// The line of a verdict, and the status that goes with it.
+pub(crate) fn said_of(
+    alloc: Global,
+    verdict: &Verdict,
+    cert: &Cert,
+    sheets: &SheetNames,
+) -> Result<(String, CheckStatus), Memory>
+    requires { VerdictIsListed sheets.now verdict.now }
+    ensures tells { IfOk result (λ t. (book : State) (c : Certificate) → sheets.now ≡ book.sheets
+        → IsTheCert cert.now c → IsVerdict book c verdict.now
+        → TellsVerdict book c (string_bytes t.0) t.1) }
+    ensures judged { IfOk result (λ t. IsJudged t.1) }
+    ensures said { IfOk result (λ t. IsSaid t.1) }
+{
+    let line = line_of(alloc, verdict, cert, sheets)?;
+    Ok((line, status_by(verdict)))
+}
+
+// The status that goes with a verdict.
+fn status_by(verdict: &Verdict) -> CheckStatus
     ensures status { result ≡ status_by verdict.now }
+    ensures judged { IsJudged result }
     ensures said { IsSaid result }
 {
     match verdict {
@@ -45,8 +67,8 @@ pub(crate) fn status_by(verdict: &Verdict) -> CheckStatus
     }
 }
 
-/// The line of a verdict.
-pub(crate) fn line_of(
+// The line of a verdict.
+fn line_of(
     alloc: Global,
     verdict: &Verdict,
     cert: &Cert,

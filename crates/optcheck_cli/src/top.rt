@@ -1,11 +1,12 @@
 // The top call.
-ghost use Rattle.std.specs.Prelude.{◌≡◌, ◌<◌, Some, length};
+ghost use Rattle.std.specs.Prelude.{◌≡◌, ◌<◌, IfOk, Some, length, string_bytes};
 ghost use Rattle.certificate_lines.specs.Cert.{Cert as Certificate};
 ghost use Rattle.certificate_texts.specs.Answers.{IsTheCert};
 ghost use Rattle.command_line.specs.Words.{texts_of};
-ghost use Rattle.optcheck_cli.specs.Completeness.{EndsExactly, IsComplete};
+ghost use Rattle.optcheck_cli.specs.Completeness.{EndsExactly, IsComplete, IsJudged};
+ghost use Rattle.optcheck_cli.specs.Exits.{RunsThrough};
 ghost use Rattle.optcheck_cli.specs.Headline.{IsCounted, RunsAs};
-ghost use Rattle.optcheck_cli.specs.Inner.{EndsJudging, IsSinkFault, Says, SaysVerdict};
+ghost use Rattle.optcheck_cli.specs.Inner.{EndsJudging, IsSaid, IsSinkFault, Says, SaysVerdict, TellsVerdict};
 ghost use Rattle.optcheck_cli.specs.Lines.{halt_line, status_of};
 ghost use Rattle.optcheck_cli.specs.Outside.{seen};
 ghost use Rattle.optcheck_cli.specs.Read.{IsSound, asked_read};
@@ -15,10 +16,11 @@ use crate::CheckStatus;
 use crate::found::find;
 use crate::halt::{End, Halt};
 use crate::reading::request;
-use crate::say::{line_of, say, status_by};
+use crate::say::{said_of, say};
 use crate::verdict::judge;
 use crate::words::Asked;
 use certificate_texts::Cert;
+use memory::Memory;
 use solver_io::{Folder, Sink};
 use std::alloc::Global;
 use workbook::Workbook;
@@ -68,14 +70,7 @@ fn check_files<F: Folder, K: Sink>(
     out: &mut K,
 ) -> CheckStatus
     requires { IsSound asked.now }
-    ensures headline { RunsAs (Some (asked_read asked.now))
-        (seen (F.content folder.old) (F.read_faults folder.old) (F.write_faults folder.old)
-        (F.write_wants folder.old) (K.pieces out.old) (K.faults out.old))
-        (seen (F.content folder.new) (F.read_faults folder.new) (F.write_faults folder.new)
-        (F.write_wants folder.new) (K.pieces out.new) (K.faults out.new))
-        result }
-    ensures exactly { EndsExactly (Some (asked_read asked.now)) (F.content folder.old) result }
-    ensures counts { IsCounted
+    ensures { RunsThrough (Some (asked_read asked.now))
         (seen (F.content folder.old) (F.read_faults folder.old) (F.write_faults folder.old)
         (F.write_wants folder.old) (K.pieces out.old) (K.faults out.old))
         (seen (F.content folder.new) (F.read_faults folder.new) (F.write_faults folder.new)
@@ -98,13 +93,22 @@ fn say_verdict<K: Sink>(alloc: Global, book: &Workbook, cert: &Cert, out: &mut K
     ensures ends { EndsJudging result }
     ensures cause { IsSinkFault (K.faults out.old) (K.faults out.new) result }
 {
-    let Ok(verdict) = judge(alloc, book, cert) else {
-        return CheckStatus::Memory;
-    };
-    match line_of(alloc, &verdict, cert, book.sheets()) {
-        Ok(line) => say(out, line.as_str(), status_by(&verdict)),
+    match told(alloc, book, cert) {
+        Ok((line, status)) => say(out, line.as_str(), status),
         Err(_) => CheckStatus::Memory,
     }
+}
+
+// The line that says what is found of the certificate, and the status that goes with it.
+fn told(alloc: Global, book: &Workbook, cert: &Cert) -> Result<(String, CheckStatus), Memory>
+    requires { 0 < length book.now.sheets }
+    ensures tells { IfOk result (λ t. (c : Certificate) → IsTheCert cert.now c
+        → TellsVerdict book.now c (string_bytes t.0) t.1) }
+    ensures judged { IfOk result (λ t. IsJudged t.1) }
+    ensures said { IfOk result (λ t. IsSaid t.1) }
+{
+    let verdict = judge(alloc, book, cert)?;
+    said_of(alloc, &verdict, cert, book.sheets())
 }
 
 // Prints why a run ends before the check.

@@ -1,4 +1,3 @@
-use Rattle.std.proofs.Common.{IfSome, subst}
 use Rattle.std.proofs.lemmas.Result.{err_from_is_err_and}
 use Rattle.optcheck_cli.specs.Read.{asked_read}
 use Rattle.optcheck_cli.proofs.Finding.{both_found, ends_in_book, ends_in_certificate, read_there}

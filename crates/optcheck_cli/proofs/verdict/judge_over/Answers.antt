@@ -1,5 +1,5 @@
 use Rattle.std.proofs.Common.{ℕ, Bool, List, length, ap, ◌∙◌, sym, subst}
-use Rattle.std.specs.Prelude.{Ok, Err, false}
+use Rattle.std.specs.Prelude.{Ok, Err}
 use Rattle.std.proofs.lemmas.Bool.{false≢true}
 use Rattle.opt_certificate.specs.Checks.{Checked}
 use Rattle.opt_certificate.specs.Claims.{IsOfSize, claim_of}
