@@ -142,7 +142,7 @@ fn texts_stop_at_their_line(rt: HostRuntime) -> Result<(), Fail> {
     let alloc = rt.alloc();
     for (text, line) in FAULTS {
         let stopped = stop(alloc, text);
-        assert!(rt; stopped == *line, "{}: {}", text, stopped);
+        assert!(rt; stopped == *line, "{}: {} and not {}", text, stopped, line);
     }
     Ok(())
 }
@@ -158,12 +158,18 @@ fn each_cut_stops_at_its_last_line(rt: HostRuntime) -> Result<(), Fail> {
     let mut line = 1;
     for letter in WHOLE.chars() {
         let stopped = stop(alloc, text.as_str());
-        assert!(rt; stopped == line, "{}: {}", text.as_str(), stopped);
+        assert!(rt;
+            stopped == line,
+            "{}: {} and not {}",
+            text.as_str(),
+            stopped,
+            line
+        );
         text.push(letter)?;
         if letter == '\n' && line < 100 {
             line += 1;
         }
     }
-    assert!(rt; stop(alloc, text.as_str()) == 0);
+    assert_eq!(rt; stop(alloc, text.as_str()), 0);
     Ok(())
 }

@@ -11,17 +11,14 @@ fn written(alloc: Global, cert: &Cert) -> Result<String, Memory> {
     Ok(text)
 }
 
-// Whether the text is read, and what is written of its certificate is the text.
-fn comes_back(alloc: Global, text: &str) -> Result<bool, Fail> {
+// What is written of the certificate that is read of the text, or what the text is else.
+fn written_again(alloc: Global, text: &str) -> Result<String, Fail> {
     if text.len() > 16_777_216 {
-        return Ok(false);
+        return Ok(String::from_str(alloc, "too long")?);
     }
     match read_cert(alloc, text) {
-        Ok(cert) => {
-            let again = written(alloc, &cert)?;
-            Ok(again.as_str() == text)
-        }
-        Err(_) => Ok(false),
+        Ok(cert) => Ok(written(alloc, &cert)?),
+        Err(fault) => Ok(format!(in alloc; "{fault:?}")?),
     }
 }
 
@@ -41,8 +38,7 @@ const TEXTS: &[&str] = &[
 fn certificates_come_back(rt: HostRuntime) -> Result<(), Fail> {
     let alloc = rt.alloc();
     for text in TEXTS {
-        let back = comes_back(alloc, text)?;
-        assert!(rt; back, "{}", *text);
+        assert_eq!(rt; written_again(alloc, text)?.as_str(), *text);
     }
     Ok(())
 }
@@ -73,8 +69,14 @@ fn long_tree(alloc: Global, count: u32) -> Result<String, Memory> {
 fn a_hundred_thousand_numbers_come_back(rt: HostRuntime) -> Result<(), Fail> {
     let alloc = rt.alloc();
     let point = long_point(alloc, 100_000)?;
-    assert!(rt; comes_back(alloc, point.as_str())?);
+    assert_eq!(rt;
+        written_again(alloc, point.as_str())?.as_str(),
+        point.as_str()
+    );
     let tree = long_tree(alloc, 49_999)?;
-    assert!(rt; comes_back(alloc, tree.as_str())?);
+    assert_eq!(rt;
+        written_again(alloc, tree.as_str())?.as_str(),
+        tree.as_str()
+    );
     Ok(())
 }
