@@ -3,8 +3,10 @@
 
 usage: believed.py [--as-read] [CRATE.FILE.NAME..]
 
-A statement is named by its crate, its file of specs/ and its name. Without words it is the contract of the program's call `run`. Each
-line printed has a crate, how many of its definitions are reached and how many lines they have, and the files that hold them.
+A statement is named by its crate, its file of specs/ and its name: `optcheck_cli.Verdicts.HoldsOnSheet` is what a yes of `optcheck` means,
+`sheet_solving.Solving.IsSolved` what `optimal` means. Without words it is the contract of the program's call `run`. Each line printed has a
+crate, how many of its definitions are reached and how many lines they have, and the files that hold them. What a file hands on is counted
+where it is defined.
 
 A value has to be one, so a formula's tree and a reference's area are also functions of their texts, and these go through a text in
 the order of the reading. A reader need not believe them: laws that are proved say that they give exactly what the grammar spells, a
@@ -16,7 +18,7 @@ import re
 import sys
 
 CRATES = os.path.join(os.path.dirname(os.path.abspath(__file__)), "..", "crates")
-HEADLINE = ["opensolver_cli.Headline.RunsAs", "opensolver_cli.Completeness.EndsExactly", "opensolver_cli.Headline.IsCounted"]
+HEADLINE = ["opensolver_cli.Headline.RunsAs", "opensolver_cli.Completeness.EndsExactly", "opensolver_cli.Headline.IsCounted", "opensolver_cli.Completeness.IsComplete"]
 
 # functions of a text, the law that says what they give, and the function whose contract it is
 LAWS = {
@@ -24,8 +26,8 @@ LAWS = {
     ("formula_parser", "TextTrees", "area_in"): (("text_laws", "Areas", "AreasAreSpelled"), "text_laws::areas_are_spelled"),
 }
 
-NAMED = re.compile(r"use Rattle\.(\w+)\.specs\.([\w.]+?)\.\{(.*)\}$")
-FILE = re.compile(r"use Rattle\.(\w+)\.specs\.([\w.]+) as (\w+)$")
+NAMED = re.compile(r"(?:unfoldable )?(?:pub )?use Rattle\.(\w+)\.specs\.([\w.]+?)\.\{(.*)\}$")
+FILE = re.compile(r"(?:unfoldable )?(?:pub )?use Rattle\.(\w+)\.specs\.([\w.]+) as (\w+)$")
 MUTUAL = re.compile(r"(?:abbrev |unfoldable )?mutual")
 TYPE = re.compile(r"(?:  )?(?:(?:abbrev|unfoldable) )?(?:pub )?(record|data) (\S+)")
 TOP = re.compile(r"(?:(?:abbrev|unfoldable) (?:pub )?|pub )(\S+) :")
@@ -77,7 +79,9 @@ class Specs:
         return bool(named or file)
 
     def found(self, key):
-        """The definition of this key, or the type of this constructor."""
+        """The definition of this key, also where the file only hands it on, or the type of this constructor."""
+        while key is not None and key not in self.lines and key not in self.types:
+            key = self.imports.get(key[:2], {}).get(key[2])
         return key if key in self.lines else self.types.get(key)
 
     def meant(self, crate, file, word):
