@@ -35,6 +35,11 @@ BAKERY_NAMES = {
     'rhs1': '=plan!$E$4:$E$5', 'lhs2': '=plan!$B$2:$C$2', 'rel2': '=4', 'rhs2': 'integer', 'tol': '=0.01',
 }
 
+ORDER = '0,0,0\n=3*A1+2*B1+C1\n'
+ORDER_NAMES = {
+    'adj': '$A$1:$C$1', 'opt': '$A$2', 'typ': '2', 'num': '1', 'lhs1': '$A$1:$C$1', 'rel1': '6', 'rhs1': 'AllDifferent',
+}
+
 
 def names_of(parts):
     return ''.join('plan,solver_%s,%s\n' % part for part in parts.items())
@@ -53,6 +58,10 @@ RUNS = {
     'a save of two sheets and the names': (
         ['plan.csv', 'data.csv'], {'names.csv': names_of(NAMES), 'plan.csv': PLAN, 'data.csv': '"a ""b""",=plan!C3\n'},
         ['solve,plan', 'set,data!A2,"x,y"', 'name,plan,solver_typ,2', 'save', 'model,plan', 'unname,plan,solver_opt', 'save']),
+    'prices before and after an edit': (['plan.csv'], {'names.csv': names_of(NAMES), 'plan.csv': PLAN},
+                                        ['prices,plan', 'set,plan!D4,5', 'prices,plan', 'model,plan']),
+    'an order of three jobs': (['plan.csv'], {'names.csv': names_of(ORDER_NAMES), 'plan.csv': ORDER},
+                               ['solve,plan', 'begin,plan', 'slice,plan,2', 'slice,plan,1000', 'save']),
 }
 
 
