@@ -4,9 +4,9 @@
 usage: run_pages.py PROGRAM [PAGE..]
 
 In a block of a page that begins with `$ `, each such line is a command for bash, and the lines below it are what it prints. Each block
-runs from the top of a copy of the repository's examples and tools, with PROGRAM as `opensolver`; what one block of a page writes the
-later ones find. A block that needs a library which isn't installed is left out, with a line that says so. Ends with 1 where
-anything else was printed.
+runs from the top of a copy of the repository's examples and tools, with PROGRAM as `opensolver`, and `optcheck` as it was built beside it; what
+one block of a page writes the later ones find. A block that needs a library which isn't installed, or `optcheck` where it isn't built, is
+left out, with a line that says so. Ends with 1 where anything else was printed.
 """
 import importlib.util
 import os
@@ -45,7 +45,14 @@ def copy_to(folder, program):
         shutil.copytree(os.path.join(TOP, name), os.path.join(folder, name))
     os.mkdir(os.path.join(folder, ".bin"))
     os.symlink(program, os.path.join(folder, ".bin", "opensolver"))
+    if os.path.exists(checker(program)):
+        os.symlink(checker(program), os.path.join(folder, ".bin", "optcheck"))
     os.symlink(sys.executable, os.path.join(folder, ".bin", "python3"))
+
+
+def checker(program):
+    """Where `optcheck` is, if it is built beside the program."""
+    return os.path.join(os.path.dirname(program), "..", "..", "optcheck", "out", "optcheck")
 
 
 def needs(commands):
@@ -60,6 +67,9 @@ def faults(page, program):
     with tempfile.TemporaryDirectory() as folder:
         copy_to(folder, program)
         for line, commands in blocks(page):
+            if not os.path.exists(checker(program)) and any("optcheck " in command for command, _ in commands):
+                print(f"{page}: the block at line {line} is left out, since optcheck isn't built")
+                continue
             missing.update(name for name in needs(commands) if importlib.util.find_spec(name) is None)
             if missing and any("bakery" in command for command, _ in commands):
                 skipped += 1
