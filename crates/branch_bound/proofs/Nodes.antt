@@ -7,8 +7,9 @@ use Rattle.fractions.specs.Rational.{ℚ}
 use Rattle.node_pick.specs.declared.info.NodeInfo.{NodeInfo}
 use Rattle.searches.specs.Trees.{Part, Node}
 use Rattle.searches.specs.Trails.{Opened}
+use Rattle.branch_bound.specs.declared.frontier.Ending.{Ending}
 use Rattle.branch_bound.specs.declared.frontier.Visit.{Visit}
-use Rattle.branch_bound.specs.States.{path_of, node_of, waiting_of, opened_of, IsListed, AreListed, AreThere}
+use Rattle.branch_bound.specs.States.{path_of, node_of, waiting_of, ending_of, opened_of, IsListed, AreListed, AreThere}
 
 pub path_kept : (ps qs : List (List Part)) (n : ℕ) → n < length ps → path_of (ps ++ qs) n ≡ path_of ps n
 path_kept ps qs n l = get_or_append_left ps qs [] n l
@@ -25,10 +26,10 @@ waiting_kept ps qs (i ∷ is) h = ap₂ (λ (x : Node) (xs : List Node). x ∷ x
 
 pub opened_kept : (ps qs : List (List Part)) (vs : List Visit) → AreThere ps vs → map (opened_of (ps ++ qs)) vs ≡ map (opened_of ps) vs
 opened_kept ps qs [] h = refl
-opened_kept ps qs (v ∷ vs) h = ap₂ (λ (x : Opened) (xs : List Opened). x ∷ xs) (ap (opened v.pivots) (node_kept ps qs v.number v.bound h.0)) (opened_kept ps qs vs h.1)
+opened_kept ps qs (v ∷ vs) h = ap₂ (λ (x : Opened) (xs : List Opened). x ∷ xs) (ap (opened v.pivots v.ending) (node_kept ps qs v.number v.bound h.0)) (opened_kept ps qs vs h.1)
   where
-    opened : ℕ → Node → Opened
-    opened k n = record { node = n; pivots = k }
+    opened : ℕ → Ending → Node → Opened
+    opened k e n = record { node = n; pivots = k; ending = ending_of e }
 
 pub one_listed : (ps qs : List (List Part)) (i : NodeInfo) → IsListed ps i → IsListed (ps ++ qs) i
 one_listed ps qs i h = record {

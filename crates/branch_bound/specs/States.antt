@@ -14,6 +14,8 @@ use Rattle.searches.specs.Trees as trees
 use Rattle.searches.specs.Trails as trails
 use Rattle.search_paths.specs.Tables as table
 use Rattle.search_ends.specs.Ends.{IsNext}
+use Rattle.branch_bound.specs.declared.frontier.Ending.{Ending}
+use Rattle.branch_bound.specs.declared.frontier.Ending.TheVariants as endings
 use Rattle.branch_bound.specs.declared.frontier.Visit.{Visit}
 use Rattle.branch_bound.specs.declared.frontier.Found.{Found}
 use Rattle.branch_bound.specs.declared.frontier.Way.{Way}
@@ -30,8 +32,13 @@ node_of paths n bound = record { number = n; path = path_of paths n; bound = bou
 abbrev pub waiting_of : List (List trees.Part) → NodeInfo → trees.Node
 waiting_of paths i = node_of paths i.number i.bound
 
+abbrev pub ending_of : Ending → trees.Ending
+ending_of (endings.Parts lower) = trees.in_parts lower
+ending_of (endings.Clash i j) = trees.in_clash i j
+ending_of endings.Leaf = trees.in_leaf
+
 abbrev pub opened_of : List (List trees.Part) → Visit → trails.Opened
-opened_of paths v = record { node = node_of paths v.number v.bound; pivots = v.pivots }
+opened_of paths v = record { node = node_of paths v.number v.bound; pivots = v.pivots; ending = ending_of v.ending }
 
 abbrev pub work_of : List (List trees.Part) → Work → trails.Work
 work_of paths w = record { node = waiting_of paths w.info; pivots = w.pivots; dictionary = w.dict }
@@ -98,8 +105,8 @@ abbrev pub with_root : trails.State → trails.State
 with_root s = record s { waiting = trees.root s.count ∷ []; count = s.count + 1 }
 
 -- the node has ended
-abbrev pub with_opened : trails.State → trees.Node → ℕ → trails.State
-with_opened s node k = record s { opened = record { node = node; pivots = k } ∷ s.opened }
+abbrev pub with_opened : trails.State → trees.Node → ℕ → trees.Ending → trails.State
+with_opened s node k e = record s { opened = record { node = node; pivots = k; ending = e } ∷ s.opened }
 
 -- ---- the node that is worked on
 -- its box, its program with a dictionary of that program's run, and room for its end

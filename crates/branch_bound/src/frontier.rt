@@ -1,29 +1,40 @@
-ghost use Rattle.std.specs.Prelude.{◌≡◌, ◌<◌, ◌+◌, ◌^◌, ℕ, None, length, OnOk};
-ghost use Rattle.branch_bound.specs.States.{HasRoom, IsListed, IsOrderly, IsSame, state_of, waiting_of, with_child, with_opened, with_root};
+ghost use Rattle.std.specs.Prelude.{◌≡◌, ◌<◌, ◌≤◌, ◌+◌, ◌^◌, ℕ, None, length, OnOk};
+ghost use Rattle.branch_bound.specs.States.{HasRoom, IsListed, IsOrderly, IsSame, ending_of, state_of, waiting_of, with_child, with_opened, with_root};
 
 use frac128::Frac;
 use memory::Memory;
 use node_pick::NodeInfo;
 use search_paths::{Part, Paths};
 
-/// A node that was opened and has ended: its number, the pivots made in it, and its bound. It takes 64 bytes, as a node that waits does.
+/// What is kept of how a node ended: the number of the lower part of a split, which the upper part's follows; the two
+/// decisions of a clash; or that it is neither.
+#[derive(Clone, Copy)]
+pub enum Ending {
+    Parts(u32),
+    Clash(u16, u16),
+    Leaf,
+}
+
+/// A node that was opened and has ended: its number, the pivots made in it, how it ended, and its bound. It takes 64 bytes, as a
+/// node that waits does.
 #[derive(Drop)]
-pub(crate) struct Visit {
-    pub number: u64,
-    pub pivots: u64,
+pub struct Visit {
+    pub number: u32,
+    pub pivots: u32,
+    pub ending: Ending,
     pub bound: Option<Frac>,
 }
 
 /// A whole point and its value.
 #[derive(Drop)]
-pub(crate) struct Found {
+pub struct Found {
     pub point: Vec<Frac>,
     pub value: Frac,
 }
 
 /// A point and a direction in which the objective improves without end.
 #[derive(Drop)]
-pub(crate) struct Way {
+pub struct Way {
     pub point: Vec<Frac>,
     pub direction: Vec<Frac>,
 }
@@ -31,7 +42,7 @@ pub(crate) struct Way {
 /// The paths of all nodes by their numbers, the nodes that have ended in the order of their openings, those that wait in
 /// rising number, and what was found.
 #[derive(Drop)]
-pub(crate) struct Frontier {
+pub struct Frontier {
     pub paths: Paths,
     pub opened: Vec<Visit>,
     pub waiting: Vec<NodeInfo>,
@@ -95,19 +106,21 @@ pub(crate) fn wait_root(frontier: &mut Frontier)
     });
 }
 
-/// The node has ended: it is kept with its pivots.
-pub(crate) fn keep(frontier: &mut Frontier, info: &NodeInfo, pivots: u64)
+/// The node has ended: it is kept with its pivots, and how it ended.
+pub(crate) fn keep(frontier: &mut Frontier, info: &NodeInfo, pivots: u32, ending: Ending)
     requires orderly { IsOrderly frontier.old }
     requires room { HasRoom frontier.old 0 }
     requires there { info.now.number < length frontier.old.paths.paths }
+    requires few { length frontier.old.paths.paths ≤ 2 ^ 32 }
     ensures state { state_of frontier.new None ≡ with_opened (state_of frontier.old None)
-        (waiting_of frontier.old.paths.paths info.now) pivots }
+        (waiting_of frontier.old.paths.paths info.now) pivots (ending_of ending) }
     ensures orderly { IsOrderly frontier.new }
     ensures paths { frontier.new.paths ≡ frontier.old.paths }
 {
     frontier.opened.push_reserved(Visit {
-        number: info.number,
+        number: info.number as u32,
         pivots,
+        ending,
         bound: info.bound,
     });
 }

@@ -13,6 +13,7 @@ mod settle;
 mod wide;
 mod work;
 
+pub use frontier::{Ending, Found, Frontier, Visit, Way};
 pub use laws::slices_are_one_run;
 pub use progress::{Progress, SearchStop};
 pub use search::Search;

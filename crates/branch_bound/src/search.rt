@@ -1,7 +1,8 @@
-ghost use Rattle.std.specs.Prelude.{◌≡◌, ◌<◌, ◌≤◌, ◌+◌, ◌↔◌, ℕ, IfErr, IfOk, OnOk, IsTrue, true, false};
+ghost use Rattle.std.specs.Prelude.{◌≡◌, ◌<◌, ◌≤◌, ◌+◌, ◌↔◌, ℕ, IfErr, IfOk, OnOk, IsTrue, None, true, false};
 ghost use Rattle.node_pick.specs.Messages.{Hears};
 ghost use Rattle.searches.specs.Trails as trails;
 ghost use Rattle.branch_bound.specs.Searches.{HasEnded, HasTrail, IsStepStop};
+ghost use Rattle.branch_bound.specs.States.{state_of};
 ghost use Rattle.branch_bound.specs.Ends.{IsAnswerOf};
 ghost use Rattle.branch_bound.specs.Told.{Grew, HearsStop, IsStopOf};
 
@@ -116,6 +117,13 @@ impl Search {
         ensures trail { HasTrail self.now.model self.now.units self.now.state }
     {
         self.units
+    }
+
+    /// What is kept of its nodes.
+    pub fn frontier(&self) -> &Frontier
+        ensures { record self.now.state { work = None } ≡ state_of result.now None }
+    {
+        &self.frontier
     }
 
     /// Sets how many units may be spent in all.

@@ -9,7 +9,7 @@ ghost use Rattle.search_ends.specs.Ends.{HasNarrowParts, end_at};
 ghost use Rattle.branch_bound.specs.States.{HasRoom, IsListed, IsOrderly, IsReady, IsReadyIf, state_of, value_of, waiting_of};
 ghost use Rattle.branch_bound.specs.Told.{Became};
 
-use crate::frontier::{Found, Frontier, Way, keep, wait_part, wait_root};
+use crate::frontier::{Ending, Found, Frontier, Way, keep, wait_part, wait_root};
 use crate::work::Work;
 use frac128::Frac;
 use lin_model::LinModel;
@@ -27,11 +27,12 @@ fn best_value(frontier: &Frontier) -> Option<Frac>
     }
 }
 
-// The node ends without a point, with one that is no better than the one found, or at a clash.
-fn close(frontier: &mut Frontier, info: &NodeInfo, pivots: u64, pick: &mut Box<dyn Picker>)
+// The node ends without a point, or with one that is no better than the one found.
+fn close(frontier: &mut Frontier, info: &NodeInfo, pivots: u32, pick: &mut Box<dyn Picker>)
     requires room { HasRoom frontier.old 2 }
     requires orderly { IsOrderly frontier.old }
     requires node { IsListed frontier.old.paths.paths info.now }
+    requires few { length frontier.old.paths.paths < 2 ^ 32 }
     ensures ended { state_of frontier.new None ≡ trails.ended (state_of frontier.old None)
         (waiting_of frontier.old.paths.paths info.now) pivots trees.empty }
     ensures orderly { IsOrderly frontier.new }
@@ -39,7 +40,31 @@ fn close(frontier: &mut Frontier, info: &NodeInfo, pivots: u64, pick: &mut Box<d
     ensures heard { Hears (heard pick.old) (heard pick.new)
         (news (news_of info.now.number (length frontier.old.paths.paths) (trees.empty)) ∷ []) }
 {
-    keep(frontier, info, pivots);
+    keep(frontier, info, pivots, Ending::Leaf);
+    pick.told(NodeEvent::Closed(info.number));
+}
+
+// The node ends at a clash: the two decisions of a group are fixed to one number.
+fn clash(
+    frontier: &mut Frontier,
+    info: &NodeInfo,
+    pivots: u32,
+    one: u16,
+    other: u16,
+    pick: &mut Box<dyn Picker>,
+)
+    requires room { HasRoom frontier.old 2 }
+    requires orderly { IsOrderly frontier.old }
+    requires node { IsListed frontier.old.paths.paths info.now }
+    requires few { length frontier.old.paths.paths < 2 ^ 32 }
+    ensures ended { (value : ℚ) → state_of frontier.new None ≡ trails.ended (state_of frontier.old None)
+        (waiting_of frontier.old.paths.paths info.now) pivots (trees.clash one other value) }
+    ensures orderly { IsOrderly frontier.new }
+    ensures rule { rule pick.new ≡ rule pick.old }
+    ensures heard { Hears (heard pick.old) (heard pick.new)
+        (news (news_of info.now.number (length frontier.old.paths.paths) (trees.empty)) ∷ []) }
+{
+    keep(frontier, info, pivots, Ending::Clash(one, other));
     pick.told(NodeEvent::Closed(info.number));
 }
 
@@ -48,6 +73,7 @@ fn find(frontier: &mut Frontier, work: Work, value: Frac, pick: &mut Box<dyn Pic
     requires room { HasRoom frontier.old 2 }
     requires orderly { IsOrderly frontier.old }
     requires node { IsListed frontier.old.paths.paths work.info }
+    requires few { length frontier.old.paths.paths < 2 ^ 32 }
     ensures ended { state_of frontier.new None
         ≡ trails.ended (state_of frontier.old None) (waiting_of frontier.old.paths.paths work.info)
         work.pivots (trees.whole work.point.items value) }
@@ -57,7 +83,7 @@ fn find(frontier: &mut Frontier, work: Work, value: Frac, pick: &mut Box<dyn Pic
         (length frontier.old.paths.paths) (trees.whole work.point.items value)) ∷ []) }
 {
     let number = work.info.number;
-    keep(frontier, &work.info, work.pivots);
+    keep(frontier, &work.info, work.pivots, Ending::Leaf);
     frontier.found = Some(Found {
         point: work.point,
         value,
@@ -69,7 +95,7 @@ fn find(frontier: &mut Frontier, work: Work, value: Frac, pick: &mut Box<dyn Pic
 fn split(
     frontier: &mut Frontier,
     info: &NodeInfo,
-    pivots: u64,
+    pivots: u32,
     decision: u16,
     floor: i128,
     value: Frac,
@@ -91,7 +117,7 @@ fn split(
     let first = frontier.paths.len() as u64;
     wait_part(frontier, info, Part::lower(decision, floor), value);
     wait_part(frontier, info, Part::upper(decision, floor), value);
-    keep(frontier, info, pivots);
+    keep(frontier, info, pivots, Ending::Parts(first as u32));
     pick.told(NodeEvent::Split(info.number, first, first + 1));
 }
 
@@ -112,7 +138,7 @@ fn escape(frontier: &mut Frontier, work: Work, pick: &mut Box<dyn Picker>)
 {
     let number = work.info.number;
     wait_root(frontier);
-    keep(frontier, &work.info, work.pivots);
+    keep(frontier, &work.info, work.pivots, Ending::Leaf);
     frontier.way = Some(Way {
         point: work.point,
         direction: work.direction,
@@ -149,7 +175,7 @@ fn finish(frontier: &mut Frontier, work: Work, end: NodeEnd, pick: &mut Box<dyn 
             value,
             pick,
         ),
-        NodeEnd::Clash(_, _, _) => close(frontier, &work.info, work.pivots, pick),
+        NodeEnd::Clash(one, other, _) => clash(frontier, &work.info, work.pivots, one, other, pick),
         NodeEnd::Endless => escape(frontier, work, pick),
     }
 }

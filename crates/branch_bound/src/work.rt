@@ -18,7 +18,7 @@ use tableau::Dict;
 #[derive(Drop)]
 pub(crate) struct Work {
     pub info: NodeInfo,
-    pub pivots: u64,
+    pub pivots: u32,
     pub within: BoundBox,
     pub program: Standard,
     pub dict: Dict,
@@ -31,7 +31,7 @@ pub(crate) struct Work {
 pub(crate) fn pivot(work: &mut Work) -> Result<(), Pivot>
     requires reached { IsReached work.old.program work.old.dict }
     requires next { IsNext work.old.dict work.old.next }
-    requires small { work.old.pivots + 1 < 2 ^ 64 }
+    requires small { work.old.pivots + 1 < 2 ^ 32 }
     ensures made { MatchResult result (λ _. IsPivoted work.old work.new) (λ e. (work.new ≡ work.old)
         × IsNext work.old.dict e × ¬ (IsNarrowPivot work.old.dict e.row e.column)) }
     ensures reached { IsReached work.new.program work.new.dict }

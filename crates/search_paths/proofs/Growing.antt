@@ -1,6 +1,6 @@
 -- Paths of nodes that are held by their parents.
 use Rattle.std.proofs.Common.{◌≡◌, ℕ, suc, zero, ◌+◌, ◌<◌, refl, sym, ap, ◌∙◌, List, [], ◌∷◌, ◌++◌, length, get_or, reverse, arith, append_assoc, length-append, ◌⊎◌, inl, inr, subst, pos}
-use Rattle.std.specs.Prelude.{Option, Some, None, slice_get}
+use Rattle.std.specs.Prelude.{Option, Some, None, slice_get, MatchOption}
 use Rattle.std.proofs.Math.Seq.{get_or-append_seam}
 use Rattle.std.proofs.lemmas.List.{get_or_append_left, reverse-append}
 use Rattle.searches.specs.Trees.{Part}
@@ -96,3 +96,9 @@ table_is p q r s e h = ap (λ t. table t r) e ∙ ap (table q) h
 -- ---- a root as it is held
 abbrev pub a_root : Origin
 a_root = record { parent = 0; decision = 0; side = Root; floor = pos 0 }
+
+-- ---- the last part of a path
+pub last_part_is : (os : List Origin) (k : ℕ) (o : Origin) (p : Option Part) → AreBefore os → slice_get os k ≡ Some o → p ≡ held_part o
+    → MatchOption p (get_or (grown [] os) k [] ≡ []) (λ part. (before : List Part) × (get_or (grown [] os) k [] ≡ before ++ part ∷ []))
+last_part_is os k o None b e q = node_path os k o b e ∙ ap (path_by (grown [] os) o.parent) (sym q)
+last_part_is os k o (Some part) b e q = (get_or (grown [] os) o.parent [], node_path os k o b e ∙ ap (path_by (grown [] os) o.parent) (sym q))

@@ -123,6 +123,10 @@ within os w a l = elim a.there [ inl h ↦ h | inr z ↦ absurd (omega (arith, l
 moved : (path : List Part) (w : Walk) (n : ℕ) → IsLed path w → IsLed path (record w { at = n })
 moved path w n h = record { box = h.box; replaced = h.replaced }
 
+-- a walk that stands at the first node, where no box has been led
+pub at_nowhere : (os : List Origin) (w : Walk) → AreBefore os → w.at ≡ 0 → IsLed [] w → IsAt os w
+at_nowhere os w b e l = record { there = inr e; led = subst (λ (path : List Part). IsLed path w) (sym (ap (λ (n : ℕ). get_or (grown [] os) n []) e ∙ first_path os b)) l }
+
 pub up_part : (os : List Origin) (w v : Walk) (p : Part) (o : Origin) → AreBefore os → IsAt os w → 0 < w.at → slice_get os w.at ≡ Some o → held_part o ≡ Some p → v.at ≡ o.parent
     → ((path : List Part) → IsLed (path ++ p ∷ []) (record w { at = o.parent }) → IsLed path v) → IsAt os v
 up_part os w v p o b a l e h q f = record {

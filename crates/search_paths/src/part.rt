@@ -1,7 +1,7 @@
 ghost use Rattle.std.specs.Prelude.{◌≡◌, ℤ, pos, ◌+ℤ◌, Some};
 ghost use Rattle.frac128.specs.Narrow.{IsNarrowWhole};
 ghost use Rattle.searches.specs.Trees.{lower, upper};
-ghost use Rattle.search_paths.specs.Steps.{step_of};
+ghost use Rattle.search_paths.specs.Steps.{split_of, step_of};
 ghost use Rattle.search_paths.specs.Origins.{held_part, IsNarrowOrigin};
 
 use crate::origin::{Origin, Side};
@@ -73,6 +73,15 @@ impl Part {
             return (self.decision, true, self.floor + 1);
         }
         (self.decision, false, self.floor)
+    }
+
+    /// The decision and the floor of the split of which it is a part.
+    pub fn split(&self) -> (u16, i128)
+        ensures split { result ≡ split_of self.now }
+        ensures floor { IsNarrowWhole result.1 }
+        ensures above { IsNarrowWhole (result.1 +ℤ pos 1) }
+    {
+        (self.decision, self.floor)
     }
 
     /// The part as it is held of a node.

@@ -1,4 +1,5 @@
-ghost use Rattle.std.specs.Prelude.{◌≡◌, ◌<◌, ◌≤◌, ◌+◌, ◌++◌, ◌∷◌, [], length, IfOk, OnErr, OnOk, slice_index_or};
+ghost use Rattle.std.specs.Prelude.{◌≡◌, ◌<◌, ◌≤◌, ◌+◌, ◌++◌, ◌∷◌, [], List, length, IfOk, MatchOption, OnErr, OnOk, slice_index_or};
+ghost use Rattle.searches.specs.Trees as trees;
 ghost use Rattle.searches.specs.Trees.{box_along};
 ghost use Rattle.search_paths.specs.Tables.{HasRoom, path_at};
 
@@ -94,6 +95,25 @@ impl Paths {
         }
         made.reverse();
         Ok(made)
+    }
+
+    /// The last part of a node's path; a root has none.
+    pub fn last_part(&self, number: usize) -> Option<Part>
+        requires { number < length self.now.paths }
+        ensures { MatchOption result (path_at self.now number ≡ []) (λ part. (before : List trees.Part)
+            × (path_at self.now number ≡ before ++ part ∷ [])) }
+    {
+        part_of(&self.origins[number])
+    }
+
+    /// The same paths, with a box of their own.
+    pub fn copy(&self, alloc: Global) -> Result<Paths, Memory>
+        ensures { IfOk result (λ t. t.paths ≡ self.now.paths) }
+    {
+        Ok(Paths {
+            origins: Vec::from_slice(alloc, &self.origins)?,
+            walk: nowhere(alloc),
+        })
     }
 
     /// The box of a node, where the roots have that one: it takes as many steps as there are parts between the node and

@@ -26,7 +26,7 @@ use Rattle.affine_forms.specs.Assigned.{assigned}
 use Rattle.opt_certificate.specs.Certificate.{IsWayOut}
 use Rattle.opt_certificate.proofs.Multiples.{whole_number}
 use Rattle.node_pick.specs.Rules.{Rule}
-use Rattle.searches.specs.Trees.{Node, End, empty, beaten, whole, split, clash, endless, Part, lower, upper, root, new_nodes, Way, way_at}
+use Rattle.searches.specs.Trees.{Node, End, empty, beaten, whole, split, clash, endless, Part, lower, upper, root, new_nodes, Way, way_at, in_leaf, ending_at}
 use Rattle.searches.specs.Trails.{State, Opened, Work, start, without_place, is_plain, box_of, node_program, Outcome, no_point, best, no_bound, Finishes, at_best, without_bound, ComesTo, is_split, is_parted, Becomes, goes_on, ends, ended, Grows, opens, pivots, stays, grows, SearchUnit, Trail}
 use Rattle.searches.specs.TrueTrees.{SplitTree, leaf, IsBasicBest, IsTrueSplit, split_between, split_alike, IsTrueTree, HasNode, IsNodeOf, TreesAreTrue}
 use Rattle.searches.proofs.Members.{In, in_cases, in_place, in_removed}
@@ -104,7 +104,7 @@ closed : (m : Model) (s : State) (node : Node) (k : ℕ) (e : End) (trees : Bool
     → ((n : Node) → In (ended s node k e).waiting n → In s.waiting n) → AreTrue m (ended s node k e) trees
 closed m s node k e trees h w f = record {
   are_true = h.state.are_true;
-  opened = subst (λ (y : Option Way). AllByRecursion (λ (o : Opened). IsNodeOf trees y o.node.path) (record { node = node; pivots = k } ∷ s.opened)) (sym w) (at_hand trees s.way node.path (leaf_is_node _ node.path h.is_leaf), h.state.opened);
+  opened = subst (λ (y : Option Way). AllByRecursion (λ (o : Opened). IsNodeOf trees y o.node.path) (record { node = node; pivots = k; ending = ending_at s.count e } ∷ s.opened)) (sym w) (at_hand trees s.way node.path (leaf_is_node _ node.path h.is_leaf), h.state.opened);
   waiting = λ n i. subst (λ (y : Option Way). IsLeaf (trees (is_plain y)) n.path) (sym w) (h.state.waiting n (f n i));
   apart = λ n j i l. h.state.apart n j (f n i) (f j l);
   none_yet = λ q. h.state.none_yet (sym (ap is_plain w) ∙ q);
@@ -122,7 +122,7 @@ second : (m : Model) (s : State) (node : Node) (k : ℕ) (x u : List ℚ) (trees
     → AreTrue m (ended s node k (endless x u)) trees
 second m s node k x u trees h p = record {
   are_true = h.state.are_true;
-  opened = (more_opened trees trees s.way (Some record { point = x; direction = u }) (record { node = node; pivots = k } ∷ s.opened) (λ b ps z. z) (λ z. refl) (at_hand trees s.way node.path (leaf_is_node _ node.path h.is_leaf), h.state.opened));
+  opened = (more_opened trees trees s.way (Some record { point = x; direction = u }) (record { node = node; pivots = k; ending = in_leaf } ∷ s.opened) (λ b ps z. z) (λ z. refl) (at_hand trees s.way node.path (leaf_is_node _ node.path h.is_leaf), h.state.opened));
   waiting = λ n i. fresh n i;
   apart = λ n j i l z. absurd (z (ap (λ (n : Node). n.number) (one n i ∙ sym (one j l))));
   none_yet = λ q. absurd cc;

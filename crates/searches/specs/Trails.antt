@@ -17,7 +17,7 @@ use Rattle.node_pick.specs.Rules.{Rule, Follows}
 use Rattle.linear_models.specs.Box.{Box}
 use Rattle.linear_models.specs.Model.{Model, is_whole_at, maximised}
 use Rattle.linear_models.specs.Standard.{standard}
-use Rattle.searches.specs.Trees.{Node, End, empty, beaten, whole, split, clash, endless, box_along, new_nodes, root, Found, found_at, Way, way_at, info}
+use Rattle.searches.specs.Trees.{Node, End, empty, beaten, whole, split, clash, endless, Ending, ending_at, box_along, new_nodes, root, Found, found_at, Way, way_at, info}
 use Rattle.searches.specs.Alike.{AreFirstAlike, BoundsDiffer, SplitsAt, FloorIs}
 
 -- ---- how the run of a node's program ends
@@ -88,10 +88,11 @@ pub data ComesTo (m : Model) (box : Box) (found : Option Found) : Outcome → En
       → ComesTo m box found (best x v) (clash i j v)
 
 -- ---- where a search stands
--- a node that was opened, and the pivots made in it
+-- a node that was opened, the pivots made in it, and how it ended
 pub record Opened : Type 0 where
   pub node : Node
   pub pivots : ℕ
+  pub ending : Ending
 
 -- the node that is worked on, the pivots made in it, and the dictionary that they have led to
 pub record Work : Type 0 where
@@ -133,7 +134,7 @@ waiting_after (clash i j value) waiting new = waiting ++ new
 -- the node has come to its end
 abbrev pub ended : State → Node → ℕ → End → State
 ended s node k e = record {
-  opened = record { node = node; pivots = k } ∷ s.opened;
+  opened = record { node = node; pivots = k; ending = ending_at s.count e } ∷ s.opened;
   waiting = waiting_after e s.waiting (new_nodes s.count node e);
   count = s.count + length (new_nodes s.count node e);
   found = found_at e s.found;

@@ -37,6 +37,21 @@ pub data End : Type 0 where
   clash : (first second : ℕ) (value : ℚ) → End
   endless : (point direction : List ℚ) → End
 
+-- what is kept of an end: the number of the lower part of a split, which the upper part's follows; the two decisions of a clash; or that it is neither
+pub data Ending : Type 0 where
+  in_parts : (lower : ℕ) → Ending
+  in_clash : (first second : ℕ) → Ending
+  in_leaf : Ending
+
+-- the same of an end after which new nodes are numbered from n on
+abbrev pub ending_at : ℕ → End → Ending
+ending_at n (split j f value) = in_parts n
+ending_at n (clash i j value) = in_clash i j
+ending_at n empty = in_leaf
+ending_at n (beaten value) = in_leaf
+ending_at n (whole point value) = in_leaf
+ending_at n (endless point direction) = in_leaf
+
 -- the root of a tree, by its number
 abbrev pub root : ℕ → Node
 root n = record { number = n; path = []; bound = None }

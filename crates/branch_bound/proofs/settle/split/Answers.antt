@@ -1,7 +1,7 @@
-use Rattle.std.proofs.Common.{refl, ap, ◌∙◌}
-use Rattle.searches.specs.Trees.{Part, lower, upper}
+use Rattle.std.proofs.Common.{ℕ, refl, ap, ◌∙◌}
+use Rattle.searches.specs.Trees.{Part, lower, upper, in_parts}
 use Rattle.opt_certificate.proofs.Wholes.{read_back}
-use Rattle.branch_bound.specs.States.{state_of, waiting_of, with_child}
+use Rattle.branch_bound.specs.States.{state_of, waiting_of, with_child, with_opened}
 use Rattle.std.specs.Prelude.{None}
 use Rattle.branch_bound.proofs.Stepping.{split_end}
 use Rattle.branch_bound.proofs.settle.split.Goals as goal
@@ -25,4 +25,5 @@ returns-clause-ended g c =
     (c.wait_part-2.ensures.state
     ∙ ap (λ (p : Part). with_child (state_of c.wait_part.new.frontier None) (waiting_of c.wait_part.new.frontier.paths.paths c.args.info.now) p c.args.value) (c.upper.ensures ∙ ap (upper c.args.decision) k))
     c.wait_part-2.ensures.kept
-    c.keep.ensures.state
+    (c.keep.ensures.state
+    ∙ ap (λ (k : ℕ). with_opened (state_of c.wait_part-2.new.frontier None) (waiting_of c.wait_part-2.new.frontier.paths.paths c.args.info.now) c.args.pivots (in_parts k)) c.len-first.ensures)
