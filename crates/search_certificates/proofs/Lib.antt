@@ -1,0 +1,11 @@
+pub mod Trimming
+pub mod LeafProofs
+pub mod Kept
+pub mod Keeping
+pub mod OneNode
+pub mod Falling
+pub mod Existing
+pub mod OneTree
+pub mod Certifying
+pub mod Sizes
+pub mod Lightness
