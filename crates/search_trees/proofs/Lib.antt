@@ -1,0 +1,16 @@
+pub mod Lists
+pub mod Counting
+pub mod Walking
+pub mod Placing
+pub mod Filling
+pub mod Runs
+pub mod Trimming
+pub mod Known
+pub mod Matching
+pub mod Boxes
+pub mod Leaves
+pub mod LastRoot
+pub mod Ready
+pub mod LastTree
+pub mod Saying
+pub mod LastIn
