@@ -1,0 +1,2 @@
+pub mod FromSheetLinearModel
+pub mod NoForms

@@ -1,0 +1,4 @@
+pub mod FromDepTable
+pub mod FromExtractIncr
+pub mod FromKeptForms
+pub mod FromSheetLinearModel

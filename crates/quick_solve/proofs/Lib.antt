@@ -1,0 +1,3 @@
+pub mod TermByTerm
+pub mod Sides
+pub mod At
