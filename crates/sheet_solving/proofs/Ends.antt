@@ -153,7 +153,7 @@ all_solved rule budget before after s m first o r is h =
 
 -- ---- cells of a path
 -- the model has the sheet's decisions
-decisions_are : (book : State) (sheet : ℕ) (p : Prepared) → IsPrepared book sheet p → length p.model.whole ≡ length p.statement.decisions
+pub decisions_are : (book : State) (sheet : ℕ) (p : Prepared) → IsPrepared book sheet p → length p.model.whole ≡ length p.statement.decisions
 decisions_are book sheet p h = ap (λ (m : Model). length m.whole) h.model ∙ length-map-range_with_len (is_marked (rows_of p.statement p.objective p.sides)) 0 (length p.statement.decisions)
 
 stands_listed : (task : Task) (book : State) (sheet : ℕ) (p : Prepared) (s : Statement) (m : Model) (o : Opened) (e : SearchStop) (told : Answer) → IsPrepared book sheet p → p.statement ≡ s → p.model ≡ m

@@ -21,8 +21,8 @@ fn cell_of(cells: &[Cell], decision: u16) -> Cell
     }
 }
 
-// The steps of a path, each with its cell.
-pub(crate) fn by_cells(
+/// The steps of a path, each with its cell.
+pub fn by_cells(
     alloc: Global,
     cells: &[Cell],
     path: &[(u16, bool, i128)],

@@ -23,8 +23,8 @@ use solver_names::Statement;
 use std::alloc::Global;
 use workbook::Workbook;
 
-// Why a search stops, by the cells to be decided.
-fn tell_stop(alloc: Global, statement: &Statement, stop: SearchStop) -> Result<Answer, Memory>
+/// Why a search stops, by the cells to be decided.
+pub fn tell_stop(alloc: Global, statement: &Statement, stop: SearchStop) -> Result<Answer, Memory>
     ensures { IfOk result (TellsStop statement.now.adj stop) }
 {
     match stop {

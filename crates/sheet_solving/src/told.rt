@@ -19,8 +19,8 @@ use std::alloc::Global;
 use workbook::Workbook;
 use write_back::{PutFault, put};
 
-// The objective's number, where there is an objective, by that of the search, which seeks the greatest.
-fn objective_value(objective: Option<Cell>, goal: Goal, value: Frac) -> Option<Frac>
+/// The objective's number, where there is an objective, by that of the search, which seeks the greatest.
+pub fn objective_value(objective: Option<Cell>, goal: Goal, value: Frac) -> Option<Frac>
     ensures { result ≡ option_map (λ _. value_told (goal_of goal) value) objective }
 {
     match objective {

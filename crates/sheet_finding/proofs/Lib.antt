@@ -1,0 +1,2 @@
+pub mod FoundEnds
+pub mod FromSheetSolving
