@@ -1,0 +1,16 @@
+pub mod Cells
+pub mod Numerals
+pub mod Commuting
+pub mod Fulfilled
+pub mod RefusedPlaces
+pub mod OpenModels
+pub mod Staying
+pub mod GivenValues
+pub mod Chosen
+pub mod Walking
+pub mod FirstValues
+pub mod Causes
+pub mod Both
+pub mod Opens
+pub mod Gives
+pub mod Formed
