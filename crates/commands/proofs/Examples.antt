@@ -16,7 +16,7 @@ use Rattle.commands.specs.declared.answer.Answer.TheVariants as answer
 use Rattle.commands.specs.declared.answer.Answer.{Answer}
 use Rattle.commands.specs.declared.price_lines.PriceLine.{PriceLine}
 use Rattle.commands.specs.Addresses.{Address, marked_address}
-use Rattle.commands.specs.Commands.{Begin, Budget, Model, Name, Prices, Save, Set, Show, Slice, Stop, Unknown, Unname, command_of}
+use Rattle.commands.specs.Commands.{Begin, Budget, Cert, Model, Name, Prices, Save, Set, Show, Slice, Stop, Unknown, Unname, command_of}
 use Rattle.commands.specs.Lines.{answer_text}
 use Rattle.commands.specs.Refusals.{pivot_text}
 use Rattle.commands.specs.Locating.{cell_named, sheet_or_book, units_named}
@@ -67,6 +67,12 @@ a_stop = refl
 
 a_budget : command_of (codes "budget" ∷ codes "1000" ∷ []) ≡ Budget (codes "1000")
 a_budget = refl
+
+a_certificate : command_of (codes "cert" ∷ codes "plan" ∷ []) ≡ Cert (codes "plan")
+a_certificate = refl
+
+a_certificate_of_no_sheet : command_of (codes "cert" ∷ []) ≡ Unknown
+a_certificate_of_no_sheet = refl
 
 a_save : command_of (codes "save" ∷ []) ≡ Save
 a_save = refl
@@ -171,6 +177,10 @@ no_search = refl
 
 a_ninth_search : answer_text [] answer.TooManySearches ≡ codes "refused too-many-searches\n"
 a_ninth_search = refl
+
+a_large_tree : answer_text [] (answer.CertLimit 100001) ≡ codes "refused cert-limit 100001\n"
+unfolding digits
+a_large_tree = refl
 
 a_text : answer_text [] (answer.Shown (value.Text (codes "a\"b"))) ≡ codes "text \"a\"\"b\"\n"
 a_text = refl

@@ -6,5 +6,6 @@ pub mod Numbers
 pub mod Others
 pub mod Quotes
 pub mod Saying
+pub mod Certificates
 pub mod Spelled
 pub mod Unspelled

@@ -49,7 +49,7 @@ pivot_said old begun path_end mid basis_end row_end new first path second basis 
 
 -- ---- models
 -- lines begin with the first of them
-begun : (l : List ℕ) (lines : List (List ℕ)) → (rest : List ℕ) × (join_with_byte 10 (l ∷ lines) ≡ l ++ rest)
+pub begun : (l : List ℕ) (lines : List (List ℕ)) → (rest : List ℕ) × (join_with_byte 10 (l ∷ lines) ≡ l ++ rest)
 begun l [] = ([], sym (append-nil l))
 begun l (m ∷ lines) = (10 ∷ join_with_byte 10 (m ∷ lines), refl)
 

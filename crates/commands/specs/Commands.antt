@@ -17,6 +17,7 @@ pub data Spoken : Type 0 where
   Slice : (sheet units : List ℕ) → Spoken
   Stop : (sheet : List ℕ) → Spoken
   Budget : (units : List ℕ) → Spoken
+  Cert : (sheet : List ℕ) → Spoken
   Save : Spoken
   Unknown : Spoken
 
@@ -28,7 +29,7 @@ abbrev pub with_none : List (Text × Spoken)
 with_none = (codes "save", Save) ∷ []
 
 abbrev pub with_one : List (Text × (Text → Spoken))
-with_one = (codes "clear", Clear) ∷ (codes "show", Show) ∷ (codes "model", Model) ∷ (codes "solve", Solve) ∷ (codes "prices", Prices) ∷ (codes "begin", Begin) ∷ (codes "stop", Stop) ∷ (codes "budget", Budget) ∷ []
+with_one = (codes "clear", Clear) ∷ (codes "show", Show) ∷ (codes "model", Model) ∷ (codes "solve", Solve) ∷ (codes "prices", Prices) ∷ (codes "begin", Begin) ∷ (codes "stop", Stop) ∷ (codes "budget", Budget) ∷ (codes "cert", Cert) ∷ []
 
 abbrev pub with_two : List (Text × (Text → Text → Spoken))
 with_two = (codes "set", Set) ∷ (codes "unname", Unname) ∷ (codes "slice", Slice) ∷ []
@@ -69,5 +70,6 @@ spoken (command.Begin sheet) = Begin (string_bytes sheet)
 spoken (command.Slice sheet units) = Slice (string_bytes sheet) (string_bytes units)
 spoken (command.Stop sheet) = Stop (string_bytes sheet)
 spoken (command.Budget units) = Budget (string_bytes units)
+spoken (command.Cert sheet) = Cert (string_bytes sheet)
 spoken command.Save = Save
 spoken command.Unknown = Unknown

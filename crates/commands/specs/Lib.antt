@@ -2,9 +2,11 @@ pub mod Addresses
 pub mod Commands
 pub mod FromSheetProblems
 pub mod Lines
+pub mod Printing
 pub mod Locating
 pub mod Preceded
 pub mod Prices
+pub mod Certificates
 pub mod Refusals
 pub mod Saved
 pub mod Spelling

@@ -9,6 +9,7 @@ use Rattle.model_lines.specs.Cells.{cell_with_sheet}
 use Rattle.model_lines.specs.Lines.{model_text}
 use Rattle.commands.specs.declared.answer.Answer.{Answer}
 use Rattle.commands.specs.declared.answer.Answer.TheVariants as answer
+use Rattle.commands.specs.Certificates.{certificate_text}
 use Rattle.commands.specs.Prices.{prices_text}
 use Rattle.commands.specs.Refusals.{FaultIsListed, RefusalIsListed, StepIsListed, names_text, pivot_text, refusal_text}
 
@@ -26,42 +27,49 @@ value_text (value.Logical false) = codes "logical FALSE"
 value_text value.Empty = codes "empty"
 value_text (value.Error kind) = codes "error " ++ error_text kind
 
+-- the words of an answer that has no parts
+abbrev pub words : Answer → List ℕ
+words answer.Done = codes "ok"
+words answer.Infeasible = codes "infeasible"
+words answer.Unbounded = codes "unbounded"
+words answer.Begun = codes "begun"
+words answer.Stopped = codes "stopped"
+words answer.UnknownCommand = codes "refused unknown-command"
+words answer.BadAddress = codes "refused bad-address"
+words answer.UnknownSheet = codes "refused unknown-sheet"
+words answer.OutOfSheet = codes "refused out-of-sheet"
+words answer.BadNumber = codes "refused bad-number"
+words answer.BadName = codes "refused bad-name"
+words answer.FieldTooLong = codes "refused field-too-long"
+words answer.TooManyCells = codes "refused too-many-cells"
+words answer.TooManyFormulas = codes "refused too-many-formulas"
+words answer.TooManyNames = codes "refused too-many-names"
+words answer.NoSearch = codes "refused no-search"
+words answer.TooManySearches = codes "refused too-many-searches"
+words answer.NoObjective = codes "refused no-objective"
+words _ = []
+
 -- an answer, without the end of its last line
 abbrev pub said : List (List ℕ) → Answer → List ℕ
-said sheets answer.Done = codes "ok"
 said sheets (answer.Shown v) = value_text v
 said sheets (answer.Model lines) = model_text sheets lines
 said sheets (answer.Optimal None) = codes "optimal"
 said sheets (answer.Optimal (Some value)) = codes "optimal " ++ printed value
-said sheets answer.Infeasible = codes "infeasible"
-said sheets answer.Unbounded = codes "unbounded"
 said sheets (answer.Prices prices) = prices_text prices
-said sheets answer.Begun = codes "begun"
+said sheets (answer.Cert cert) = certificate_text cert
 said sheets (answer.More units) = codes "more " ++ decimal units
-said sheets answer.Stopped = codes "stopped"
 said sheets (answer.ToSave files) = codes "saved " ++ decimal (length files.items)
-said sheets answer.UnknownCommand = codes "refused unknown-command"
-said sheets answer.BadAddress = codes "refused bad-address"
-said sheets answer.UnknownSheet = codes "refused unknown-sheet"
-said sheets answer.OutOfSheet = codes "refused out-of-sheet"
-said sheets answer.BadNumber = codes "refused bad-number"
-said sheets answer.BadName = codes "refused bad-name"
-said sheets answer.FieldTooLong = codes "refused field-too-long"
-said sheets answer.TooManyCells = codes "refused too-many-cells"
-said sheets answer.TooManyFormulas = codes "refused too-many-formulas"
-said sheets answer.TooManyNames = codes "refused too-many-names"
 said sheets (answer.WideCell c) = codes "refused wide " ++ cell_with_sheet sheets c
-said sheets answer.NoSearch = codes "refused no-search"
-said sheets answer.TooManySearches = codes "refused too-many-searches"
 said sheets (answer.Names fault) = codes "refused names " ++ names_text sheets fault
 said sheets (answer.Form refusal) = codes "refused " ++ refusal_text sheets refusal
 said sheets (answer.WideRow k) = codes "refused wide-row " ++ decimal k
-said sheets answer.NoObjective = codes "refused no-objective"
 said sheets (answer.NotContinuous c) = codes "refused not-continuous " ++ cell_with_sheet sheets c
 said sheets (answer.WidePivot path basis row column) = codes "refused wide-pivot " ++ pivot_text sheets path.items basis.items row column
 said sheets (answer.Budget units) = codes "refused budget " ++ decimal units
 said sheets (answer.WideRange k) = codes "refused wide-range " ++ decimal k
+said sheets (answer.CertLimit weight) = codes "refused cert-limit " ++ decimal weight
 said sheets (answer.NoRoom c) = codes "refused no-room " ++ cell_with_sheet sheets c
+said sheets a = words a
 
 -- the line or lines of an answer, where the sheets have these names
 abbrev pub answer_text : List (List ℕ) → Answer → List ℕ

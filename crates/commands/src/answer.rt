@@ -5,6 +5,7 @@ ghost use Rattle.commands.specs.Lines.{is_refusal};
 use crate::price_lines::PriceLines;
 use crate::save_file::SaveFile;
 use cell_refs::Cell;
+use certificate_texts::Cert;
 use form_needs::FormRefusal;
 use frac128::Frac;
 use model_lines::ModelLines;
@@ -33,6 +34,8 @@ pub enum Answer {
     Unbounded,
     /// The best value, and the prices of the rows.
     Prices(PriceLines),
+    /// What a search finds, with the tree, or the point and the direction, that proves it.
+    Cert(Cert),
     /// A search is opened.
     Begun,
     /// A search goes further, and has spent so many units in all.
@@ -74,20 +77,22 @@ pub enum Answer {
     Budget(u64),
     /// A number on the way to the price of this row, from 1, or to an end of its range does not fit 128 bits.
     WideRange(u16),
+    /// The leaves of the tree and the rows of their programs are so many in all, above 100,000: no certificate is made.
+    CertLimit(u64),
     /// There is no room for the text of this cell.
     NoRoom(Cell),
 }
 
 impl Answer {
     /// Whether it is a refusal.
-    #[tactic(auto, using(crate::proofs::Saying::not_refused, crate::proofs::Saying::prices_not_refused))]
+    #[tactic(auto, using(crate::proofs::Saying::not_refused, crate::proofs::Saying::prices_not_refused, crate::proofs::Certificates::not_refused))]
     pub fn is_refusal(&self) -> bool
         ensures { (sheets : List (List ℕ)) → result ≡ is_refusal sheets self.now }
     {
         match self {
             Answer::Done | Answer::Shown(_) | Answer::Model(_) => false,
             Answer::Optimal(_) | Answer::Infeasible | Answer::Unbounded => false,
-            Answer::Prices(_) => false,
+            Answer::Prices(_) | Answer::Cert(_) => false,
             Answer::Begun | Answer::More(_) | Answer::Stopped => false,
             Answer::ToSave(_) => false,
             _ => true,

@@ -31,6 +31,8 @@ pub enum Command {
     Stop(String),
     /// How many units a search, or a run for prices, may spend from now on.
     Budget(String),
+    /// The name of the sheet that is solved for a certificate.
+    Cert(String),
     Save,
     Unknown,
 }
@@ -97,6 +99,9 @@ impl Command {
         }
         if word == "budget" {
             return Ok(Command::Budget(String::from_str(alloc, text)?));
+        }
+        if word == "cert" {
+            return Ok(Command::Cert(String::from_str(alloc, text)?));
         }
         Ok(Command::Unknown)
     }

@@ -3,6 +3,7 @@
 
 mod address;
 mod answer;
+mod certificate;
 mod command;
 mod laws;
 mod lines;
@@ -15,7 +16,7 @@ mod units;
 
 pub use answer::{Answer, PathStep};
 pub use command::Command;
-pub use laws::addresses_are_spelled;
+pub use laws::{addresses_are_spelled, certificates_are_printed};
 pub use lines::line;
 pub use locating::locate;
 pub use price_lines::{PriceLine, PriceLines};
