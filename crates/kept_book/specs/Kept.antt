@@ -11,7 +11,7 @@ use Rattle.commands.specs.declared.answer.Answer.{Answer}
 use Rattle.commands.specs.declared.answer.Answer.TheVariants as answer
 use Rattle.sheet_solving.specs.FromKeptTables.{AreRight, all_marked}
 use Rattle.sheet_solving.specs.FromKeptForms.{SheetKept, all_forms}
-use Rattle.kept_book.specs.References.{AreKept}
+use Rattle.kept_book.specs.References.{AreKept, HasFormula}
 
 -- the workbook, and the tables of forms that are kept of its sheets
 pub record KeptState : Type 0 where
@@ -29,10 +29,11 @@ pub record IsKept (r : Option References) (k : KeptState) : Type 0 where
 abbrev pub AreMarked : List Cell → KeptState → KeptState → Type 0
 AreMarked cells before after = all_forms after.tables ≡ all_marked (book_of after.book) cells (all_forms before.tables)
 
--- so it is where there was memory to follow the edit; else nothing is kept any more
+-- so it is where there was memory to follow the edit; else nothing is kept any more, and some of the cells has a formula behind it, since nothing else
+-- wants memory
 abbrev pub IsFollowed : {E : Type 0} → Result (Unit {0}) E → List Cell → KeptState → KeptState → Type 0
 IsFollowed (Ok _) cells before after = AreMarked cells before after
-IsFollowed (Err _) cells before after = after.tables ≡ []
+IsFollowed (Err _) cells before after = (after.tables ≡ []) × HasFormula cells after.book
 
 -- a text is put, and what is kept follows it; or the first cause stands, and nothing has changed. Memory is wanted for a text alone that
 -- isn't empty

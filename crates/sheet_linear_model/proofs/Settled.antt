@@ -1,6 +1,6 @@
 -- Forms that were settled for what the names of a sheet give.
 use Rattle.std.specs.Prelude.{Err, Ok, Result}
-use Rattle.std.proofs.Common.{◌≡◌, ◌-◌, ◌≤◌, ℕ, Bool, List, Option, Some, None, ap, arith, refl, subst, sym}
+use Rattle.std.proofs.Common.{◌≡◌, ◌-◌, ◌≤◌, inl, inr, ℕ, Bool, List, Option, Some, None, ap, arith, refl, subst, sym}
 use Rattle.cell_refs.specs.declared.cell.SheetId.{SheetId}
 use Rattle.workbook.specs.Kinds.{book_of}
 use Rattle.workbook.specs.State.{State}
@@ -12,9 +12,9 @@ use Rattle.solver_names.specs.declared.statements.Statement.{Statement as Declar
 use Rattle.kept_forms.specs.FromKeptTables.{Parts}
 use Rattle.kept_forms.specs.FromKeptTables.{MakesFew}
 use Rattle.kept_forms.specs.FromExtractIncr.{AllAreKept, Kept}
-use Rattle.kept_forms.specs.Settling.{Settles}
-use Rattle.kept_forms.specs.Tables.{SheetKept, all_forms, parts_of, settled_of}
-use Rattle.sheet_linear_model.specs.Answers.{AreSettled, CountsFew, SettlesForms, parts_in, parts_or, parts_stated}
+use Rattle.kept_forms.specs.Settling.{Settles, Stops}
+use Rattle.kept_forms.specs.Tables.{SheetKept, all_forms, forms_in, parts_of, settled_of}
+use Rattle.sheet_linear_model.specs.Answers.{AreSettled, CountsFew, MayStop, SettlesForms, parts_in, parts_or, parts_stated}
 use Rattle.sheet_linear_model.specs.Inner.{GivesNone, IsKeptFor, IsStatement, stop_of}
 use Rattle.sheet_linear_model.specs.declared.prepared.NoModel.{NoModel}
 use Rattle.sheet_linear_model.specs.declared.prepared.NoModel.TheVariants as none
@@ -60,6 +60,25 @@ pub never_none : (book : State) (searching : ℕ → Bool) (sheet : ℕ) (parts 
     → Settles (book_of book) searching sheet parts before after once → settled_of after sheet once ≡ None → ⊥
 never_none book searching sheet parts before after once h e = let f : settled_of after sheet once ≡ Some h.forms = h.found in cc
 
+-- forms that are all made are among those that may be made before memory runs out
+settled_stops : (book : State) (searching : ℕ → Bool) (sheet : ℕ) (parts : Parts) (before after : List SheetKept) (once : Option Kept)
+    → Settles (book_of book) searching sheet parts before after once → Stops (book_of book) searching sheet parts before after
+settled_stops book searching sheet parts before after once h =
+    inr (record {
+      table = forms_in (record { sheet = sheet; kept = h.forms });
+      own = refl;
+      given = h.given;
+      grown = h.grown;
+      tables = h.tables;
+    })
+
+-- memory runs out while the forms of what is stated are made
+pub stopped_for : (book : State) (searching : ℕ → Bool) (sheet : SheetId) (s : Declared) (before after : List SheetKept) → IsStatement book (statement_of s) → s.sheet ≡ sheet
+    → Stops (book_of book) searching s.sheet.0 (parts_stated book s.sheet.0 (statement_of s)) before after → SettlesForms book searching sheet.0 (Err none.Memory) before after
+stopped_for book searching sheet s before after is same h =
+    subst (λ (o : Option Parts). MayStop book searching sheet.0 o before after) (sym (statement_gives book sheet s is same))
+    (subst (λ (x : SheetId). Stops (book_of book) searching x.0 (parts_stated book x.0 (statement_of s)) before after) same h)
+
 pub are_settled : (book : State) (searching : ℕ → Bool) (sheet : SheetId) (s : Declared) (before after : List SheetKept) (once : Option Kept) (r : Result OfSheet NoModel)
     → IsStatement book (statement_of s) → s.sheet ≡ sheet → Settles (book_of book) searching s.sheet.0 (parts_stated book s.sheet.0 (statement_of s)) before after once
     → SettlesForms book searching sheet.0 r before after
@@ -73,11 +92,15 @@ are_settled book searching sheet s before after once r is same h = told_of r
     told_of : (r : Result OfSheet NoModel) → SettlesForms book searching sheet.0 r before after
     told_of (Ok p) = there
     told_of (Err (none.Refused a)) = there
-    told_of (Err none.Memory) = tt
+    told_of (Err none.Memory) = stopped_for book searching sheet s before after is same (settled_stops book searching s.sheet.0 (parts_stated book s.sheet.0 (statement_of s)) before after once h)
 
 -- where the names have a fault nothing has changed
 pub none_settled : (book : State) (searching : ℕ → Bool) (sheet : ℕ) (e : NoModel) (tables : List SheetKept) → GivesNone book sheet e → SettlesForms book searching sheet (Err e) tables tables
-none_settled book searching sheet none.Memory tables h = tt
+none_settled book searching sheet none.Memory tables h = unchanged (parts_in book sheet)
+  where
+    unchanged : (o : Option Parts) → MayStop book searching sheet o tables tables
+    unchanged (Some parts) = inl refl
+    unchanged None = refl
 none_settled book searching sheet (none.Refused a) tables h = subst (λ (o : Option Parts). AreSettled book searching sheet o tables tables) (sym h) refl
 
 -- ---- steps

@@ -3,7 +3,7 @@ use Rattle.std.specs.Prelude.{◌≡◌, ℕ, Bool, List, Option, Some, None, Re
 use Rattle.workbook.specs.Kinds.{book_of}
 use Rattle.workbook.specs.State.{State}
 use Rattle.kept_forms.specs.FromExtractIncr.{Kept}
-use Rattle.kept_forms.specs.Settling.{Settles}
+use Rattle.kept_forms.specs.Settling.{Settles, Stops}
 use Rattle.kept_forms.specs.Tables.{SheetKept, all_forms}
 use Rattle.kept_forms.specs.FromKeptTables.{Parts}
 use Rattle.kept_forms.specs.FromKeptTables.{MakesFew}
@@ -59,9 +59,14 @@ abbrev pub AreSettled : State → (ℕ → Bool) → ℕ → Option Parts → Li
 AreSettled book searching sheet (Some parts) before after = (once : Option Kept) × Settles (book_of book) searching sheet parts before after once
 AreSettled book searching sheet None before after = after ≡ before
 
--- so it is where something else is answered than want of memory
+-- where memory runs out nothing has changed, or the sheet's table has those of the forms that were made
+abbrev pub MayStop : State → (ℕ → Bool) → ℕ → Option Parts → List SheetKept → List SheetKept → Type 0
+MayStop book searching sheet (Some parts) before after = Stops (book_of book) searching sheet parts before after
+MayStop book searching sheet None before after = after ≡ before
+
+-- what stands of the tables after an answer, and after want of memory
 abbrev pub SettlesForms : State → (ℕ → Bool) → ℕ → Result Declared NoModel → List SheetKept → List SheetKept → Type 0
-SettlesForms book searching sheet (Err none.Memory) before after = ⊤
+SettlesForms book searching sheet (Err none.Memory) before after = MayStop book searching sheet (parts_in book sheet) before after
 SettlesForms book searching sheet _ before after = AreSettled book searching sheet (parts_in book sheet) before after
 
 -- no step where the names have a fault, and else at most one for each place that wasn't settled

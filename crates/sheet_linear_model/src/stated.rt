@@ -1,9 +1,9 @@
 // What the names of a sheet state, the forms that are kept for it, and the first refusal among them.
-ghost use Rattle.std.specs.Prelude.{◌≡◌, ◌≤◌, ◌<◌, ◌-◌, Err, IfErr, IfOk, OnOk, length};
+ghost use Rattle.std.specs.Prelude.{◌≡◌, ◌≤◌, ◌<◌, ◌-◌, Err, IfErr, IfOk, OnErr, OnOk, length};
 ghost use Rattle.dep_table.specs.References.{AreReferencesOf};
 ghost use Rattle.form_needs.specs.FirstRefusal.{AllNumbers, IsRefusal};
 ghost use Rattle.form_needs.specs.Needed.{asked_of};
-ghost use Rattle.kept_forms.specs.Settling.{Settles};
+ghost use Rattle.kept_forms.specs.Settling.{Settles, Stops};
 ghost use Rattle.kept_forms.specs.Tables.{all_forms, is_searching};
 ghost use Rattle.kept_forms.specs.FromKeptTables.{AreRight};
 ghost use Rattle.kept_forms.specs.FromKeptTables.{MakesFew};
@@ -67,6 +67,9 @@ pub(crate) fn settle<L: Ledger>(
     requires right { AreRight (book_of linked.now.book.now) (all_forms tables.old) }
     requires listed { of.now.sheet.0 < length searching.now }
     ensures settled { IfOk result (Settles (book_of linked.now.book.now)
+        (is_searching searching.now) of.now.sheet.0 (parts_stated linked.now.book.now
+        of.now.sheet.0 (statement_of of.now)) tables.old tables.new) }
+    ensures stopped { OnErr result (Stops (book_of linked.now.book.now)
         (is_searching searching.now) of.now.sheet.0 (parts_stated linked.now.book.now
         of.now.sheet.0 (statement_of of.now)) tables.old tables.new) }
     ensures right { AreRight (book_of linked.now.book.now) (all_forms tables.new) }
