@@ -13,11 +13,12 @@ use Rattle.sheet_linear_model.specs.Prepared.{Prepared}
 use Rattle.kept_book.specs.FromSheetSolving.{Opened, Task, whole_task}
 use Rattle.commands.specs.declared.answer.Answer.{Answer}
 use Rattle.commands.specs.declared.answer.Answer.TheVariants as answer
-use Rattle.commands.specs.Commands.{Spoken, Set, Clear, Name, Unname, Show, Model as ToModel, Solve, Prices, Begin, Slice, Stop, Budget, Save, Unknown}
+use Rattle.commands.specs.Commands.{Spoken, Set, Clear, Name, Unname, Show, Model as ToModel, Solve, Prices, Begin, Slice, Stop, Budget, Cert, Save, Unknown}
 use Rattle.commands.specs.Locating.{cell_named, or_unknown, sheet_named, units_named}
 use Rattle.session.specs.Cuts.{Begins, Cut, Sliced, Slices, cut, cut_of, search_or, sheet_to_begin, sheet_to_stop}
 use Rattle.session.specs.Edits.{and_then, cell_to_set, home_to_name, home_to_unname}
 use Rattle.session.specs.Laws.{OtherSearchesStay, OthersStay, SearchesAreApart, SheetsStay, searched, none, more}
+use Rattle.session.specs.Certificates.{TellsCertificate}
 use Rattle.session.specs.Prices.{TellsPrices}
 use Rattle.session.specs.Saves.{Saves}
 use Rattle.session.specs.Solves.{SearchEnds, WithModel}
@@ -153,6 +154,9 @@ module _ (sheet : ℕ) (before : SessionState) (after : SessionState) where
   applies rule (Prices name) a h other =
       does _ _ before (sheet_named before.book.sheets name) a after
       (λ i e w. with_model (StaysAt sheet before after) (TellsPrices before) before i a after (λ p d. stays d.2) stays w) stays h
+  applies rule (Cert name) a h other =
+      does _ _ before (sheet_named before.book.sheets name) a after
+      (λ i e w. with_model (StaysAt sheet before after) (TellsCertificate rule before) before i a after (λ p d. stays d.1) stays w) stays h
   applies rule (Begin name) a h other =
       does _ _ before (sheet_to_begin before name) a after
       (λ i e w. with_model (StaysAt sheet before after) (Begins before i) before i a after

@@ -11,6 +11,7 @@ use Rattle.commands.specs.declared.answer.Answer.{Answer}
 use Rattle.commands.specs.declared.answer.Answer.TheVariants as answer
 use Rattle.session.specs.Cuts.{Slices as CutSlices, cut}
 use Rattle.session.specs.Models.{Models}
+use Rattle.session.specs.Certificates.{CertifiesSheet, TellsCertificate}
 use Rattle.session.specs.Prices.{PricesSheet, TellsPrices}
 use Rattle.session.specs.Solves.{SearchEnds, SolvesSheet, WithModel}
 use Rattle.session.specs.States.{SessionState, open_search}
@@ -37,6 +38,9 @@ module _ {E : Type 0} (before : SessionState) (sheet : ℕ) (stop : NoModel) (r 
 
   pub none_priced : IfOk r (λ a. PricesSheet before sheet a before)
   none_priced = none_made (TellsPrices before)
+
+  pub none_certified : (rule : Rule) → IfOk r (λ a. CertifiesSheet rule before sheet a before)
+  none_certified rule = none_made (TellsCertificate rule before)
 
   pub none_sliced : (rule : Rule) (units : ℕ)
       → IfOk r (λ a. (search : Opened) → open_search before sheet ≡ Some search → WithModel (CutSlices rule before (cut sheet units search)) before sheet a before)

@@ -9,7 +9,7 @@ use Rattle.kept_tables.specs.Commands as kept
 use Rattle.kept_tables.specs.Settled.{Parts}
 use Rattle.kept_tables.specs.Steps.{MakesFew}
 use Rattle.sheet_linear_model.specs.FromKeptForms.{all_forms}
-use Rattle.commands.specs.Commands.{Begin, Budget, Model as ToModel, Prices, Save, Show, Slice, Solve, Spoken, Stop, Unknown}
+use Rattle.commands.specs.Commands.{Begin, Budget, Cert, Model as ToModel, Prices, Save, Show, Slice, Solve, Spoken, Stop, Unknown}
 use Rattle.commands.specs.Locating.{or_unknown, sheet_named}
 use Rattle.commands.specs.declared.answer.Answer.{Answer}
 use Rattle.commands.specs.declared.answer.Answer.TheVariants as answer
@@ -54,6 +54,9 @@ module _ (before after : Session) (name : List ℕ) (sheet : ℕ) (place : place
 
   pub prices_follow : (a : Answer) → FollowsModel before sheet after → FollowsCommand before (Prices name) a after
   prices_follow a h = modelled_as before after (Prices name) a sheet (needed_by before.state (sheet_named before.state.book.sheets name) sheet named) refl h
+
+  pub certificate_follows : (a : Answer) → FollowsModel before sheet after → FollowsCommand before (Cert name) a after
+  certificate_follows a h = modelled_as before after (Cert name) a sheet (needed_by before.state (sheet_named before.state.book.sheets name) sheet named) refl h
 
   solve_edits : (a : Answer) (cells : List Cell) → AreWritten before.state sheet a cells → Edits before.state (Solve name) a after.state cells
   solve_edits (answer.Optimal value) cells h = (sheet, h.0, place, h.1, h.2)

@@ -13,6 +13,7 @@ pub mod Leaving
 pub mod Naming
 pub mod Numbered
 pub mod Priced
+pub mod Certified
 pub mod Refused
 pub mod Said
 pub mod Stopping

@@ -9,12 +9,13 @@ use Rattle.sheet_linear_model.specs.Prepared.{Prepared}
 use Rattle.kept_book.specs.FromSheetSolving.{Task, whole_task}
 use Rattle.commands.specs.declared.answer.Answer.{Answer}
 use Rattle.commands.specs.declared.answer.Answer.TheVariants as answer
-use Rattle.commands.specs.Commands.{Spoken, Set, Clear, Name, Unname, Show, Model as ToModel, Solve, Prices, Begin, Slice, Stop, Budget, Save, Unknown}
+use Rattle.commands.specs.Commands.{Spoken, Set, Clear, Name, Unname, Show, Model as ToModel, Solve, Prices, Begin, Slice, Stop, Budget, Cert, Save, Unknown}
 use Rattle.commands.specs.Lines.{is_refusal}
 use Rattle.commands.specs.Locating.{cell_named, sheet_named, units_named}
 use Rattle.session.specs.Cuts.{Begins, Cut, Sliced, Slices, cut_of, sheet_to_begin, sheet_to_stop}
 use Rattle.session.specs.Edits.{cell_to_set, home_to_name, home_to_unname}
 use Rattle.session.specs.Laws.{IsUnchanged, RefusedChangesNothing}
+use Rattle.session.specs.Certificates.{TellsCertificate}
 use Rattle.session.specs.Prices.{TellsPrices}
 use Rattle.session.specs.Saves.{Saves}
 use Rattle.session.specs.Solves.{SearchEnds, WithModel}
@@ -84,6 +85,8 @@ module _ (sheets : List (List ℕ)) where
   applies rule before after (Solve name) a r h =
       does _ before (sheet_named before.book.sheets name) a after
       (λ i w. with_model (λ (p : Prepared). SearchEnds (whole_task rule before.budget) before p.statement p.model) before i a after (λ p d. same before after (search_ends _ before p.statement p.model a after d r)) w) h
+  applies rule before after (Cert name) a r h =
+      does _ before (sheet_named before.book.sheets name) a after (λ i w. with_model (TellsCertificate rule before) before i a after (λ p d. same before after d.1) w) h
   applies rule before after (Prices name) a r h =
       does _ before (sheet_named before.book.sheets name) a after (λ i w. with_model (TellsPrices before) before i a after (λ p d. same before after d.2) w) h
   applies rule before after (Begin name) a r h =

@@ -10,7 +10,7 @@ use Rattle.solver_names.specs.Stated.{statement_in}
 use Rattle.solver_names.specs.Statement.{Statement}
 use Rattle.commands.specs.declared.answer.Answer.{Answer}
 use Rattle.commands.specs.declared.answer.Answer.TheVariants as answer
-use Rattle.commands.specs.Commands.{Spoken, Set, Clear, Name, Unname, Model, Solve, Prices, Begin, Slice}
+use Rattle.commands.specs.Commands.{Spoken, Set, Clear, Name, Unname, Model, Solve, Prices, Begin, Slice, Cert}
 use Rattle.commands.specs.Locating.{cell_named, sheet_named}
 use Rattle.kept_tables.specs.Commands as kept
 use Rattle.sheet_linear_model.specs.FromKeptForms.{all_forms}
@@ -40,6 +40,7 @@ sheet_modelled s (Solve name) = sheet_or (sheet_named s.book.sheets name)
 sheet_modelled s (Prices name) = sheet_or (sheet_named s.book.sheets name)
 sheet_modelled s (Begin name) = sheet_or (sheet_to_begin s name)
 sheet_modelled s (Slice name units) = sheet_or (and_then (cut_of s name units) (λ (c : Cut). Ok c.sheet))
+sheet_modelled s (Cert name) = sheet_or (sheet_named s.book.sheets name)
 sheet_modelled s command = None
 
 -- a sheet, if its names have no fault

@@ -10,6 +10,7 @@ pub mod Kept
 pub mod Laws
 pub mod Models
 pub mod Prices
+pub mod Certificates
 pub mod Saves
 pub mod Solves
 pub mod States

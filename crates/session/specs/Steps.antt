@@ -9,9 +9,10 @@ use Rattle.workbook.specs.Kinds.{book_of}
 use Rattle.workbook.specs.Naming.{after_name, after_unname}
 use Rattle.commands.specs.declared.answer.Answer.{Answer}
 use Rattle.commands.specs.declared.answer.Answer.TheVariants as answer
-use Rattle.commands.specs.Commands.{Spoken, Set, Clear, Name, Unname, Show, Model, Solve, Prices, Begin, Slice, Stop, Budget, Save, Unknown}
+use Rattle.commands.specs.Commands.{Spoken, Set, Clear, Name, Unname, Show, Model, Solve, Prices, Begin, Slice, Stop, Budget, Cert, Save, Unknown}
 use Rattle.commands.specs.Locating.{cell_named, sheet_named, units_named}
 use Rattle.session.specs.Edits.{cell_to_set, home_to_name, home_to_unname}
+use Rattle.session.specs.Certificates.{CertifiesSheet}
 use Rattle.session.specs.Models.{Models}
 use Rattle.session.specs.Prices.{PricesSheet}
 use Rattle.session.specs.Saves.{Saves}
@@ -52,7 +53,7 @@ abbrev pub ModelsSheet : SessionState → ℕ → Answer → SessionState → Ty
 ModelsSheet before sheet a after = Models before.book sheet a × (after ≡ before)
 
 -- ---- all commands
--- a solve and a slice open the nodes of their searches by the rule of the picker that they are lent
+-- a solve, a slice and a certificate open the nodes of their searches by the rule of the picker that they are lent
 abbrev pub Applies : Rule → SessionState → Spoken → Answer → SessionState → Type 0
 Applies rule before (Set address text) a after = Does (λ cell. IsDone (with_text before cell text)) before (cell_to_set before.book address text) a after
 Applies rule before (Clear address) a after = Does (λ cell. IsDone (with_text before cell [])) before (cell_named before.book.sheets address) a after
@@ -66,6 +67,7 @@ Applies rule before (Begin sheet) a after = Does (λ i. WithModel (Begins before
 Applies rule before (Slice sheet units) a after = Does (λ (c : Cut). WithModel (Slices rule before c) before c.sheet) before (cut_of before sheet units) a after
 Applies rule before (Stop sheet) a after = Does (Stops before) before (sheet_to_stop before sheet) a after
 Applies rule before (Budget units) a after = Does (λ n. IsDone (with_budget before n)) before (units_named units) a after
+Applies rule before (Cert sheet) a after = Does (CertifiesSheet rule before) before (sheet_named before.book.sheets sheet) a after
 Applies rule before Save a after = Saves before a after
 Applies rule before Unknown a after = (a ≡ answer.UnknownCommand) × (after ≡ before)
 

@@ -1,6 +1,7 @@
 //! A session: a workbook, and the commands of a script on it.
 #![tactic(auto)]
 
+mod certificates;
 mod edits;
 mod laws;
 mod models;

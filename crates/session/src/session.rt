@@ -3,6 +3,7 @@ ghost use Rattle.std.specs.Prelude.{◌-◌, ◌≡◌, ◌≤◌, IfOk, OnErr, 
 ghost use Rattle.commands.specs.Commands.{Show, spoken};
 ghost use Rattle.commands.specs.Lines.{CanBeSaid};
 ghost use Rattle.commands.specs.Locating.{cell_named};
+ghost use Rattle.kept_tables.specs.Settled.{AreRight};
 ghost use Rattle.session.specs.Completeness.{IsComplete};
 ghost use Rattle.session.specs.Inner.{FollowsCommand};
 ghost use Rattle.session.specs.Interrupted.{IsInterrupted, IsUntouched};
@@ -10,6 +11,8 @@ ghost use Rattle.session.specs.Kept.{CountsFew, KeepsForms};
 ghost use Rattle.session.specs.Laws.{Counts, OthersStay};
 ghost use Rattle.session.specs.States.{opened};
 ghost use Rattle.session.specs.Steps.{Applies, Does, Shows};
+ghost use Rattle.sheet_linear_model.specs.FromKeptForms.{all_forms};
+ghost use Rattle.workbook.specs.Kinds.{book_of};
 
 use crate::open_searches::no_searches;
 use cell_refs::{Cell, SheetNames};
@@ -96,7 +99,7 @@ impl Session {
         self.book.extractions()
     }
 
-    /// Does what the command says. Each form that is made is a step.
+    /// Does what the command says. Each form that is made is a step. Also where memory runs out each form that is kept is that of its place.
     pub fn apply<L: Ledger>(
         &mut self,
         command: &Command,
@@ -118,11 +121,14 @@ impl Session {
             (IsComplete (rule pick.old) self.old.state (spoken command.now)) }
         ensures keeps { IfOk result
             (λ answer. KeepsForms self.old (spoken command.now) answer self.new) }
+        ensures right { AreRight (book_of self.new.state.book) (all_forms self.new.tables) }
         ensures counted { steps.old ≤ steps.new }
         ensures few { CountsFew self.old (spoken command.now) (steps.new - steps.old) }
     {
         self.book.forms_are_right();
-        self.follow(command, pick, steps)
+        let answer = self.follow(command, pick, steps);
+        self.book.forms_are_right();
+        answer
     }
 
     // Does what the command says.
@@ -163,6 +169,7 @@ impl Session {
             }
             Command::Stop(sheet) => Ok(self.stop(sheet.as_str())),
             Command::Budget(units) => Ok(self.set_budget(units.as_str())),
+            Command::Cert(sheet) => self.certify(sheet.as_str(), pick, steps),
             Command::Save => self.save(),
             Command::Unknown => Ok(Answer::UnknownCommand),
         }

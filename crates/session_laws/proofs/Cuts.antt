@@ -28,6 +28,7 @@ use Rattle.session_laws.proofs.Valid.{model_is_valid}
 same_written : (a b : Answer) (cells : List Cell) (s : SessionState) → SameAnswer a b → with_written a cells s ≡ with_written b cells s
 same_written (answer.ToSave files) (answer.ToSave others) cells s h = refl
 same_written (answer.Prices lines) (answer.Prices others) cells s h = refl
+same_written (answer.Cert c) (answer.Cert d) cells s h = refl
 same_written (answer.Names fault) (answer.Names other) cells s h = refl
 same_written (answer.WidePivot path basis leaves enters) (answer.WidePivot steps given out entered) cells s h = refl
 same_written a b cells s h = ap (λ (x : Answer). with_written x cells s) h

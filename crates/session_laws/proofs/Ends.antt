@@ -33,12 +33,12 @@ none_or_some e = absurd cc
 module _ (task : Task) (m : Model) (before : State) (st : Statement) where
   -- ---- a search that is over
   -- an optimum is written, or a cell has no room for its number
-  data Writes (x : Assignment) (a : Answer) (after : State) : Type 0 where
+  pub data Writes (x : Assignment) (a : Answer) (after : State) : Type 0 where
     written : (value : Option ℚ) → a ≡ answer.Optimal value → IsSolved before after st x value → Writes x a after
     no_room : (c : Cell) → a ≡ answer.NoRoom c → HasNoRoom before st x c → after ≡ before → Writes x a after
 
   -- what is answered where the search answers this
-  abbrev Answers : answers.Answer → Answer → State → Type 0
+  abbrev pub Answers : answers.Answer → Answer → State → Type 0
   Answers (answers.optimal x v) a after = Writes x a after
   Answers answers.infeasible a after = (a ≡ answer.Infeasible) × (after ≡ before)
   Answers (answers.unbounded x d) a after = (a ≡ answer.Unbounded) × (after ≡ before)
@@ -55,7 +55,7 @@ module _ (task : Task) (m : Model) (before : State) (st : Statement) where
   one_told (answers.unbounded x d) a b i j h k = (h.0 ∙ sym k.0, h.1 ∙ sym k.1)
 
   -- ---- where a search stands after so many units, and what is answered
-  data AtEnd (n : ℕ) (s : trails.State) (a : Answer) (after : State) : Type 0 where
+  pub data AtEnd (n : ℕ) (s : trails.State) (a : Answer) (after : State) : Type 0 where
     over : (end : answers.Answer) → EndsWith m s end → Answers end a after → AtEnd n s a after
     wide : (path : Vec PathStep Global) (basis : Vec ℕ Global) (leaves enters : ℕ) → a ≡ answer.WidePivot path basis leaves enters
         → StandsAt task st.decisions n s path.items basis.items leaves enters → after ≡ before → AtEnd n s a after
@@ -76,7 +76,7 @@ module _ (task : Task) (m : Model) (before : State) (st : Statement) where
 
   module _ (follows : Follows m task) where
     -- no units of the task go on from there
-    end_is_last : (t : Searched task m) (a : Answer) (after : State) → AtEnd (length t.units) t.state a after → IsLast m task follows t
+    pub end_is_last : (t : Searched task m) (a : Answer) (after : State) → AtEnd (length t.units) t.state a after → IsLast m task follows t
     end_is_last t a after (over end e told) = over_last m task follows t e.at_rest e.over
     end_is_last t a after (wide path basis leaves enters is stands same) = wide_last m task follows t stands.steps basis.items leaves enters stands.wide
     end_is_last t a after (spent k is count whole leaf same) = spent_last m task follows t (subst (λ (l : ℕ). task.budget ≤ l) count whole)
@@ -102,7 +102,7 @@ module _ (task : Task) (m : Model) (before : State) (st : Statement) where
 
     -- ---- all ends
     -- of ends after as many units, at one state
-    same_end : (us : List trails.SearchUnit) (n : ℕ) (s : trails.State) (a b : Answer) (i j : State) → trails.Trail m free us s → AtEnd n s a i → AtEnd n s b j → SameAnswer a b × (i ≡ j)
+    pub same_end : (us : List trails.SearchUnit) (n : ℕ) (s : trails.State) (a b : Answer) (i j : State) → trails.Trail m free us s → AtEnd n s a i → AtEnd n s b j → SameAnswer a b × (i ≡ j)
     same_end us n s a b i j trail (over end e told) (over fin f also) =
         let all = one_answer m s in
         let same : end ≡ fin = all.2 end e.says ∙ sym (all.2 fin f.says) in

@@ -13,11 +13,12 @@ use Rattle.session.specs.FromSheetLinearModel.{Prepared}
 use Rattle.session.specs.FromSheetSolving.{Opened, Searched, Task, total, whole_task}
 use Rattle.commands.specs.declared.answer.Answer.{Answer}
 use Rattle.commands.specs.declared.answer.Answer.TheVariants as answer
-use Rattle.commands.specs.Commands.{Spoken, Set, Clear, Name, Unname, Show, Model as ToModel, Solve, Prices, Begin, Slice, Stop, Budget, Save, Unknown}
+use Rattle.commands.specs.Commands.{Spoken, Set, Clear, Name, Unname, Show, Model as ToModel, Solve, Prices, Begin, Slice, Stop, Budget, Cert, Save, Unknown}
 use Rattle.commands.specs.Locating.{cell_named, sheet_named, units_named}
 use Rattle.session.specs.Cuts.{Begins, Cut, HasWritten, IsUnderWay, Resumes, Sliced, Slices, cut_of, sheet_to_begin, sheet_to_stop}
 use Rattle.session.specs.Edits.{cell_to_set, home_to_name, home_to_unname}
 use Rattle.session.specs.Interrupted.{IsInterrupted}
+use Rattle.session.specs.Certificates.{TellsCertificate}
 use Rattle.session.specs.Prices.{TellsPrices}
 use Rattle.session.specs.Saves.{Saves}
 use Rattle.session.specs.Solves.{SearchEnds, WithModel, with_written}
@@ -141,6 +142,8 @@ module _ (before after : SessionState) (stand : AllStand before.searches) where
       stays_same h
   applies rule (Prices name) a h =
       does _ _ before (sheet_named before.book.sheets name) a after (λ i e w. with_model (AllStand after.searches) (TellsPrices before) before i a after (λ p d. stays_same d.2) stays_same w) stays_same h
+  applies rule (Cert name) a h =
+      does _ _ before (sheet_named before.book.sheets name) a after (λ i e w. with_model (AllStand after.searches) (TellsCertificate rule before) before i a after (λ p d. stays_same d.1) stays_same w) stays_same h
   applies rule (Begin name) a h =
       does _ _ before (sheet_to_begin before name) a after
       (λ i e w. with_model (AllStand after.searches) (Begins before i) before i a after
@@ -191,7 +194,11 @@ module _ (rule : Rule) (before after : SessionState) (stand : SearchesHaveTrails
   interrupted (Slice name units) (inl h) = untouched h.1
   interrupted (Slice name units) (inr h) =
       under_way h.0 (stand h.0.sheet h.0.search (is_open (open_search before) (units_named units) (place_in before.book.sheets name) h.0 h.1)) h.2
-  interrupted command h = applied command h.1
+  interrupted (Set address text) h = applied (Set address text) h.1
+  interrupted (Name sheet name text) h = applied (Name sheet name text) h.1
+  interrupted (Unname sheet name) h = applied (Unname sheet name) h.1
+  interrupted (Solve sheet) h = applied (Solve sheet) h.1
+  interrupted command h = untouched h.1
 
 pub trails_are_kept : TrailsAreKept
 trails_are_kept = record {

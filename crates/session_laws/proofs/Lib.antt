@@ -9,6 +9,7 @@ pub mod Cuts
 pub mod Runs
 pub mod Priced
 pub mod Prices
+pub mod Certified
 pub mod Shown
 pub mod Named
 pub mod Kept

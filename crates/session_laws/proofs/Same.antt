@@ -15,6 +15,7 @@ same_fault_itself f = refl
 same_itself : (a : Answer) → SameAnswer a a
 same_itself (answer.ToSave files) = refl
 same_itself (answer.Prices lines) = (refl, refl)
+same_itself (answer.Cert c) = (refl, refl, refl)
 same_itself (answer.Names fault) = same_fault_itself fault
 same_itself (answer.WidePivot path basis leaves enters) = (refl, refl, refl, refl)
 same_itself a = refl

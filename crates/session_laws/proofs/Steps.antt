@@ -7,10 +7,11 @@ use Rattle.session.specs.FromSheetLinearModel.{Prepared}
 use Rattle.session.specs.FromSheetSolving.{whole_task}
 use Rattle.commands.specs.declared.answer.Answer.{Answer}
 use Rattle.commands.specs.declared.answer.Answer.TheVariants as answer
-use Rattle.commands.specs.Commands.{Spoken, Set, Clear, Name, Unname, Show, Model as ToModel, Solve, Prices, Begin, Slice, Stop, Budget, Save, Unknown}
+use Rattle.commands.specs.Commands.{Spoken, Set, Clear, Name, Unname, Show, Model as ToModel, Solve, Prices, Begin, Slice, Stop, Budget, Cert, Save, Unknown}
 use Rattle.commands.specs.Locating.{cell_named, sheet_named, units_named}
 use Rattle.session.specs.Cuts.{Begins, Cut, Slices, cut_of, sheet_to_begin, sheet_to_stop}
 use Rattle.session.specs.Edits.{cell_to_set, home_to_name, home_to_unname}
+use Rattle.session.specs.Certificates.{TellsCertificate}
 use Rattle.session.specs.Prices.{TellsPrices}
 use Rattle.session.specs.Solves.{SearchEnds}
 use Rattle.session.specs.States.{SessionState, open_search, opened}
@@ -20,6 +21,7 @@ use Rattle.session_laws.specs.Laws.{CommandsAreDetermined, SearchesHaveTrails, S
 use Rattle.session_laws.proofs.Cuts.{ends_once, slice_once, whole_follows, with_model_once}
 use Rattle.session_laws.proofs.Kept.{steps_keep, trails_are_kept}
 use Rattle.session_laws.proofs.Named.{is_open}
+use Rattle.session_laws.proofs.Certified.{certified_once}
 use Rattle.session_laws.proofs.Prices.{prices_once}
 use Rattle.session_laws.proofs.Same.{equal_are_same}
 use Rattle.session_laws.proofs.Shown.{models_once, saves_once, shows_once}
@@ -54,6 +56,15 @@ module _ (before m n : SessionState) (a b : Answer) where
         does_once _ (sheet_named before.book.sheets name)
         (λ i e d f. with_model_once (TellsPrices before) before m n i a b (λ p is x y. (prices_once p before.budget a b x.0 y.0, x.2 ∙ sym y.2)) d f)
         h k
+    applies_once (Cert name) h k =
+        does_once _ (sheet_named before.book.sheets name)
+        (λ i e d f. with_model_once (TellsCertificate rule before) before m n i a b
+        (λ p is x y. (
+          certified_once (whole_task rule before.budget) p.model before.book p.statement (whole_follows rule before.budget p.model named (model_is_valid before.book i p is)) a b x.0 y.0,
+          x.1 ∙ sym y.1,
+        ))
+        d f)
+        h k
     applies_once (Begin name) h k = does_once _ (sheet_to_begin before name) (λ i e d f. with_model_once (Begins before i) before m n i a b (λ p is x y. equal _ _ x y) d f) h k
     applies_once (Slice name units) h k =
         does_once _ (cut_of before name units)
@@ -69,6 +80,7 @@ module _ (before m n : SessionState) (a b : Answer) where
 same_saved : (a b : Answer) (s : SessionState) → SameAnswer a b → once_written a s ≡ once_written b s
 same_saved (answer.ToSave files) (answer.ToSave others) s h = refl
 same_saved (answer.Prices lines) (answer.Prices others) s h = refl
+same_saved (answer.Cert c) (answer.Cert d) s h = refl
 same_saved (answer.Names fault) (answer.Names other) s h = refl
 same_saved (answer.WidePivot path basis leaves enters) (answer.WidePivot steps given out entered) s h = refl
 same_saved a b s h = ap (λ (x : Answer). once_written x s) h
