@@ -3,6 +3,8 @@
 
     check_cases.py examples                 prints a case for each workbook of examples/, with a certificate that is made here
     check_cases.py random COUNT [SEED]      prints cases of random models: each with its certificate, and with one or two of its numbers changed
+    check_cases.py scripts CASES            prints a case for each certificate that scripts of cases of crates/answers ask for by `cert`, but for
+                                            those whose files are large
     check_cases.py compare CASES ANSWERS    compares what a program printed of cases, but for its last line, with what must come
 
 Certificates are made by bench/second_reading/certificates.py, and what must come is told by bench/second_reading/checking.py, which knows
@@ -13,16 +15,19 @@ import random
 import re
 import sys
 
+from second_reading import rows
 from second_reading.book import opened
 from second_reading.cases import Reader, lines
 from second_reading.certificates import TooLarge, certificate_of
 from second_reading.checking import run
 from second_reading.model import Refused
+from second_reading.run import Words
 from second_reading.session import Session
 from second_reading.simplex import WidePivot
 
 HERE = os.path.dirname(os.path.abspath(__file__))
 EXAMPLES = os.path.join(HERE, '..', 'examples')
+MOST_BYTES = 20000
 
 
 # ---- cases that are made
@@ -38,7 +43,7 @@ def print_cases(name, names, sheets, texts):
         print('\n'.join(['file ' + word] + lines(data)))
     for said, text in texts:
         print('\ncase %s%s' % (name, said))
-        print('words --names names.csv --cert cert.txt ' + ' '.join(word for word, _ in sheets))
+        print('words --names names.csv --cert cert.txt ' + ' '.join("'%s'" % word if ' ' in word else word for word, _ in sheets))
         print('\n'.join(['with ' + name, 'file cert.txt'] + lines(text.encode())))
     print()
 
@@ -119,6 +124,52 @@ def random_cases(count, seed):
             print_cases('random model %d' % number, names, sheets, texts)
 
 
+# ---- certificates of scripts
+class Certified(Session):
+    """Keeps the files and the text of each certificate, those of one kind once."""
+
+    def __init__(self, *parts):
+        super().__init__(*parts)
+        self.made = []
+
+    def do_cert(self, sheet_name):
+        text = super().do_cert(sheet_name)
+        words = sorted(self.words, key=lambda word: word != self.words[self.sheet(sheet_name)])
+        sheets = [(word, written(self.book.records(self.words.index(word)))) for word in words]
+        found = (self.names_word, written(self.book.name_records())), sheets, text + '\n'
+        if found not in self.made:
+            self.made.append(found)
+        return text
+
+
+def written(records):
+    return rows.write(records).encode('latin-1')
+
+
+def print_scripted(case):
+    """Prints the workbooks and the certificates of a case of crates/answers."""
+    read = Words(word.encode('utf-8').decode('latin-1') for word in case.words)
+    files, script = {name: bytes(data) for name, data in case.files}, bytes(case.script)
+    if not (read.is_right and b'cert,' in script):
+        return
+    names, sheets = read.options['names'], [(word, files[word]) for word in read.files]
+    if sum(map(len, files.values())) > MOST_BYTES:
+        return
+    session = Certified(opened((names, files[names]), sheets), read.files, names, read.budget, read.pick)
+    for record in rows.read(rows.text_of(script)):
+        session.answer(record)
+    for place, (names, sheets, text) in enumerate(session.made, 1):
+        print_cases(case.name + (', number %d' % place if len(session.made) > 1 else ''), names, sheets, [('', text)])
+
+
+def scripts(cases):
+    reader = Reader(print_scripted)
+    with open(cases, encoding='utf-8') as file:
+        for line in file.read().split('\n'):
+            reader.take(line)
+    reader.end()
+
+
 # ---- what must come
 class Checks(Reader):
     """Reads cases of checks: a file takes the place of one of its name."""
@@ -182,6 +233,8 @@ def main():
         return examples()
     if kind == 'random' and len(rest) in (1, 2):
         return random_cases(int(rest[0]), int(rest[1]) if len(rest) == 2 else 1)
+    if kind == 'scripts' and len(rest) == 1:
+        return scripts(*rest)
     if kind == 'compare' and len(rest) == 2:
         return compare(*rest)
     sys.exit(__doc__)

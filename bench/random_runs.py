@@ -28,9 +28,9 @@ from second_reading.run import outcome
 
 SECONDS = 60
 LINE = re.compile(
-    rb'(ok|empty|number \S+|text ".*|logical (TRUE|FALSE)|error #\S+|optimal( \S+)?|infeasible|unbounded|begun|more \d+|stopped'
+    rb'(ok|empty( .*)?|number \S+|text ".*|logical (TRUE|FALSE)|error #\S+|optimal( \S+)?|infeasible|unbounded|begun|more \d+|stopped'
     rb'|saved \d+|gen \d+ .*|usage: .*|limit [a-z]+ \d+|bad-input .*|refused [a-z]+.*|(max|min|reach) .*|none|row .*|cell .*'
-    rb'|different .*|end)')
+    rb'|different .*|(cert|point|ray|split|best|clash)( .*)?|end)')
 
 
 class Slow(Exception):

@@ -4,7 +4,7 @@ from .fraction import floor, printed
 from .model import standard
 from .search import first_alike
 from .simplex import Dictionary
-from .values import ONE, ZERO
+from .values import ONE
 
 MOST_NODES = 300
 
@@ -36,23 +36,9 @@ def ended(program):
     return dictionary
 
 
-def leaf(word, dictionary, objective):
-    """A leaf with the multipliers of the rows that an objective's row of the dictionary has at their slacks."""
-    entries = dict(zip(dictionary.columns, dictionary.rows[objective]))
-    rows = range(1, len(dictionary.basic) + 1)
-    multipliers = [(row, -entries.get(dictionary.count + row, ZERO)) for row in rows]
-    return [word] + ['%d:%s' % (row, printed(number)) for row, number in multipliers if number]
-
-
-def ray_of(dictionary, columns, count):
-    """The direction along the column that nothing holds back."""
-    _, column = dictionary.bland(-2)
-    steps = {dictionary.columns[column]: ONE}
-    steps.update({variable: dictionary.rows[place][column] for place, variable in enumerate(dictionary.basic)})
-    ray = [ZERO] * count
-    for variable, (decision, sign) in enumerate(columns, 1):
-        ray[decision] += sign * steps.get(variable, ZERO)
-    return ray
+def leaf(word, multipliers):
+    """The words of a leaf."""
+    return [word] + ['%d:%s' % (row, printed(number)) for row, number in multipliers]
 
 
 class Endless(Exception):
@@ -82,12 +68,12 @@ class Making:
         columns, rows, objective = program = standard(self.model, lows, highs, self.is_flat)
         dictionary = ended(program)
         if dictionary.end == 'unbounded':
-            raise Endless(ray_of(dictionary, columns, len(lows)))
+            raise Endless(dictionary.direction(columns, len(lows)))
         if dictionary.end == 'infeasible':
-            self.nodes.append(leaf('empty', dictionary, -1))
+            self.nodes.append(leaf('empty', dictionary.multipliers()))
             return
         if self.greatest is not None and dictionary.value <= self.greatest:
-            self.nodes.append(leaf('best', dictionary, -2))
+            self.nodes.append(leaf('best', dictionary.multipliers()))
             return
         self.branch(dictionary, dictionary.point(columns, len(lows)), lows, highs)
 
@@ -99,7 +85,7 @@ class Making:
         alike = first_alike(self.model.groups, point)
         if alike is None:
             self.point, self.greatest = point, dictionary.value
-            self.nodes.append(['best'] if self.is_flat else leaf('best', dictionary, -2))
+            self.nodes.append(['best'] if self.is_flat else leaf('best', dictionary.multipliers()))
             return
         for decision in alike:
             if lows[decision] != highs[decision]:

@@ -59,7 +59,7 @@ class Case:
         for row in range(5, 10):
             for column in 'ABCD':
                 script.append(['name', self.sheets[0], 'solver_opt', column + str(row)])
-                script.append([self.pick('model', 'model', 'prices', 'solve'), self.sheets[0]])
+                script.append([self.pick('model', 'model', 'prices', 'solve', 'cert'), self.sheets[0]])
         return self.files(sheets, script)
 
     # Runs that show cells.
@@ -154,7 +154,7 @@ class Case:
             'neg': self.pick('1', '1', '2'), 'val': number(),
         }
         self.names = [['plan', 'solver_' + name, text] for name, text in texts.items()]
-        script = [['model', 'plan'], ['prices', 'plan'], ['solve', 'plan'], ['begin', 'plan'], ['slice', 'plan', '2'], ['slice', 'plan', '30'], ['save']]
+        script = [['model', 'plan'], ['prices', 'plan'], ['cert', 'plan'], ['solve', 'plan'], ['begin', 'plan'], ['slice', 'plan', '2'], ['slice', 'plan', '30'], ['save']]
         return self.files([sheet], script)
 
     # Runs over decision cells in a few rows, many of them to be different from each other.
@@ -208,6 +208,7 @@ class Case:
                 ['set', 'plan!%s' % self.pick('B%d' % (height + 2), self.random.choice(cells)), self.pick('1', '4', '8')],
                 ['name', 'plan', 'solver_rel%s' % self.pick('1', '2'), self.pick('1', '3', '4', '6', '6')], ['model', 'plan'],
                 ['name', 'plan', 'solver_typ', self.pick('1', '2', '3')], ['prices', 'plan'], ['budget', self.pick('20', '1000')],
+                ['cert', 'plan'], ['cert', 'plan'],
             ))
         return script + [['show', 'plan!%s' % cell] for cell in cells] + [['save']]
 
@@ -273,8 +274,10 @@ class Case:
             chosen = self.random.random()
             if chosen < 0.2:
                 script.append(['model', sheet])
-            elif chosen < 0.45:
+            elif chosen < 0.37:
                 script.append(['solve', sheet])
+            elif chosen < 0.45:
+                script.append(['cert', sheet])
             elif chosen < 0.52:
                 script.append(['begin', sheet])
             elif chosen < 0.66 and self.chance(0.7 if ['begin', sheet] in script else 0.1):

@@ -51,13 +51,19 @@ class Stuck(Exception):
 
 
 class Search:
-    """`answer` is None, or ('optimal', point, value), ('infeasible',) or ('unbounded',)."""
+    """`answer` is None, or ('optimal', point, value), ('infeasible',) or ('unbounded', point, ray).
+
+    `ends` says of each node that was opened, by its number, what became of it: ('split', decision, floor, the number of the lower part),
+    ('clash', decision, other), or a leaf, ('best', multipliers) or ('empty', multipliers). `parts` has the number of its parent and which part
+    of it it is, and `root` is the number of the last root.
+    """
 
     def __init__(self, model):
         self.model, self.units, self.answer = model, 0, None
         self.waiting, self.numbers = [Waiting(0, 0, None)], 1
         self.is_flat = False
-        self.node = self.dictionary = self.best = self.columns = None
+        self.node = self.dictionary = self.best = self.columns = self.ray = None
+        self.ends, self.parts, self.root = {}, {}, 0
 
     def run(self, units, choose):
         """Makes at most so many units more, until it has an answer."""
@@ -73,13 +79,26 @@ class Search:
     def open(self, node):
         self.waiting.remove(node)
         self.node = node
-        self.lows, self.highs = list(self.model.lows), list(self.model.highs)
-        for decision, is_upper, bound in node.path:
-            bounds, tighter = (self.lows, max) if is_upper else (self.highs, min)
-            bounds[decision] = bound if bounds[decision] is None else tighter(bounds[decision], bound)
+        self.lows, self.highs = self.box(node.path)
         program = standard(self.model, self.lows, self.highs, self.is_flat)
         self.columns = program[0]
         self.dictionary = Dictionary(program)
+
+    def box(self, path):
+        """The bounds of a node with this path."""
+        lows, highs = list(self.model.lows), list(self.model.highs)
+        for decision, is_upper, bound in path:
+            bounds, tighter = (lows, max) if is_upper else (highs, min)
+            bounds[decision] = bound if bounds[decision] is None else tighter(bounds[decision], bound)
+        return lows, highs
+
+    def path(self, number):
+        """The parts that lead from its root to a node."""
+        path = []
+        while number in self.parts:
+            number, part = self.parts[number]
+            path.insert(0, part)
+        return path
 
     def make_pivot(self):
         try:
@@ -97,16 +116,19 @@ class Search:
             self.end_unbounded()
             return
         value = self.dictionary.value
+        self.ends[node.number] = 'best' if end == 'best' else 'empty', self.dictionary.multipliers()
         if end == 'best' and (self.best is None or value > self.best[1]):
             self.end_best(node, value)
         if self.answer is None and not self.waiting:
             self.answer = ('infeasible',) if self.best is None else ('optimal',) + self.best
 
     def end_unbounded(self):
+        count = len(self.model.whole)
+        self.ray = self.dictionary.direction(self.columns, count)
         if not any(self.model.whole):
-            self.answer = ('unbounded',)
+            self.answer = 'unbounded', self.dictionary.point(self.columns, count), self.ray
             return
-        self.is_flat = True
+        self.is_flat, self.root = True, self.numbers
         self.waiting = [Waiting(self.numbers, 0, None)]
         self.numbers += 1
 
@@ -122,7 +144,7 @@ class Search:
             return
         self.best = point, value
         if self.is_flat:
-            self.answer = ('unbounded',)
+            self.answer = 'unbounded', point, self.ray
         elif not self.model.objective.terms and self.model.objective.base == 0:
             self.answer = ('optimal',) + self.best
 
@@ -133,9 +155,12 @@ class Search:
             if low != high:
                 self.split(node, value, decision, number - 1 if low < number else number)
                 return
+        self.ends[node.number] = ('clash',) + alike
 
     def split(self, node, value, decision, low):
+        self.ends[node.number] = 'split', decision, low, self.numbers
         for is_upper, bound in ((False, low), (True, low + 1)):
             path = node.path + [(decision, is_upper, bound)]
+            self.parts[self.numbers] = node.number, path[-1]
             self.waiting.append(Waiting(self.numbers, node.depth + 1, value, path))
             self.numbers += 1

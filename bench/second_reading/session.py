@@ -8,14 +8,15 @@ from .fraction import printed
 from .model import Building, Refused, side_form
 from .prices import price_lines
 from .search import PICKERS, Search, Stuck
+from .search_certificates import certificate
 from .statement import NamesFault, Reading
 from .tokens import COLUMNS, ROWS, column, is_name, lower, row, unquoted
 from .values import EMPTY, Fault, is_number
 
 ADDRESS = re.compile(r"""(\$?'(?:[^']|'')*'|[A-Za-z_$\x80-\xff][A-Za-z0-9_$\x80-\xff]*)[!.]\$?([A-Za-z]+)\$?([0-9]+)\Z""", re.ASCII)
 FIELDS = {
-    'set': 3, 'clear': 2, 'name': 4, 'unname': 3, 'show': 2, 'model': 2, 'solve': 2, 'prices': 2, 'begin': 2, 'slice': 3, 'stop': 2,
-    'budget': 2, 'save': 1,
+    'set': 3, 'clear': 2, 'name': 4, 'unname': 3, 'show': 2, 'model': 2, 'solve': 2, 'prices': 2, 'cert': 2, 'begin': 2, 'slice': 3,
+    'stop': 2, 'budget': 2, 'save': 1,
 }
 MOST_UNITS, MOST_SEARCHES = 10 ** 6, 8
 PLAIN = re.compile(r'[A-Za-z_\x80-\xff][A-Za-z0-9_\x80-\xff]*\Z', re.ASCII)
@@ -216,6 +217,14 @@ class Session:
         ready = self.prepared(self.sheet(sheet_name))
         return self.ended(Search(ready.model), self.budget, ready)[0]
 
+    def do_cert(self, sheet_name):
+        ready = self.prepared(self.sheet(sheet_name))
+        search, value = Search(ready.model), None
+        self.make_units(search, self.budget, ready)
+        if search.answer[0] == 'optimal' and ready.statement.objective is not None:
+            value = value_at(ready.shown, search.answer[1])
+        return certificate(search, value).text().removesuffix('\n')
+
     def do_begin(self, sheet_name):
         sheet = self.sheet(sheet_name)
         if len(set(self.searches) - {sheet}) >= MOST_SEARCHES:
@@ -250,17 +259,21 @@ class Session:
 
     def ended(self, search, units, ready):
         """The answer after so many units more, and whether the search stays open."""
-        try:
-            search.run(min(units, max(self.budget - search.units, 0)), self.pick)
-        except Stuck as stuck:
-            raise Refused(self.stuck(stuck, ready.statement.decisions)) from stuck
+        self.make_units(search, units, ready)
         if search.answer is None:
-            if search.units >= self.budget:
-                raise Refused('budget %d' % search.units)
             return 'more %d' % search.units, True
         if search.answer[0] != 'optimal':
             return search.answer[0], False
         return self.written_back(search.answer[1], ready), False
+
+    def make_units(self, search, units, ready):
+        """Makes at most so many units more, until the search has an answer or the budget is spent."""
+        try:
+            search.run(min(units, max(self.budget - search.units, 0)), self.pick)
+        except Stuck as stuck:
+            raise Refused(self.stuck(stuck, ready.statement.decisions)) from stuck
+        if search.answer is None and search.units >= self.budget:
+            raise Refused('budget %d' % search.units)
 
     def stuck(self, stuck, decisions):
         splits = ['%s%s%d' % (self.cell(decisions[number]), '>=' if is_upper else '<=', bound)

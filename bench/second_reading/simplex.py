@@ -107,6 +107,23 @@ class Dictionary:
                 values[decision] += sign * constant
         return values
 
+    def multipliers(self):
+        """The rows, counted from 1, whose slacks have an entry that isn't 0 in the last objective's row, with that entry negated; the
+        objective is that of phase 1 where there is no point."""
+        entries = dict(zip(self.columns, self.rows[-1 if self.end == 'infeasible' else -2]))
+        found = [(row, -entries.get(self.count + row, ZERO)) for row in range(1, len(self.basic) + 1)]
+        return [(row, number) for row, number in found if number]
+
+    def direction(self, columns, count):
+        """How the decisions move while the column that nothing holds back rises by 1."""
+        _, column = self.bland(-2)
+        steps = {self.columns[column]: ONE}
+        steps.update({variable: self.rows[place][column] for place, variable in enumerate(self.basic)})
+        ray = [ZERO] * count
+        for variable, (decision, sign) in enumerate(columns, 1):
+            ray[decision] += sign * steps.get(variable, ZERO)
+        return ray
+
     @property
     def value(self):
         return self.constants[-2]
