@@ -4,7 +4,8 @@
 usage: run_tools.py PROGRAM
 
 Workbooks go there and back (books/), models go to LP and MPS text and from words to names and back (models/), answers are reported,
-doubtful texts are listed (slips/). Where a library isn't installed, a line says what is left out. Ends with 1 where anything failed.
+doubtful texts are listed (slips/). The certificates of some workbooks are made, and checked by `optcheck` as it was built beside PROGRAM. Where
+a library isn't installed, or `optcheck` isn't built, a line says what is left out. Ends with 1 where anything failed.
 """
 import importlib.util
 import os
@@ -18,6 +19,8 @@ import odd_books
 
 HERE = os.path.dirname(os.path.abspath(__file__))
 TOOLS = os.path.join(HERE, "..", "tools")
+CERTIFIED = {"mix": "optimal 31", "diet": "optimal 67131/11540", "jobs": "optimal 76", "knapsack": "optimal 1949", "fraction": "optimal 7/3",
+             "infeasible": "infeasible", "unbounded": "unbounded"}
 LIBRARIES = {"xlsx": "openpyxl", "ods": "odf"}
 
 
@@ -198,11 +201,33 @@ def doubts(program):
         tool("doubtful", "quote.csv", folder=place, status=1)
 
 
+def certificates(program):
+    """Certificates by each picker; `optcheck` says yes to each, or says nothing where it isn't built."""
+    checker = os.path.join(os.path.dirname(program), "..", "..", "optcheck", "out", "optcheck")
+    if not os.path.exists(checker):
+        print("certificates: not checked, since optcheck isn't built")
+    for name, said in CERTIFIED.items():
+        folder = os.path.join(HERE, name)
+        sheets = sorted((file for file in os.listdir(folder) if file.endswith(".csv") and file not in ("names.csv", "script.csv")),
+                        key=lambda file: file == "data.csv")
+        for pick in ("depth", "best", "oldest"):
+            words = [program, "--names", "names.csv", "--pick", pick, *sheets]
+            made = subprocess.run(words, cwd=folder, input=f"cert,{sheets[0][:-4]}\n", stdout=subprocess.PIPE, encoding="utf-8").stdout
+            same(name, f"cert {said}", made.split("\n")[0])
+            if os.path.exists(checker):
+                with tempfile.TemporaryDirectory() as place:
+                    written(place, "cert.txt", made)
+                    words = [checker, "--names", "names.csv", "--cert", os.path.join(place, "cert.txt"), *sheets]
+                    same(name, f"yes {said}\n", subprocess.run(words, cwd=folder, stdout=subprocess.PIPE, encoding="utf-8").stdout)
+            if (name, pick) == ("mix", "depth"):
+                same("cert.txt", read("mix", "cert.txt"), made)
+
+
 def main(program):
     tests = [(f"bakery.{kind} there and back", lambda program, kind=kind: there_and_back(kind, program), LIBRARIES[kind]) for kind in LIBRARIES]
     tests += [("an odd workbook of Excel", odd_xlsx, LIBRARIES["xlsx"]), ("an odd workbook of LibreOffice", odd_ods, LIBRARIES["ods"])]
     tests += [("LP and MPS texts", texts_of_models, None), ("words and names", words_and_names, None),
-              ("answer reports", reports, None), ("doubtful texts", doubts, None)]
+              ("answer reports", reports, None), ("doubtful texts", doubts, None), ("certificates", certificates, None)]
     failed = 0
     for name, test, library in tests:
         if library and importlib.util.find_spec(library) is None:
