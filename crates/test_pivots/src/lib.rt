@@ -4,8 +4,6 @@
 #[cfg(test)]
 mod kept_entries;
 #[cfg(test)]
-mod largest;
-#[cfg(test)]
 mod plain_rows;
 #[cfg(test)]
 mod transport;

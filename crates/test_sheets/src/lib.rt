@@ -4,13 +4,7 @@
 #[cfg(test)]
 mod books;
 #[cfg(test)]
-mod cells;
-#[cfg(test)]
 mod definition;
-#[cfg(test)]
-mod grids;
-#[cfg(test)]
-mod looks;
 #[cfg(test)]
 mod texts;
 #[cfg(test)]

@@ -9,11 +9,3 @@ pub(crate) fn check(found: &str, want: &str, shows: &str) -> Result<(), Fail> {
     }
     Ok(())
 }
-
-/// Fails where a text doesn't begin as it is to.
-pub(crate) fn check_start(found: &str, want: &str, shows: &str) -> Result<(), Fail> {
-    if !found.starts_with(want) {
-        return Err(Fail::new(format_args!("{shows}: {found} and not {want}")));
-    }
-    Ok(())
-}

@@ -2,8 +2,6 @@
 #![tactic(auto)]
 
 #[cfg(test)]
-mod edits;
-#[cfg(test)]
 mod reach;
 #[cfg(test)]
 mod written;
