@@ -8,3 +8,6 @@ pub mod Others
 pub mod Quoted
 pub mod SheetReading
 pub mod Columns
+pub mod Numbers
+pub mod Positions
+pub mod SameCells

@@ -4,4 +4,6 @@ pub mod StoredAreas
 pub mod Address
 pub mod ErrorText
 pub mod Names
+pub mod Listed
 pub mod Sheets
+pub mod Units

@@ -2,7 +2,7 @@
 ghost use Rattle.std.specs.Prelude.{◌≡◌, ◌≢◌, ◌<◌, ◌++◌, ◌∷◌, ◌↔◌, [], ℕ, length, IfSome, IfNone, IfOk, OnErr, IsErrOf, IsOk, IsTrue, slice_get, Some, map, option_map, string_bytes, ◌≤◌};
 ghost use Rattle.cell_refs.specs.Names.{IsNamed, place_in};
 
-use crate::{SHEETS, SheetId};
+use crate::{Memory, SHEETS, SheetId};
 use std::alloc::Global;
 use std::marker::Model;
 use thiserror::Error;
@@ -86,6 +86,14 @@ impl SheetNames {
         Ok(SheetId(count as u8))
     }
 
+    /// A copy.
+    pub fn copy(&self) -> Result<SheetNames, Memory>
+        ensures { IfOk result (λ copy. copy ≡ self.now) }
+    {
+        let names = copies(*self.names.allocator(), &self.names)?;
+        Ok(SheetNames { names })
+    }
+
     /// The name of a sheet.
     pub fn at(&self, id: SheetId) -> &str
         requires { id.0 < length self.now }
@@ -108,6 +116,17 @@ impl SheetNames {
         };
         Some(SheetId(place as u8))
     }
+}
+
+// Each name once more.
+fn copies(alloc: Global, names: &[String]) -> Result<Vec<String>, Memory>
+    ensures { IfOk result (λ v. map string_bytes v.items ≡ map string_bytes names.now) }
+{
+    let mut made = Vec::new(alloc);
+    for name in names {
+        made.push(String::from_str(alloc, name.as_str())?)?;
+    }
+    Ok(made)
 }
 
 // The first place of a name that is the same but for case.

@@ -1,6 +1,6 @@
 -- What is read of the words, by its texts.
 use Rattle.std.specs.Prelude.{◌≡◌, ◌<◌, ◌≤◌, true, All, length, string_bytes}
-use Rattle.commands.specs.declared.units.TheConstants.{MOST_UNITS}
+use Rattle.cell_refs.specs.declared.units.TheConstants.{MOST_UNITS}
 use Rattle.command_line.specs.Words.{Asked, Job, MadeUp, Named, Pick, Script, best, depth, is_sheet, most_made_up, oldest, texts_of}
 use Rattle.command_line.specs.declared.words.Asked as asked_words
 use Rattle.command_line.specs.declared.words.Asked.TheVariants as asked

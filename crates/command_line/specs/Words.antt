@@ -4,7 +4,7 @@ use Rattle.std.specs.Option.{option_and_then}
 use Rattle.std.specs.Global.{Global}
 use Rattle.std.specs.List.{list_all, slice_split}
 use Rattle.clap.specs.Words.{Row, all_of, fault_of, first_of, matches_of}
-use Rattle.commands.specs.Locating.{number_up_to, units_in}
+use Rattle.cell_refs.specs.Units.{number_up_to, units_in}
 use Rattle.command_line.specs.Line.{the_app}
 
 -- the file of the names and those of the sheets

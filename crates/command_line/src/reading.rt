@@ -9,8 +9,8 @@ use crate::line::{files_in, matches_in, more_is_given, value_of};
 use crate::sheets::are_sheets;
 use crate::values::{budget_of, pick_of};
 use crate::words::{Asked, Job, MOST_MADE_UP, Named};
+use cell_refs::number_up_to;
 use clap::ArgMatches;
-use commands::number_up_to;
 use memory::Memory;
 use std::alloc::Global;
 

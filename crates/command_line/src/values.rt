@@ -1,11 +1,11 @@
 // The values of options.
 ghost use Rattle.std.specs.Prelude.{◌≡◌, ◌≤◌, IfSome, option_map};
-ghost use Rattle.commands.specs.declared.units.TheConstants.{MOST_UNITS};
+ghost use Rattle.cell_refs.specs.declared.units.TheConstants.{MOST_UNITS};
 ghost use Rattle.command_line.specs.Read.{pick_read};
 ghost use Rattle.command_line.specs.Words as line;
 
 use crate::words::{DEFAULT_BUDGET, Pick};
-use commands::units_in;
+use cell_refs::units_in;
 
 /// How many units a search may spend, of the text that is given.
 pub(crate) fn budget_of(text: Option<&str>) -> Option<u64>

@@ -10,7 +10,7 @@ use Rattle.fractions.specs.Whole.{whole_ℚ}
 use Rattle.cell_refs.specs.declared.cell.Cell.{Cell}
 use Rattle.sheet_model.specs.declared.value.Value.TheVariants as value
 use Rattle.solver_names.specs.declared.fault.NamesFault.TheVariants as names
-use Rattle.workbook.specs.declared.place.Place.TheVariants as place
+use Rattle.cell_refs.specs.declared.place.Place.TheVariants as place
 use Rattle.form_needs.specs.declared.refusal.FormRefusal.TheVariants as form
 use Rattle.commands.specs.declared.answer.Answer.TheVariants as answer
 use Rattle.commands.specs.declared.answer.Answer.{Answer}

@@ -2,7 +2,6 @@ mod Examples
 pub mod FromSheetProblems
 pub mod Marks
 pub mod Naming
-pub mod Numbers
 pub mod Others
 pub mod Quotes
 pub mod Saying

@@ -11,7 +11,8 @@ use Rattle.std.proofs.Math.Seq.{take-append_seam, drop-append_seam}
 use Rattle.cell_refs.specs.Address.{behind_letters, column_number, letter_count_of, letters_of, without_dollar}
 use Rattle.cell_refs.specs.Sheets.{sheet_in}
 use Rattle.cell_refs.proofs.SheetReading.{sheets_are_spelled}
-use Rattle.commands.specs.Addresses.{Address, marked_address, address_of, at_last_mark, is_mark, is_number, is_place, placed, with_byte}
+use Rattle.commands.specs.Addresses.{Address, marked_address, address_of, at_last_mark, is_mark, is_place, placed, with_byte}
+use Rattle.cell_refs.specs.Units.{is_number}
 use Rattle.commands.specs.Spelling.{IsDollar, SpellsMarked}
 use Rattle.commands.proofs.Marks.{all_digits, last_at}
 use Rattle.commands.proofs.Spelled.{both}

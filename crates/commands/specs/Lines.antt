@@ -4,7 +4,7 @@ use Rattle.cell_refs.specs.ErrorText.{error_text}
 use Rattle.frac128.specs.Printed.{printed}
 use Rattle.sheet_model.specs.declared.value.Value.{Value}
 use Rattle.sheet_model.specs.declared.value.Value.TheVariants as value
-use Rattle.workbook.specs.Listed.{IsListed}
+use Rattle.cell_refs.specs.Listed.{IsListed}
 use Rattle.model_lines.specs.Cells.{cell_with_sheet}
 use Rattle.model_lines.specs.Lines.{model_text}
 use Rattle.commands.specs.declared.answer.Answer.{Answer}

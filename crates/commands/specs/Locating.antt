@@ -1,14 +1,13 @@
 -- What the texts of a record name: a cell, a sheet, a number of units. Where they name none, what is answered.
 use Rattle.std.specs.Prelude.{ℕ, ◌-◌, Bool, ◌&&◌, nat_le, if◌then◌else◌, List, Option, Some, None, Result, Ok, Err}
-use Rattle.std.specs.Str.Parse.{digits_value}
 use Rattle.cell_refs.specs.declared.cell.Cell.{Cell}
 use Rattle.cell_refs.specs.declared.limits.TheConstants.{COLUMNS, ROWS}
 use Rattle.cell_refs.specs.Names.{place_in}
+use Rattle.cell_refs.specs.Units.{units_in}
 use Rattle.workbook.specs.Files.{sheet_in}
 use Rattle.commands.specs.declared.answer.Answer.{Answer}
 use Rattle.commands.specs.declared.answer.Answer.TheVariants as answer
-use Rattle.commands.specs.declared.units.TheConstants.{MOST_UNITS}
-use Rattle.commands.specs.Addresses.{Address, marked_address, is_number}
+use Rattle.commands.specs.Addresses.{Address, marked_address}
 
 -- ---- cells
 -- its row and its column are those of a sheet
@@ -42,17 +41,6 @@ abbrev pub sheet_or_book : List (List ℕ) → List ℕ → Result (Option ℕ) 
 sheet_or_book sheets name = or_unknown (sheet_in sheets name)
 
 -- ---- numbers of units
-abbrev pub within : ℕ → ℕ → Option ℕ
-within most n = if nat_le 1 n && nat_le n most then Some n else None
-
--- a whole number in digits, from 1 on and no more than the most
-abbrev pub number_up_to : ℕ → List ℕ → Option ℕ
-number_up_to most text = if is_number text then within most (digits_value 10 text) else None
-
--- how many units may be spent
-abbrev pub units_in : List ℕ → Option ℕ
-units_in text = number_up_to MOST_UNITS text
-
 abbrev pub or_bad : Option ℕ → Result ℕ Answer
 or_bad (Some n) = Ok n
 or_bad None = Err answer.BadNumber

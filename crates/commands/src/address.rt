@@ -2,7 +2,8 @@
 ghost use Rattle.std.specs.Prelude.{◌≡◌, ◌<◌, ◌≤◌, ℕ, IfNone, IfOk, IfSome, false, length, option_map, slice_index, true};
 ghost use Rattle.std.specs.Char.{is_ascii_alphabetic, is_ascii_digit};
 ghost use Rattle.std.specs.List.{list_all, prefix_len};
-ghost use Rattle.commands.specs.Addresses.{at_last_mark, is_mark, is_number, is_place};
+ghost use Rattle.commands.specs.Addresses.{at_last_mark, is_mark, is_place};
+ghost use Rattle.cell_refs.specs.Units.{is_number};
 
 use cell_refs::skip_dollar;
 

@@ -12,9 +12,9 @@ mod price_lines;
 mod refusals;
 mod save_file;
 mod sheet;
-mod units;
 
 pub use answer::{Answer, PathStep};
+pub use cell_refs::{MOST_UNITS, number_up_to, units_in};
 pub use command::Command;
 pub use laws::{addresses_are_spelled, certificates_are_printed};
 pub use lines::line;
@@ -22,4 +22,3 @@ pub use locating::locate;
 pub use price_lines::{PriceLine, PriceLines};
 pub use save_file::SaveFile;
 pub use sheet_model::Memory;
-pub use units::{MOST_UNITS, number_up_to, units_in};

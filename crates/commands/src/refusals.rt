@@ -2,7 +2,7 @@
 ghost use Rattle.std.specs.Prelude.{◌≡◌, ◌++◌, All, OnOk, codes, decimal, map, string_bytes};
 ghost use Rattle.std.specs.Fmt.{signed_decimal};
 ghost use Rattle.std.specs.List.{AllByRecursion, join_with_byte};
-ghost use Rattle.workbook.specs.Listed.{IsListed};
+ghost use Rattle.cell_refs.specs.Listed.{IsListed};
 ghost use Rattle.model_lines.specs.Cells.{cell_with_sheet};
 ghost use Rattle.commands.specs.Preceded.{preceded};
 ghost use Rattle.commands.specs.Refusals.{FaultIsListed, PlaceIsListed, RefusalIsListed, StepIsListed, names_text, path_text, pivot_text, place_text, refusal_text, sign_text, span_text, step_text};

@@ -69,20 +69,7 @@ module _ {K : Type 0} {R : K → K → Ordering} (total : IsTotalOrder R) (exact
         more : (n : ℕ) → n + 1 ≡ suc n
         more n = omega arith
 
--- ---- cells and numbers
-both_true : (b c : Bool) → (b && c) ≡ true → (b ≡ true) × (c ≡ true)
-both_true true c h = (refl, h)
-both_true false c h = absurd cc
-
-pub same_cells : (a b : Cell) → is_same_cell a b ≡ true → a ≡ b
-same_cells a b h =
-    let sheets = both_true (a.sheet.0 == b.sheet.0) ((a.row == b.row) && (a.col == b.col)) h in
-    let others = both_true (a.row == b.row) (a.col == b.col) sheets.1 in
-    λ i. record { sheet = record { 0 = eqb-true a.sheet.0 b.sheet.0 sheets.0 i }; row = eqb-true a.row b.row others.0 i; col = eqb-true a.col b.col others.1 i }
-
-pub same_itself : (a : Cell) → is_same_cell a a ≡ true
-same_itself a = λ i. (eq-eqb a.sheet.0 a.sheet.0 refl i) && ((eq-eqb a.row a.row refl i) && (eq-eqb a.col a.col refl i))
-
+-- ---- numbers
 pub same_numbers : (a b : ℕ) → (a == b) ≡ true → a ≡ b
 same_numbers a b h = eqb-true a b h
 

@@ -9,8 +9,8 @@ use Rattle.recalculation.specs.Recalculation.{val}
 use Rattle.recalculation.specs.Walks.{has_walk, is_circular, is_formula, steps_to}
 use Rattle.form_values.specs.Entries.{open_decision}
 use Rattle.form_values.specs.declared.abs.Abs.TheVariants.{Affine}
-use Rattle.workbook.specs.declared.place.Place.{Place}
-use Rattle.workbook.specs.declared.place.Place.TheVariants as place
+use Rattle.cell_refs.specs.declared.place.Place.{Place}
+use Rattle.cell_refs.specs.declared.place.Place.TheVariants as place
 use Rattle.form_extraction.specs.declared.forms.CellForm.TheVariants.{Circular, Form}
 use Rattle.form_extraction.specs.Formulas.{part_of}
 use Rattle.form_extraction.specs.Places.{Decisions, decision_or, entry_form, form_in, form_of, formula_form, numbered_in, overriding}

@@ -7,7 +7,7 @@ use Rattle.recalculation.specs.Entries.{Book, Entry, Constant, Formula, Malforme
 use Rattle.form_values.specs.Entries.{open_decision}
 use Rattle.form_values.specs.declared.abs.Abs.{Abs}
 use Rattle.form_values.specs.declared.abs.Abs.TheVariants.{Known, Affine}
-use Rattle.workbook.specs.declared.place.Place.TheVariants as place
+use Rattle.cell_refs.specs.declared.place.Place.TheVariants as place
 use Rattle.form_extraction.specs.declared.forms.CellForm.{CellForm}
 use Rattle.form_extraction.specs.Places.{form_in, numbered_in}
 use Rattle.extract.specs.Tables.{Table, form_at}

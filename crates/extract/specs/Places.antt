@@ -11,8 +11,8 @@ use Rattle.recalculation.specs.Walks.{is_circular, is_formula}
 use Rattle.affine_forms.specs.Forms.{Assignment}
 use Rattle.form_values.specs.Meaning.{abs_at}
 use Rattle.form_values.specs.declared.abs.Abs.{Abs}
-use Rattle.workbook.specs.declared.place.Place.{Place}
-use Rattle.workbook.specs.declared.place.Place.TheVariants as place
+use Rattle.cell_refs.specs.declared.place.Place.{Place}
+use Rattle.cell_refs.specs.declared.place.Place.TheVariants as place
 use Rattle.form_extraction.specs.declared.forms.CellForm.{CellForm}
 use Rattle.form_extraction.specs.declared.forms.CellForm.TheVariants.{Form, Refused}
 use Rattle.form_extraction.specs.declared.forms.Why.{Why}

@@ -3,8 +3,8 @@ use Rattle.std.specs.Prelude.{ℕ, ◌+◌, Option}
 use Rattle.std.specs.FinMap.{FinMap, empty, get, insert, remove, len}
 use Rattle.std.specs.Ordering.{nat_cmp}
 use Rattle.cell_refs.specs.Cells.{cell_cmp}
-use Rattle.workbook.specs.declared.place.Place.{Place}
-use Rattle.workbook.specs.declared.place.Place.TheVariants as place
+use Rattle.cell_refs.specs.declared.place.Place.{Place}
+use Rattle.cell_refs.specs.declared.place.Place.TheVariants as place
 use Rattle.form_extraction.specs.declared.forms.CellForm.{CellForm}
 
 pub record Table : Type 0 where

@@ -2,7 +2,7 @@
 ghost use Rattle.std.specs.Prelude.{◌≡◌, IfOk, is_some};
 ghost use Rattle.recalculation.specs.Entries.{entry};
 ghost use Rattle.workbook.specs.Kinds.{book_of};
-ghost use Rattle.workbook.specs.declared.place.Place.TheVariants as place;
+ghost use Rattle.cell_refs.specs.declared.place.Place.TheVariants as place;
 ghost use Rattle.extract.specs.Knowing.{form_kept, form_said, known_form};
 ghost use Rattle.extract.specs.Tables.{form_at};
 

@@ -1,6 +1,6 @@
 // Tables of forms.
 ghost use Rattle.std.specs.Prelude.{◌≡◌, OnErr, OnOk, option_map};
-ghost use Rattle.workbook.specs.declared.place.Place.TheVariants as place;
+ghost use Rattle.cell_refs.specs.declared.place.Place.TheVariants as place;
 ghost use Rattle.extract.specs.Tables.{form_at, form_count, no_forms, with_form, without};
 
 use cell_refs::Cell;
@@ -26,7 +26,7 @@ impl Model for FormTable {
     ghost use Rattle.std.specs.Coded.{code_by, codes, coded×, coded_ℕ};
     ghost use Rattle.cell_refs.specs.Cells.{cell_cmp, coded_cell};
     ghost use Rattle.form_extraction.specs.declared.forms.CellForm.{CellForm};
-    ghost use Rattle.workbook.specs.declared.place.Place.TheVariants as place;
+    ghost use Rattle.cell_refs.specs.declared.place.Place.TheVariants as place;
     ghost use Rattle.extract.specs.Tables.{Table};
 
     ghost Value = { Table };

@@ -2,8 +2,8 @@
 use Rattle.std.proofs.Common.{◌≡◌, Some, sym, subst, ◌∙◌}
 use Rattle.cell_refs.specs.declared.cell.Cell.{Cell}
 use Rattle.recalculation.specs.Entries.{Book}
-use Rattle.workbook.specs.declared.place.Place.{Place}
-use Rattle.workbook.specs.declared.place.Place.TheVariants as place
+use Rattle.cell_refs.specs.declared.place.Place.{Place}
+use Rattle.cell_refs.specs.declared.place.Place.TheVariants as place
 use Rattle.needed_forms.specs.FromFormExtraction.{CellForm}
 use Rattle.needed_forms.specs.FromFormExtraction.{numbered_in}
 use Rattle.kept_marks.specs.Marks.{AreForms, HasEntry, KeptForms}

@@ -6,11 +6,11 @@ use Rattle.std.specs.FinMap.{contains_key-keys, keys, len, nat_cmp-IsAntisymmetr
 use Rattle.std.specs.FinSet as set
 use Rattle.std.specs.List.{find, list_any, position_or_len}
 use Rattle.std.proofs.lemmas.List.{take_more}
-use Rattle.std.proofs.lemmas.Bool.{eq-eqb, eqb-true}
 use Rattle.std.proofs.lemmas.Bool.Decides.{nat_tests}
 use Rattle.std.specs.Ordering.{eq_by_cmp, nat_cmp}
 use Rattle.cell_refs.specs.Cells.{cell_cmp, is_same_cell}
 use Rattle.cell_refs.specs.declared.cell.Cell.{Cell}
+use Rattle.cell_refs.proofs.SameCells.{same_cells as equal_cells, same_itself}
 use Rattle.cell_refs.proofs.Order.{cells_total, exact_cells}
 use Rattle.formula_ast.specs.Tree.{Tree}
 use Rattle.dep_table.specs.Order.{HasFree, IsOrder}
@@ -19,8 +19,8 @@ use Rattle.recalculation.specs.Walks.{has_walk, is_circular, is_formula, refers,
 use Rattle.recalculation.proofs.Circles.{formula_text, found_text}
 use Rattle.recalculation.proofs.Lists.{both}
 use Rattle.workbook.specs.Contents.{tree_of as tree_of_entry}
-use Rattle.workbook.specs.declared.place.Place.{Place}
-use Rattle.workbook.specs.declared.place.Place.TheVariants as place
+use Rattle.cell_refs.specs.declared.place.Place.{Place}
+use Rattle.cell_refs.specs.declared.place.Place.TheVariants as place
 use Rattle.needed_forms.specs.FromFormExtraction.{CellForm}
 use Rattle.needed_forms.specs.FromFormExtraction.{Circular}
 use Rattle.needed_forms.specs.FromFormExtraction.{decision_or, entry_form, form_of, formula_form, numbered_in}
@@ -62,17 +62,6 @@ same_cells a b h = exact_cells a b (equal_of (cell_cmp a b) h)
 
 itself : (a : Cell) → eq_by_cmp cell_cmp a a ≡ true
 itself a = (eq_by_cmp_equiv cells_total).refl a
-
-both_equal : (a b : Cell) → is_same_cell a b ≡ true → (a.sheet.0 ≡ b.sheet.0) × (a.row ≡ b.row) × (a.col ≡ b.col)
-both_equal a b h =
-    let others = second_true (a.sheet.0 == b.sheet.0) ((a.row == b.row) && (a.col == b.col)) h in
-    (eqb-true a.sheet.0 b.sheet.0 (first_true (a.sheet.0 == b.sheet.0) _ h), eqb-true a.row b.row (first_true (a.row == b.row) _ others), eqb-true a.col b.col (second_true (a.row == b.row) (a.col == b.col) others))
-
-equal_cells : (a b : Cell) → is_same_cell a b ≡ true → a ≡ b
-equal_cells a b h = let e = both_equal a b h in λ i. record { sheet = record { 0 = e.0 i }; row = e.1 i; col = e.2 i }
-
-same_itself : (a : Cell) → is_same_cell a a ≡ true
-same_itself a = λ i. (eq-eqb a.sheet.0 a.sheet.0 refl i) && ((eq-eqb a.row a.row refl i) && (eq-eqb a.col a.col refl i))
 
 zero_below : (n : ℕ) → true ≡ nat_lt 0 (suc n)
 zero_below n = grind (arith, nat_tests)

@@ -19,8 +19,8 @@ use Rattle.recalculation.specs.Walks.{refers}
 use Rattle.recalculation.proofs.Lists.{both, first_true, second_true}
 use Rattle.column_strips.specs.Affected.{has_cell}
 use Rattle.dep_table.specs.Affected.{AreAffected}
-use Rattle.workbook.specs.declared.place.Place.{Place}
-use Rattle.workbook.specs.declared.place.Place.TheVariants as place
+use Rattle.cell_refs.specs.declared.place.Place.{Place}
+use Rattle.cell_refs.specs.declared.place.Place.TheVariants as place
 use Rattle.kept_marks.specs.FromTouchedPlaces.{touches}
 use Rattle.kept_marks.specs.FromTouchedPlaces.{RefersToTouched}
 use Rattle.kept_marks.proofs.FromTouchedPlaces.{touches_what_is_touched}

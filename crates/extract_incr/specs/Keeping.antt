@@ -5,8 +5,8 @@ use Rattle.cell_refs.specs.declared.cell.Cell.{Cell}
 use Rattle.formula_ast.specs.Tree.{Tree}
 use Rattle.recalculation.specs.Entries.{Book, entry}
 use Rattle.recalculation.specs.Walks.{is_circular, is_formula}
-use Rattle.workbook.specs.declared.place.Place.{Place}
-use Rattle.workbook.specs.declared.place.Place.TheVariants as place
+use Rattle.cell_refs.specs.declared.place.Place.{Place}
+use Rattle.cell_refs.specs.declared.place.Place.TheVariants as place
 use Rattle.needed_forms.specs.FromFormExtraction.{CellForm}
 use Rattle.needed_forms.specs.FromFormExtraction.{refers_to_circle}
 use Rattle.needed_forms.specs.FromFormExtraction.{numbered_in}

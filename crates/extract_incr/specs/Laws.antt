@@ -2,7 +2,7 @@
 use Rattle.std.specs.Prelude.{◌≡◌, List, Contains}
 use Rattle.cell_refs.specs.declared.cell.Cell.{Cell}
 use Rattle.recalculation.specs.Entries.{Book}
-use Rattle.workbook.specs.declared.place.Place.{Place}
+use Rattle.cell_refs.specs.declared.place.Place.{Place}
 use Rattle.needed_forms.specs.FromFormExtraction.{numbered_in}
 use Rattle.kept_marks.specs.FromTouchedPlaces.{DifferAt}
 use Rattle.kept_marks.specs.Marks.{marks_all, without_marked}

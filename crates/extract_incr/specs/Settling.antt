@@ -7,8 +7,8 @@ use Rattle.cell_refs.specs.declared.cell.Cell.{Cell}
 use Rattle.formula_ast.specs.Tree.{Tree}
 use Rattle.recalculation.specs.Entries.{Book, Formula, entry}
 use Rattle.recalculation.specs.Walks.{is_circular}
-use Rattle.workbook.specs.declared.place.Place.{Place}
-use Rattle.workbook.specs.declared.place.Place.TheVariants as place
+use Rattle.cell_refs.specs.declared.place.Place.{Place}
+use Rattle.cell_refs.specs.declared.place.Place.TheVariants as place
 use Rattle.needed_forms.specs.FromFormExtraction.{numbered_in}
 use Rattle.needed_forms.specs.FromExtract.{Table, form_at, form_count}
 use Rattle.needed_forms.specs.FromSheetProblems.{Sides, tree_of}

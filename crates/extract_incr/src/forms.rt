@@ -10,7 +10,7 @@ ghost use Rattle.recalculation.specs.Entries.{Book};
 ghost use Rattle.needed_forms.specs.FromSheetProblems.{tree_of};
 ghost use Rattle.kept_marks.specs.FromTouchedPlaces.{touches};
 ghost use Rattle.workbook.specs.Kinds.{book_of};
-ghost use Rattle.workbook.specs.declared.place.Place.{Place};
+ghost use Rattle.cell_refs.specs.declared.place.Place.{Place};
 
 use crate::marking::{SideAreas, areas_of, take_cells, take_sides};
 use crate::settle::settle;

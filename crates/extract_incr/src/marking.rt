@@ -4,7 +4,7 @@ ghost use Rattle.cell_refs.specs.declared.cell.Cell.{Cell};
 ghost use Rattle.column_strips.specs.Affected.{has_cell};
 ghost use Rattle.needed_forms.specs.FromExtract.{form_at, without};
 ghost use Rattle.extract_incr.specs.Marking.{AreAreasOf, have_one, is_side_to};
-ghost use Rattle.workbook.specs.declared.place.Place.TheVariants as place;
+ghost use Rattle.cell_refs.specs.declared.place.Place.TheVariants as place;
 
 use crate::circles::is_any_within;
 use cell_refs::{Area, Cell};

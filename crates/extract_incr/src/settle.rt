@@ -13,7 +13,7 @@ ghost use Rattle.recalculation.specs.Entries.{entry};
 ghost use Rattle.recalculation.specs.Walks.{is_circular, refers};
 ghost use Rattle.needed_forms.specs.FromSheetProblems.{tree_of};
 ghost use Rattle.workbook.specs.Kinds.{book_of};
-ghost use Rattle.workbook.specs.declared.place.Place.TheVariants as place;
+ghost use Rattle.cell_refs.specs.declared.place.Place.TheVariants as place;
 
 use crate::circles::refers_to_circle;
 use crate::stale::{extract_stale, keep};

@@ -7,7 +7,7 @@ ghost use Rattle.extract_incr.specs.Keeping.{AreKept, HaveOwnNumbers, IsStale, i
 ghost use Rattle.extract_incr.specs.Settling.{Goes, IsTreeIn, kept_in, unmade};
 ghost use Rattle.needed_forms.specs.FromSheetProblems.{form_at as form_of_place};
 ghost use Rattle.workbook.specs.Kinds.{book_of};
-ghost use Rattle.workbook.specs.declared.place.Place.TheVariants as place;
+ghost use Rattle.cell_refs.specs.declared.place.Place.TheVariants as place;
 
 use formula_ast::Expr;
 use memory::Memory;

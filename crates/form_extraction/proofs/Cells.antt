@@ -26,8 +26,8 @@ use Rattle.recalculation.proofs.WithinAreas.{each_referred}
 use Rattle.affine_forms.specs.Forms.{Assignment}
 use Rattle.form_values.specs.Meaning.{abs_at}
 use Rattle.form_values.specs.declared.abs.Abs.{Abs}
-use Rattle.workbook.specs.declared.place.Place.{Place}
-use Rattle.workbook.specs.declared.place.Place.TheVariants as place
+use Rattle.cell_refs.specs.declared.place.Place.{Place}
+use Rattle.cell_refs.specs.declared.place.Place.TheVariants as place
 use Rattle.form_extraction.specs.declared.forms.CellForm.TheVariants.{Form, Blocked, Circular}
 use Rattle.form_extraction.specs.declared.forms.CellForm.TheVariants as result
 use Rattle.form_extraction.specs.declared.forms.Why.{Why}

@@ -24,7 +24,7 @@ use Rattle.affine_forms.specs.declared.rel.Rel.TheVariants as rel
 use Rattle.form_values.specs.declared.abs.Abs.{Abs}
 use Rattle.form_values.specs.Entries.{entry, test}
 use Rattle.form_values.specs.declared.abs.Abs.TheVariants.{Known}
-use Rattle.workbook.specs.declared.place.Place.TheVariants as place
+use Rattle.cell_refs.specs.declared.place.Place.TheVariants as place
 use Rattle.form_extraction.specs.declared.forms.CellForm.{CellForm}
 use Rattle.form_extraction.specs.declared.forms.CellForm.TheVariants.{Form, Refused, Blocked}
 use Rattle.form_extraction.specs.declared.forms.Why.TheVariants as why

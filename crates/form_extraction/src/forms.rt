@@ -1,7 +1,6 @@
 // What the extraction of a form comes to.
-use cell_refs::Span;
+use cell_refs::{Place, Span};
 use form_values::{Abs, AbsArg};
-use workbook::Place;
 
 /// Why a part of a formula is refused.
 #[derive(Clone, Copy, Debug, PartialEq, Eq)]

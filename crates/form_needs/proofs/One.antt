@@ -11,8 +11,8 @@ use Rattle.cell_refs.proofs.Order.{cells_total, exact_cells}
 use Rattle.cell_refs.specs.Cells.{cell_cmp}
 use Rattle.cell_refs.specs.declared.cell.Cell.{Cell}
 use Rattle.cell_refs.specs.declared.span.Span.{Span}
-use Rattle.workbook.specs.declared.place.Place.{Place}
-use Rattle.workbook.specs.declared.place.Place.TheVariants as place
+use Rattle.cell_refs.specs.declared.place.Place.{Place}
+use Rattle.cell_refs.specs.declared.place.Place.TheVariants as place
 use Rattle.form_extraction.specs.declared.forms.CellForm.TheVariants.{Refused}
 use Rattle.form_extraction.specs.declared.forms.Why.{Why}
 use Rattle.form_extraction.specs.declared.forms.Why.TheVariants as why

@@ -6,8 +6,8 @@ use Rattle.std.specs.declared.cmp.Ordering.TheVariants.{Less, Greater}
 use Rattle.optimality.specs.Problem.{Assignment}
 use Rattle.cell_refs.specs.Cells.{cell_cmp}
 use Rattle.cell_refs.specs.declared.span.Span.{Span}
-use Rattle.workbook.specs.declared.place.Place.{Place}
-use Rattle.workbook.specs.declared.place.Place.TheVariants as place
+use Rattle.cell_refs.specs.declared.place.Place.{Place}
+use Rattle.cell_refs.specs.declared.place.Place.TheVariants as place
 use Rattle.form_extraction.specs.declared.forms.CellForm.{CellForm}
 use Rattle.form_extraction.specs.declared.forms.CellForm.TheVariants.{Refused, Circular, Malformed}
 use Rattle.form_extraction.specs.declared.forms.Why.{Why}

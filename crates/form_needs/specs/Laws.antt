@@ -1,7 +1,7 @@
 -- A sheet has one first refusal or none, and where nothing is refused, each side and the objective have the form of a number.
 use Rattle.std.specs.Prelude.{◌≡◌, Contains, Option}
 use Rattle.affine_forms.specs.Forms.{AffineForm}
-use Rattle.workbook.specs.declared.place.Place.{Place}
+use Rattle.cell_refs.specs.declared.place.Place.{Place}
 use Rattle.sheet_problems.specs.Forms.{HasForm}
 use Rattle.form_needs.specs.FirstRefusal.{AllNumbers, IsRefusal}
 use Rattle.form_needs.specs.Needed.{Asked}

@@ -7,8 +7,8 @@ use Rattle.formula_ast.specs.Tree.{Tree}
 use Rattle.recalculation.specs.Entries.{Book, Formula}
 use Rattle.workbook.specs.Kinds.{book_of}
 use Rattle.workbook.specs.State.{State}
-use Rattle.workbook.specs.declared.place.Place.{Place}
-use Rattle.workbook.specs.declared.place.Place.TheVariants as place
+use Rattle.cell_refs.specs.declared.place.Place.{Place}
+use Rattle.cell_refs.specs.declared.place.Place.TheVariants as place
 use Rattle.form_extraction.specs.Looked.{LooksAt, LooksFrom, forms_of, refers_to_circle}
 use Rattle.form_extraction.specs.Places.{numbered_in}
 use Rattle.sheet_problems.specs.FromSolverNames.{sides_in}

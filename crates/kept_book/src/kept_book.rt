@@ -1,7 +1,7 @@
 // A workbook of which references and forms are kept.
 ghost use Rattle.std.specs.Prelude.{◌≡◌, ◌<◌, ◌≤◌, ◌-◌, [], ◌∷◌, ℕ, IfErr, IfOk, IfSome, OnErr, false, length, option_map};
 ghost use Rattle.commands.specs.Lines.{CanBeSaid};
-ghost use Rattle.commands.specs.declared.units.TheConstants.{MOST_UNITS};
+ghost use Rattle.cell_refs.specs.declared.units.TheConstants.{MOST_UNITS};
 ghost use Rattle.sheet_solving.specs.FromKeptForms.{all_forms, is_searching};
 ghost use Rattle.kept_book.specs.Kept.{AreMarked, IsFollowed, NamesKept, SetsKept, UnnamesKept, written_cells};
 ghost use Rattle.sheet_solving.specs.FromKeptTables.{AreRight};

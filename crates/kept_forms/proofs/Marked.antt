@@ -4,7 +4,7 @@ use Rattle.std.proofs.Common.{◌≡◌, ◌<◌, ◌+◌, ℕ, Bool, true, fals
 use Rattle.std.proofs.lemmas.List.{drop_more, map_push, map_more, take_more_set}
 use Rattle.cell_refs.specs.declared.cell.Cell.{Cell}
 use Rattle.recalculation.specs.Entries.{Book}
-use Rattle.workbook.specs.declared.place.Place.{Place}
+use Rattle.cell_refs.specs.declared.place.Place.{Place}
 use Rattle.extract_incr.specs.FromFormExtraction.{numbered_in}
 use Rattle.extract_incr.specs.FromKeptMarks.{without_marked}
 use Rattle.extract_incr.specs.FromTouchedPlaces.{touches}

@@ -6,8 +6,8 @@ use Rattle.std.specs.Ordering.{nat_cmp}
 use Rattle.cell_refs.specs.Cells.{cell_cmp}
 use Rattle.recalculation.specs.Entries.{Book}
 use Rattle.recalculation.proofs.Lists.{first_true}
-use Rattle.workbook.specs.declared.place.Place.{Place}
-use Rattle.workbook.specs.declared.place.Place.TheVariants as place
+use Rattle.cell_refs.specs.declared.place.Place.{Place}
+use Rattle.cell_refs.specs.declared.place.Place.TheVariants as place
 use Rattle.extract_incr.specs.FromKeptMarks.{AreForms}
 use Rattle.extract_incr.specs.FromExtract.{form_at, no_forms}
 use Rattle.extract_incr.specs.Keeping.{AllAreKept, AreKept, Kept, count_to_make}

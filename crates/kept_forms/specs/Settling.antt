@@ -1,7 +1,7 @@
 -- The tables after the forms of a sheet were settled, or after memory ran out while they were made.
 use Rattle.std.specs.Prelude.{◌≡◌, ◌⊎◌, ℕ, Bool, List, Option, Some, Contains, is_some}
 use Rattle.recalculation.specs.Entries.{Book}
-use Rattle.workbook.specs.declared.place.Place.{Place}
+use Rattle.cell_refs.specs.declared.place.Place.{Place}
 use Rattle.extract_incr.specs.FromFormExtraction.{CellForm}
 use Rattle.extract_incr.specs.FromKeptMarks.{AreForms}
 use Rattle.kept_tables.specs.Settled.{Parts, SheetForms, decisions_of, expressions_of, with_table}

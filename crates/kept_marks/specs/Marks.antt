@@ -4,8 +4,8 @@ use Rattle.std.specs.List.{list_any}
 use Rattle.cell_refs.specs.declared.cell.Cell.{Cell}
 use Rattle.recalculation.specs.Entries.{Book, entry}
 use Rattle.recalculation.specs.Walks.{is_formula}
-use Rattle.workbook.specs.declared.place.Place.{Place}
-use Rattle.workbook.specs.declared.place.Place.TheVariants as place
+use Rattle.cell_refs.specs.declared.place.Place.{Place}
+use Rattle.cell_refs.specs.declared.place.Place.TheVariants as place
 use Rattle.touched_places.specs.FromFormExtraction.{CellForm}
 use Rattle.touched_places.specs.FromFormExtraction.{Decisions}
 use Rattle.touched_places.specs.Alike.{form_at}

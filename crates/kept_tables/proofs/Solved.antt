@@ -3,7 +3,7 @@ use Rattle.std.specs.Prelude.{is_some, Contains}
 use Rattle.std.proofs.Common.{◌≡◌, inl, inr, true, List, Some, sym, ap, ◌∙◌, subst}
 use Rattle.cell_refs.specs.declared.cell.Cell.{Cell}
 use Rattle.recalculation.specs.Entries.{Book}
-use Rattle.workbook.specs.declared.place.Place.{Place}
+use Rattle.cell_refs.specs.declared.place.Place.{Place}
 use Rattle.kept_marks.specs.FromTouchedPlaces.{DifferAt}
 use Rattle.kept_marks.proofs.Marked.{entry_stays}
 use Rattle.kept_tables.specs.Commands.{Keeps, Kept, LeavesAlone}

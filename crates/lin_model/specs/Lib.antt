@@ -1,4 +1,3 @@
-pub mod Kinds
 pub mod Lists
 pub mod ModelFields
 pub mod Built

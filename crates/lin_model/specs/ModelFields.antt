@@ -1,6 +1,6 @@
 -- A `LinModel` as a linear model.
 use Rattle.linear_models.specs.Model.{Model}
-use Rattle.lin_model.specs.Kinds.{goal_of}
+use Rattle.optimality.specs.Kinds.{goal_of}
 use Rattle.lin_model.specs.Lists.{lists_of}
 use Rattle.lin_model.specs.declared.model.LinModel.TheInside.{Inside}
 

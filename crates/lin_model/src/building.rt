@@ -10,11 +10,10 @@ ghost use Rattle.linear_models.specs.Model.{IsValid};
 ghost use Rattle.linear_models.specs.Linear.{form_or_zero, objective_left, rows_left};
 ghost use Rattle.lin_model.specs.Built.{IsBuilt};
 ghost use Rattle.lin_model.specs.Inner.{AreBuilt, AreForms};
-ghost use Rattle.lin_model.specs.Kinds.{goal_of};
+ghost use Rattle.optimality.specs.Kinds.{goal_of};
 
 use crate::conditions::Conditions;
 use crate::groups::copy_groups;
-use crate::kinds::Goal;
 use crate::model::{FormRow, LinModel};
 use crate::rows::{push_reaching, rows_left};
 use crate::stop::BuildStop;
@@ -22,6 +21,7 @@ use crate::tightest::{bounds, marks};
 use affine_forms::{Form, FormStop};
 use frac128::Frac;
 use memory::Memory;
+use optimality::Goal;
 use std::alloc::Global;
 
 // The objective of the model: 0 where a value is to be reached, and where there is no objective.

@@ -1,10 +1,10 @@
 // What is stated beside the forms.
 ghost use Rattle.std.specs.Prelude.{◌≡◌};
 ghost use Rattle.std.specs.Option.{option_map};
-ghost use Rattle.lin_model.specs.Kinds.{goal_of, relation_of};
+ghost use Rattle.optimality.specs.Kinds.{goal_of, relation_of};
 ghost use Rattle.lin_model.specs.Lists.{lists_of};
 
-use crate::kinds::{Goal, Relation};
+use optimality::{Goal, Relation};
 use std::marker::Model;
 
 /// Of a row of two sides: their relation, and the number of the decision that the left side is, where it is one.
@@ -16,7 +16,7 @@ pub struct Condition {
 
 impl Model for Condition {
     ghost use Rattle.linear_models.specs.Conditions.{Condition as Stated};
-    ghost use Rattle.lin_model.specs.Kinds.{relation_of};
+    ghost use Rattle.optimality.specs.Kinds.{relation_of};
 
     ghost Value = { Stated };
 
@@ -61,7 +61,7 @@ pub struct Conditions {
 impl Model for Conditions {
     ghost use Rattle.linear_models.specs.Conditions.{Conditions as Stated};
     ghost use Rattle.std.specs.Option.{option_map};
-    ghost use Rattle.lin_model.specs.Kinds.{goal_of};
+    ghost use Rattle.optimality.specs.Kinds.{goal_of};
     ghost use Rattle.lin_model.specs.Lists.{lists_of};
 
     ghost Value = { Stated };

@@ -7,13 +7,13 @@ ghost use Rattle.linear_models.specs.Agreement.{Fits, IsGroupIn, IsOwn};
 ghost use Rattle.linear_models.specs.Conditions.{constraint_of, objective_where};
 ghost use Rattle.linear_models.specs.Statement.{IsOnce};
 ghost use Rattle.lin_model.specs.Inner.{RowFits, RowsFit};
-ghost use Rattle.lin_model.specs.Kinds.{goal_of};
+ghost use Rattle.optimality.specs.Kinds.{goal_of};
 ghost use Rattle.lin_model.specs.Lists.{lists_of};
 
 use crate::conditions::{Condition, Conditions};
 use crate::groups::is_in;
-use crate::kinds::Goal;
 use affine_forms::Form;
+use optimality::Goal;
 
 // Whether all numbers are below n.
 fn are_below(list: &[u16], n: u16) -> bool

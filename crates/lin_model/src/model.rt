@@ -1,14 +1,14 @@
 // Linear models.
 ghost use Rattle.std.specs.Prelude.{◌≡◌, IfOk};
 ghost use Rattle.linear_models.specs.Model.{IsValid};
-ghost use Rattle.lin_model.specs.Kinds.{goal_of, relation_of};
+ghost use Rattle.optimality.specs.Kinds.{goal_of, relation_of};
 ghost use Rattle.lin_model.specs.Lists.{lists_of};
 
 use crate::bounds::BoundBox;
 use crate::groups::copy_groups;
-use crate::kinds::{Goal, Relation};
 use affine_forms::Form;
 use memory::Memory;
+use optimality::{Goal, Relation};
 use std::alloc::Global;
 use std::marker::Model;
 
@@ -22,7 +22,7 @@ pub struct FormRow {
 impl Model for FormRow {
     ghost use Rattle.affine_forms.specs.Forms.{AffineForm};
     ghost use Rattle.optimality.specs.Problem.{Relation as Kind};
-    ghost use Rattle.lin_model.specs.Kinds.{relation_of};
+    ghost use Rattle.optimality.specs.Kinds.{relation_of};
 
     ghost Value = { AffineForm × Kind };
 

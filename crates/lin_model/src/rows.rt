@@ -7,14 +7,14 @@ ghost use Rattle.affine_forms.specs.Steps.{subtracted};
 ghost use Rattle.linear_models.specs.Conditions.{constraint_of, constraints};
 ghost use Rattle.linear_models.specs.Linear.{reaching, row_left};
 ghost use Rattle.lin_model.specs.Inner.{AreBuilt, AreForms, Pushed};
-ghost use Rattle.lin_model.specs.Kinds.{goal_of, relation_of};
+ghost use Rattle.optimality.specs.Kinds.{goal_of, relation_of};
 
 use crate::conditions::Condition;
-use crate::kinds::{Goal, Relation};
 use crate::model::FormRow;
 use crate::stop::BuildStop;
 use crate::tightest::decision_of;
 use affine_forms::{Form, FormStop};
+use optimality::{Goal, Relation};
 use std::alloc::Global;
 
 // Adds the row of a difference in a relation to 0.

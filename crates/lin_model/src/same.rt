@@ -1,12 +1,12 @@
 // Whether two linear models are equal.
 ghost use Rattle.std.specs.Prelude.{◌≡◌, ◌↔◌, IsTrue};
-ghost use Rattle.lin_model.specs.Kinds.{goal_of};
+ghost use Rattle.optimality.specs.Kinds.{goal_of};
 ghost use Rattle.lin_model.specs.Lists.{lists_of};
 
 use crate::bounds::BoundBox;
-use crate::kinds::Goal;
 use crate::model::{FormRow, LinModel};
 use frac128::Frac;
+use optimality::Goal;
 
 fn same_row(one: &FormRow, other: &FormRow) -> bool
     ensures { IsTrue result ↔ (one.now ≡ other.now) }

@@ -8,12 +8,12 @@ ghost use Rattle.linear_models.specs.Laws.{GivesPoints, IsBoxOf};
 ghost use Rattle.linear_models.specs.Standard.{columns_from, is_split, limits_of_bounds, limits_of_greatest, limits_of_least, limits_of_row, program_row, splits_of, spread, standard, wanted};
 
 use crate::bounds::BoundBox;
-use crate::kinds::{Goal, Relation};
 use crate::model::{FormRow, LinModel};
 use affine_forms::Form;
 use frac128::Frac;
 use linear_programs::{Inequality, Standard};
 use memory::Memory;
+use optimality::{Goal, Relation};
 use std::alloc::Global;
 
 // Whether a decision with this least value has two columns: it may be negative.

@@ -14,10 +14,10 @@ ghost use Rattle.lin_model.specs.Lists.{lists_of};
 use crate::bounds::{BoundBox, greater, lesser};
 use crate::conditions::{Condition, Conditions};
 use crate::groups::{is_grouped, is_in};
-use crate::kinds::Relation;
 use affine_forms::Form;
 use frac128::Frac;
 use memory::Memory;
+use optimality::Relation;
 use std::alloc::Global;
 
 // The decision that a row bounds: its left side is that decision, and its right side a number.

@@ -1,17 +1,17 @@
 // The conditions of a sheet's statement: all but the forms of its places.
 ghost use Rattle.std.specs.Prelude.{◌≡◌, ◌≤◌, IfOk, length, map};
 ghost use Rattle.std.specs.Option.{option_map};
-ghost use Rattle.workbook.specs.declared.adj.TheConstants.{DECISIONS};
-ghost use Rattle.lin_model.specs.Kinds.{goal_of};
+ghost use Rattle.cell_refs.specs.declared.adj.TheConstants.{DECISIONS};
+ghost use Rattle.optimality.specs.Kinds.{goal_of};
 ghost use Rattle.lin_model.specs.Lists.{lists_of};
 ghost use Rattle.sheet_problems.specs.Forms.{condition_of, conditions_of};
 ghost use Rattle.sheet_problems.specs.FromSolverNames.{groups_of, row_of, statement_of};
 
+use cell_refs::Adj;
 use lin_model::{Condition, Conditions, Goal};
 use memory::Memory;
 use sheet_problems::{RowOf, Statement};
 use std::alloc::Global;
-use workbook::Adj;
 
 // Of each row its relation, and the number of the decision that its left side is, where it is one.
 fn row_conditions(alloc: Global, decisions: &Adj, rows: &[RowOf]) -> Result<Vec<Condition>, Memory>

@@ -2,7 +2,7 @@
 ghost use Rattle.std.specs.Prelude.{◌≡◌, ◌<◌, ◌++◌, All, OnOk, length, string_bytes};
 ghost use Rattle.model_lines.specs.Cells.{cell_with_sheet};
 ghost use Rattle.model_lines.specs.Lines.{decision_text};
-ghost use Rattle.workbook.specs.Listed.{IsListed};
+ghost use Rattle.cell_refs.specs.Listed.{IsListed};
 
 use cell_refs::{Cell, SheetNames, print_cell};
 use memory::Memory;

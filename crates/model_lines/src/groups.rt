@@ -3,7 +3,7 @@ ghost use Rattle.std.specs.Prelude.{◌≡◌, ◌++◌, All, OnOk, length, map,
 ghost use Rattle.model_lines.specs.Ended.{ended};
 ghost use Rattle.model_lines.specs.Groups.{AreDecisions, AreGroups, groups_of};
 ghost use Rattle.model_lines.specs.Lines.{group_line, members_text};
-ghost use Rattle.workbook.specs.Listed.{IsListed};
+ghost use Rattle.cell_refs.specs.Listed.{IsListed};
 
 use crate::decisions::print_decision;
 use cell_refs::{Cell, SheetNames};

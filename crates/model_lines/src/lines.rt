@@ -1,18 +1,17 @@
 // A linear model as it is printed.
 ghost use Rattle.std.specs.Prelude.{◌≡◌, ◌++◌, All, OnOk, length, option_map, string_bytes, zip};
 ghost use Rattle.affine_forms.specs.Assigned.{ReachTo};
-ghost use Rattle.lin_model.specs.Kinds.{goal_of};
+ghost use Rattle.optimality.specs.Kinds.{goal_of};
 ghost use Rattle.model_lines.specs.Groups.{AreGroups, groups_of};
 ghost use Rattle.model_lines.specs.Lines.{model_text};
-ghost use Rattle.workbook.specs.Listed.{IsListed};
+ghost use Rattle.cell_refs.specs.Listed.{IsListed};
 
 use crate::print::print_lines;
 use affine_forms::Form;
-use cell_refs::SheetNames;
+use cell_refs::{Adj, SheetNames};
 use lin_model::{Goal, LinModel};
 use memory::Memory;
 use std::marker::Model;
-use workbook::Adj;
 
 /// The cells to be decided, the objective where there is one, the numbers of the rows that are no bounds, the model, and the
 /// numbers of decisions that are to be different, group by group. A row of the model without a number isn't printed.
@@ -29,7 +28,7 @@ pub struct ModelLines {
 impl Model for ModelLines {
     ghost use Rattle.std.specs.Prelude.{◌≡◌, length, option_map, zip};
     ghost use Rattle.affine_forms.specs.Assigned.{ReachTo};
-    ghost use Rattle.lin_model.specs.Kinds.{goal_of};
+    ghost use Rattle.optimality.specs.Kinds.{goal_of};
     ghost use Rattle.model_lines.specs.Groups.{AreGroups, groups_of};
     ghost use Rattle.model_lines.specs.Lines.{ModelLines};
 

@@ -2,11 +2,11 @@
 ghost use Rattle.std.specs.Prelude.{◌≡◌, ◌++◌, [], ◌∷◌, All, OnOk, decimal, length, map, option_map, string_bytes, zip};
 ghost use Rattle.std.specs.List.{AllByRecursion};
 ghost use Rattle.affine_forms.specs.Assigned.{ReachTo};
-ghost use Rattle.lin_model.specs.Kinds.{goal_of, relation_of};
+ghost use Rattle.optimality.specs.Kinds.{goal_of, relation_of};
 ghost use Rattle.model_lines.specs.Ended.{RowReaches, ended};
 ghost use Rattle.model_lines.specs.Groups.{AreGroups, groups_of};
 ghost use Rattle.model_lines.specs.Lines.{aim_line, bound_text, cell_line, cell_lines, form_text, goal_text, mark_text, model_text, relation_text, row_line, sum_text};
-ghost use Rattle.workbook.specs.Listed.{IsListed};
+ghost use Rattle.cell_refs.specs.Listed.{IsListed};
 
 use crate::decisions::{print_decision, print_listed};
 use crate::groups::print_groups;

@@ -9,7 +9,7 @@ use Rattle.recalculation.proofs.Lists.{each_weaker}
 use Rattle.recalculation.proofs.Reading.{joined}
 use Rattle.solver_names.specs.Texts.{all_of, area_on, cells_in, distinct, parts_from}
 use Rattle.workbook.specs.Kinds.{behind_equals}
-use Rattle.workbook.specs.Listed.{IsListed}
+use Rattle.cell_refs.specs.Listed.{IsListed}
 use Rattle.workbook.specs.State.{State}
 use Rattle.statement_laws.proofs.OnceEach.{distinct_held, once_each}
 use Rattle.statement_laws.proofs.ReadAreas.{Lies, cells_listed}

@@ -13,8 +13,8 @@ use Rattle.recalculation.specs.Walks.{has_walk, is_circular, is_formula, refers,
 use Rattle.recalculation.proofs.Circles.{entry_there, found_text}
 use Rattle.recalculation.proofs.Lists.{both, first_true, second_true}
 use Rattle.workbook.specs.Contents.{tree_of as tree_said}
-use Rattle.workbook.specs.declared.place.Place.{Place}
-use Rattle.workbook.specs.declared.place.Place.TheVariants as place
+use Rattle.cell_refs.specs.declared.place.Place.{Place}
+use Rattle.cell_refs.specs.declared.place.Place.TheVariants as place
 use Rattle.form_extraction.specs.declared.forms.CellForm.{CellForm}
 use Rattle.form_extraction.specs.declared.forms.CellForm.TheVariants.{Form, Refused, Blocked, Circular}
 use Rattle.form_extraction.specs.declared.forms.CellForm.TheVariants as result

@@ -10,8 +10,8 @@ use Rattle.cell_refs.specs.Cells.{cell_cmp}
 use Rattle.cell_refs.proofs.Order.{exact_cells}
 use Rattle.dep_table.proofs.Orderings.{is_equal}
 use Rattle.recalculation.specs.Entries.{Book}
-use Rattle.workbook.specs.declared.place.Place.{Place}
-use Rattle.workbook.specs.declared.place.Place.TheVariants as place
+use Rattle.cell_refs.specs.declared.place.Place.{Place}
+use Rattle.cell_refs.specs.declared.place.Place.TheVariants as place
 use Rattle.form_needs.specs.Needed.{Asked, IsNeeded, PlaceLooksAt}
 use Rattle.form_needs.specs.Needed as needed
 use Rattle.needed_cells.specs.Finding.{AreAdded, Has, IsSpreading, IsStarted, StartsAt, not_found}

@@ -3,8 +3,8 @@ use Rattle.std.specs.Prelude.{◌≡◌, true, List, Some, None, IsSome, ⊤}
 use Rattle.cell_refs.specs.declared.cell.Cell.{Cell}
 use Rattle.recalculation.specs.Entries.{Book, entry}
 use Rattle.recalculation.specs.Walks.{is_formula}
-use Rattle.workbook.specs.declared.place.Place.{Place}
-use Rattle.workbook.specs.declared.place.Place.TheVariants as place
+use Rattle.cell_refs.specs.declared.place.Place.{Place}
+use Rattle.cell_refs.specs.declared.place.Place.TheVariants as place
 use Rattle.form_extraction.specs.declared.forms.CellForm.{CellForm}
 use Rattle.form_extraction.specs.Places.{numbered_in}
 use Rattle.extract.specs.Tables.{Table, form_at as kept_at}

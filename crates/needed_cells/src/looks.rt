@@ -9,7 +9,7 @@ ghost use Rattle.recalculation.specs.Entries.{entry};
 ghost use Rattle.form_needs.specs.FromSheetProblems.{tree_of};
 ghost use Rattle.workbook.specs.Contents.{tree_of as tree_said};
 ghost use Rattle.workbook.specs.Kinds.{book_of};
-ghost use Rattle.workbook.specs.declared.place.Place.TheVariants as place;
+ghost use Rattle.cell_refs.specs.declared.place.Place.TheVariants as place;
 ghost use Rattle.form_extraction.specs.Places.{numbered_in};
 
 use crate::referred::referred_by;

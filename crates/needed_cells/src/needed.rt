@@ -6,7 +6,7 @@ ghost use Rattle.form_needs.specs.Needed.{IsNeeded};
 ghost use Rattle.needed_cells.specs.Finding.{Has, IsSpreading, IsStarted, StartsAt, asked};
 ghost use Rattle.needed_cells.specs.Settled.{IsRoot, IsSettled};
 ghost use Rattle.workbook.specs.Kinds.{book_of};
-ghost use Rattle.workbook.specs.declared.place.Place.TheVariants as place;
+ghost use Rattle.cell_refs.specs.declared.place.Place.TheVariants as place;
 
 use crate::found::add_all;
 use crate::looks::looks_of;

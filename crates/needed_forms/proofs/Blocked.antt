@@ -10,8 +10,8 @@ use Rattle.recalculation.specs.Walks.{has_walk, is_formula, steps_to, refers}
 use Rattle.recalculation.proofs.Circles.{found_text}
 use Rattle.recalculation.proofs.Lists.{both}
 use Rattle.form_values.specs.declared.abs.Abs.{Abs}
-use Rattle.workbook.specs.declared.place.Place.{Place}
-use Rattle.workbook.specs.declared.place.Place.TheVariants as place
+use Rattle.cell_refs.specs.declared.place.Place.{Place}
+use Rattle.cell_refs.specs.declared.place.Place.TheVariants as place
 use Rattle.form_extraction.specs.declared.forms.CellForm.{CellForm}
 use Rattle.form_extraction.specs.declared.forms.CellForm.TheVariants.{Form, Refused, Blocked, Circular, Malformed}
 use Rattle.form_extraction.specs.declared.forms.Outcome.{Outcome}

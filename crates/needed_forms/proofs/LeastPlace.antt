@@ -3,7 +3,7 @@ use Rattle.std.specs.Prelude.{◌≢◌, Contains, if◌then◌else◌}
 use Rattle.std.proofs.Common.{◌≡◌, ◌<◌, ◌≤◌, ◌+◌, ◌-◌, refl, sym, ap, ◌∙◌, subst, Bool, true, false, List, [], ◌∷◌, drop, get_or, length, Option, Some, None, ℕ, zero, suc, arith}
 use Rattle.std.specs.declared.cmp.Ordering.TheVariants.{Greater}
 use Rattle.std.proofs.lemmas.List.{at_drop_more}
-use Rattle.workbook.specs.declared.place.Place.{Place}
+use Rattle.cell_refs.specs.declared.place.Place.{Place}
 use Rattle.form_needs.specs.FirstRefusal.{IsLeast, place_cmp}
 use Rattle.needed_forms.specs.Firsts.{is_before, least_in, with_least}
 use Rattle.needed_forms.proofs.Order.{before_fits, itself_fits, other_fits}

@@ -12,8 +12,8 @@ use Rattle.std.proofs.lemmas.Map.Views.{Contains-from_any, list_any-from_Contain
 use Rattle.cell_refs.specs.Cells.{cell_cmp}
 use Rattle.cell_refs.specs.declared.cell.Cell.{Cell}
 use Rattle.cell_refs.proofs.Order.{cells_total, exact_cells}
-use Rattle.workbook.specs.declared.place.Place.{Place}
-use Rattle.workbook.specs.declared.place.Place.TheVariants as place
+use Rattle.cell_refs.specs.declared.place.Place.{Place}
+use Rattle.cell_refs.specs.declared.place.Place.TheVariants as place
 use Rattle.form_needs.specs.Needed.{Asked, IsNeeded}
 use Rattle.form_needs.specs.Needed as needed
 use Rattle.needed_forms.specs.Firsts.{is_side}

@@ -4,8 +4,8 @@ use Rattle.std.specs.Option.{option_and_then}
 use Rattle.cell_refs.specs.declared.span.Span.{Span}
 use Rattle.affine_forms.specs.Forms.{AffineForm}
 use Rattle.form_values.specs.declared.abs.Abs.{Abs}
-use Rattle.workbook.specs.declared.place.Place.{Place}
-use Rattle.workbook.specs.declared.place.Place.TheVariants as place
+use Rattle.cell_refs.specs.declared.place.Place.{Place}
+use Rattle.cell_refs.specs.declared.place.Place.TheVariants as place
 use Rattle.form_extraction.specs.declared.forms.CellForm.{CellForm}
 use Rattle.form_extraction.specs.declared.forms.CellForm.TheVariants.{Form, Refused, Blocked, Circular, Malformed}
 use Rattle.form_extraction.specs.declared.forms.Why.{Why}

@@ -13,8 +13,8 @@ use Rattle.form_values.specs.declared.abs.Abs.TheVariants.{Known}
 use Rattle.workbook.specs.Contents.{content_of, kind_of}
 use Rattle.workbook.specs.Kinds.{book_of}
 use Rattle.workbook.specs.State.{State}
-use Rattle.workbook.specs.declared.place.Place.{Place}
-use Rattle.workbook.specs.declared.place.Place.TheVariants as place
+use Rattle.cell_refs.specs.declared.place.Place.{Place}
+use Rattle.cell_refs.specs.declared.place.Place.TheVariants as place
 use Rattle.form_extraction.specs.declared.forms.CellForm.{CellForm}
 use Rattle.form_extraction.specs.declared.forms.CellForm.TheVariants.{Circular}
 use Rattle.form_extraction.specs.Looked.{forms_of, side_form}

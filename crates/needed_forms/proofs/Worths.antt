@@ -13,8 +13,8 @@ use Rattle.affine_forms.specs.Forms.{AffineForm, Assignment, worth}
 use Rattle.form_values.specs.Meaning.{abs_at}
 use Rattle.form_values.specs.declared.abs.Abs.{Abs}
 use Rattle.form_values.specs.declared.abs.Abs.TheVariants.{Known, Affine, Test}
-use Rattle.workbook.specs.declared.place.Place.{Place}
-use Rattle.workbook.specs.declared.place.Place.TheVariants as place
+use Rattle.cell_refs.specs.declared.place.Place.{Place}
+use Rattle.cell_refs.specs.declared.place.Place.TheVariants as place
 use Rattle.form_extraction.specs.declared.forms.CellForm.{CellForm}
 use Rattle.form_extraction.specs.declared.forms.CellForm.TheVariants.{Form}
 use Rattle.form_extraction.specs.Looked.{side_form, side_value}

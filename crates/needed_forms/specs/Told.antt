@@ -11,8 +11,8 @@ use Rattle.form_values.specs.Entries.{open_decision}
 use Rattle.form_values.specs.declared.abs.Abs.TheVariants.{Known, Affine}
 use Rattle.workbook.specs.declared.kind.Kind.{Kind}
 use Rattle.workbook.specs.declared.kind.Kind.TheVariants as kind
-use Rattle.workbook.specs.declared.place.Place.{Place}
-use Rattle.workbook.specs.declared.place.Place.TheVariants as place
+use Rattle.cell_refs.specs.declared.place.Place.{Place}
+use Rattle.cell_refs.specs.declared.place.Place.TheVariants as place
 use Rattle.form_extraction.specs.declared.forms.CellForm.{CellForm}
 use Rattle.form_extraction.specs.declared.forms.CellForm.TheVariants.{Form, Refused, Blocked, Circular, Malformed}
 use Rattle.form_extraction.specs.declared.forms.Why.{Why}

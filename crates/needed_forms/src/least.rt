@@ -3,7 +3,7 @@ ghost use Rattle.std.specs.Prelude.{◌≡◌};
 ghost use Rattle.needed_forms.specs.Firsts.{is_before, is_told, least_in, lesser, with_least};
 ghost use Rattle.needed_forms.specs.Told.{told_refusal};
 ghost use Rattle.workbook.specs.Kinds.{book_of};
-ghost use Rattle.workbook.specs.declared.place.Place.TheVariants as place;
+ghost use Rattle.cell_refs.specs.declared.place.Place.TheVariants as place;
 
 use crate::stage::{Stage, is_in};
 use crate::told::Told;

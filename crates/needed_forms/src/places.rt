@@ -4,8 +4,8 @@ ghost use Rattle.form_needs.specs.Needed.{IsNeeded};
 ghost use Rattle.needed_cells.specs.Settled.{IsRoot, IsSettled};
 ghost use Rattle.needed_forms.specs.Firsts.{is_side};
 ghost use Rattle.workbook.specs.Kinds.{book_of};
-ghost use Rattle.workbook.specs.declared.place.Place.{Place};
-ghost use Rattle.workbook.specs.declared.place.Place.TheVariants as place;
+ghost use Rattle.cell_refs.specs.declared.place.Place.{Place};
+ghost use Rattle.cell_refs.specs.declared.place.Place.TheVariants as place;
 
 use cell_refs::Cell;
 use formula_ast::Expr;

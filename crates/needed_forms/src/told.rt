@@ -7,7 +7,7 @@ ghost use Rattle.recalculation.specs.Entries.{entry};
 ghost use Rattle.form_needs.specs.FromSheetProblems.{number_form};
 ghost use Rattle.workbook.specs.Contents.{kind_of};
 ghost use Rattle.workbook.specs.Kinds.{book_of};
-ghost use Rattle.workbook.specs.declared.place.Place.TheVariants as place;
+ghost use Rattle.cell_refs.specs.declared.place.Place.TheVariants as place;
 
 use cell_refs::{Cell, Span};
 use form_extraction::{CellForm, Why};

@@ -13,7 +13,7 @@ ghost use Rattle.solver_names.specs.Answers.{row_of, statement_of};
 ghost use Rattle.solver_names.specs.Sides.{sides_in};
 ghost use Rattle.workbook.specs.Contents.{kind_of};
 ghost use Rattle.workbook.specs.Kinds.{book_of};
-ghost use Rattle.workbook.specs.declared.place.Place.TheVariants as place;
+ghost use Rattle.cell_refs.specs.declared.place.Place.TheVariants as place;
 
 use affine_forms::Form;
 use cell_refs::Cell;

@@ -3,7 +3,7 @@ ghost use Rattle.std.specs.Prelude.{◌≡◌, ◌∷◌, ◌++◌, [], IfOk, On
 ghost use Rattle.form_needs.specs.Needed.{roots_of};
 ghost use Rattle.solver_names.specs.Answers.{row_of, statement_of};
 ghost use Rattle.solver_names.specs.Statement.{RowOf as Row};
-ghost use Rattle.workbook.specs.declared.place.Place.TheVariants as place;
+ghost use Rattle.cell_refs.specs.declared.place.Place.TheVariants as place;
 
 use memory::Memory;
 use solver_names::{RowOf, Statement};

@@ -1,6 +1,6 @@
 // A session with the counter of the forms that it makes.
 ghost use Rattle.std.specs.Prelude.{◌≡◌, ◌≤◌, ◌<◌, IfOk};
-ghost use Rattle.commands.specs.declared.units.TheConstants.{MOST_UNITS};
+ghost use Rattle.cell_refs.specs.declared.units.TheConstants.{MOST_UNITS};
 ghost use Rattle.session.specs.States.{opened, with_none_changed};
 
 use cell_refs::SheetNames;

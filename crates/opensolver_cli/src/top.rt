@@ -1,6 +1,6 @@
 // The top call.
 ghost use Rattle.std.specs.Prelude.{◌≡◌, ◌<◌, ◌≤◌, All, Some, length, map, option_map, slice_get, string_bytes, true};
-ghost use Rattle.commands.specs.declared.units.TheConstants.{MOST_UNITS};
+ghost use Rattle.cell_refs.specs.declared.units.TheConstants.{MOST_UNITS};
 ghost use Rattle.opensolver_cli.specs.Answering.{IsSinkFault, Says};
 ghost use Rattle.opensolver_cli.specs.Completeness.{EndsExactly, IsComplete};
 ghost use Rattle.opensolver_cli.specs.Headline.{IsCounted, RunsAs, RunsScript, rule_of};

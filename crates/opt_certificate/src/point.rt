@@ -3,7 +3,7 @@ ghost use Rattle.affine_forms.specs.Answers.{AnswersInPlace};
 ghost use Rattle.std.specs.Prelude.{◌≡◌, ◌↔◌, ◌<◌, ℕ, All, IsTrue, Some, length, map};
 ghost use Rattle.fractions.specs.Rational.{◌≤ℚ◌, ℚ, zero_ℚ};
 ghost use Rattle.fractions.specs.Vectors.{at};
-ghost use Rattle.lin_model.specs.Kinds.{relation_of};
+ghost use Rattle.optimality.specs.Kinds.{relation_of};
 ghost use Rattle.linear_models.specs.Box.{InBox, bound_at};
 ghost use Rattle.affine_forms.specs.Assigned.{ReachTo};
 ghost use Rattle.linear_models.specs.Model.{AreWhole, IsPoint, IsValid};

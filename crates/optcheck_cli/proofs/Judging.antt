@@ -27,7 +27,7 @@ use Rattle.certificate_texts.specs.Answers.{IsTheCert}
 use Rattle.certificate_texts.specs.declared.cert.Cert.{Cert as Made}
 use Rattle.workbook.specs.Kinds.{book_of}
 use Rattle.workbook.specs.State.{State}
-use Rattle.workbook.specs.declared.place.Place.TheVariants as place
+use Rattle.cell_refs.specs.declared.place.Place.TheVariants as place
 use Rattle.solver_names.specs.Sides.{sides_in}
 use Rattle.solver_names.specs.Statement.{Statement}
 use Rattle.sheet_problems.specs.Laws.{ModelIsTheSheet}

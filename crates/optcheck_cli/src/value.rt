@@ -1,6 +1,6 @@
 // The value of a certified claim.
 ghost use Rattle.std.specs.Prelude.{◌≡◌, ◌↔◌, IfOk, IsTrue, length};
-ghost use Rattle.lin_model.specs.Kinds.{goal_of};
+ghost use Rattle.optimality.specs.Kinds.{goal_of};
 ghost use Rattle.opt_certificate.specs.Claims.{IsOfSize, claim_of};
 ghost use Rattle.opt_certificate.specs.Certificate.{optimal};
 ghost use Rattle.optcheck_cli.specs.Inner.{Compared, ValueJudged, told_of};

@@ -1,4 +1,5 @@
 pub mod Problem
+pub mod Kinds
 pub mod Groups
 pub mod Optimal
 pub mod Laws

@@ -1,9 +1,13 @@
 //! What permitted, better, optimal, infeasible and unbounded mean, for any problem.
 #![tactic(auto)]
 
+mod kinds;
+
 ghost use Rattle.optimality.specs.EachOnce.{DifferentInRangeIsEachOnce};
 ghost use Rattle.optimality.specs.Examples.{DifferentTwo, NumberedThree};
 ghost use Rattle.optimality.specs.Laws.{AnswersExclude, OneBestValue, ReachedIsOptimal, SameAnswersHold};
+
+pub use kinds::{Goal, Relation};
 
 /// No problem has two of the answers optimal, infeasible and unbounded.
 pub fn answers_exclude_each_other()

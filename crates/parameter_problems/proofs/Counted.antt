@@ -7,11 +7,11 @@ use Rattle.std.proofs.lemmas.Option.{slice_get-get_or}
 use Rattle.optimality.specs.Problem.{Goal, greatest}
 use Rattle.cell_refs.specs.declared.cell.Cell.{Cell}
 use Rattle.affine_forms.specs.Forms.{AffineForm}
-use Rattle.solver_names.specs.FromLinModel.{Relation}
+use Rattle.optimality.specs.declared.kinds.Relation.{Relation}
 use Rattle.linear_models.specs.Agreement.{IsGroupIn}
 use Rattle.linear_models.specs.Conditions.{goal_or_greatest, objective_where}
 use Rattle.linear_models.specs.Statement.{IsOnce}
-use Rattle.workbook.specs.declared.place.Place.{Place}
+use Rattle.cell_refs.specs.declared.place.Place.{Place}
 use Rattle.solver_names.specs.Faults.{decisions_of, faults, first}
 use Rattle.solver_names.specs.Read.{Read}
 use Rattle.solver_names.specs.Stated.{different, numbered, numbers_from}

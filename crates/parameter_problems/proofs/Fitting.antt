@@ -14,8 +14,8 @@ use Rattle.linear_models.specs.Conditions.{constraint_of, constraints, objective
 use Rattle.recalculation.specs.Entries.{Book}
 use Rattle.workbook.specs.Kinds.{book_of}
 use Rattle.workbook.specs.State.{State}
-use Rattle.workbook.specs.declared.place.Place.{Place}
-use Rattle.workbook.specs.declared.place.Place.TheVariants as place
+use Rattle.cell_refs.specs.declared.place.Place.{Place}
+use Rattle.cell_refs.specs.declared.place.Place.TheVariants as place
 use Rattle.form_extraction.specs.Places.{form_in, numbered_in}
 use Rattle.form_extraction.proofs.States.{decision_is_itself}
 use Rattle.solver_names.specs.Faults.{all_rows, decisions_of, faults, first}

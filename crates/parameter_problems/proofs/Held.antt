@@ -11,8 +11,8 @@ use Rattle.recalculation.specs.Entries.{Book, Formula, Overriding, entry}
 use Rattle.recalculation.specs.Evaluation.{evaluated, cell_value}
 use Rattle.recalculation.specs.Recalculation.{val}
 use Rattle.affine_forms.specs.Forms.{Assignment}
-use Rattle.workbook.specs.declared.place.Place.{Place}
-use Rattle.workbook.specs.declared.place.Place.TheVariants as place
+use Rattle.cell_refs.specs.declared.place.Place.{Place}
+use Rattle.cell_refs.specs.declared.place.Place.TheVariants as place
 use Rattle.form_extraction.specs.Looked.{refers_to_circle, side_value}
 use Rattle.form_extraction.specs.Places.{numbered_in, overriding}
 use Rattle.written_cells.specs.Written.{Says}

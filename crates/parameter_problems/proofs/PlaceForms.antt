@@ -8,7 +8,7 @@ use Rattle.affine_forms.specs.Forms.{AffineForm, IsForm, constant_form}
 use Rattle.form_values.proofs.Opening.{open_has_a_term}
 use Rattle.form_values.specs.declared.abs.Abs.{Abs}
 use Rattle.form_values.specs.declared.abs.Abs.TheVariants.{Known, Affine, Test}
-use Rattle.workbook.specs.declared.place.Place.{Place}
+use Rattle.cell_refs.specs.declared.place.Place.{Place}
 use Rattle.sheet_problems.specs.Forms.{HasForm, number_form}
 use Rattle.sheet_problems.specs.Places.{Sides}
 use Rattle.sheet_problems.proofs.Placed.{placed}

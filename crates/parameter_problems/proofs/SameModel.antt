@@ -9,8 +9,8 @@ use Rattle.cell_refs.specs.declared.cell.Cell.{Cell}
 use Rattle.recalculation.specs.Entries.{Book}
 use Rattle.affine_forms.specs.Forms.{Assignment, AffineForm}
 use Rattle.linear_models.specs.Conditions.{constraints, goal_or_greatest, objective_where}
-use Rattle.workbook.specs.declared.place.Place.{Place}
-use Rattle.workbook.specs.declared.place.Place.TheVariants as place
+use Rattle.cell_refs.specs.declared.place.Place.{Place}
+use Rattle.cell_refs.specs.declared.place.Place.TheVariants as place
 use Rattle.solver_names.specs.Statement.{RowOf}
 use Rattle.sheet_problems.specs.Forms.{HasForm, HasSides, conditions_of}
 use Rattle.sheet_problems.specs.Places.{Sides, number_in}

@@ -10,8 +10,8 @@ use Rattle.affine_forms.specs.Assigned.{assigned}
 use Rattle.affine_forms.specs.Forms.{Assignment, AffineForm}
 use Rattle.linear_models.specs.Conditions.{constraint_of, constraints, goal_or_greatest, objective_where}
 use Rattle.linear_models.specs.Linear.{linear}
-use Rattle.workbook.specs.declared.place.Place.{Place}
-use Rattle.workbook.specs.declared.place.Place.TheVariants as place
+use Rattle.cell_refs.specs.declared.place.Place.{Place}
+use Rattle.cell_refs.specs.declared.place.Place.TheVariants as place
 use Rattle.solver_names.specs.Statement.{RowOf, Statement}
 use Rattle.sheet_problems.specs.Forms.{HasForm, HasSides, condition_of, conditions_of}
 use Rattle.sheet_problems.specs.Places.{Sides, number_in, worth_at}

@@ -8,7 +8,8 @@ use Rattle.std.proofs.lemmas.List.FromFn.{get_or-map-range_with_len, length-map-
 use Rattle.cell_refs.specs.declared.cell.Cell.{Cell}
 use Rattle.cell_refs.specs.declared.limits.TheConstants.{ROWS}
 use Rattle.recalculation.specs.Entries.{Contents}
-use Rattle.workbook.specs.Listed.{IsListed, TextsAreListed}
+use Rattle.cell_refs.specs.Listed.{IsListed}
+use Rattle.workbook.specs.Listed.{TextsAreListed}
 use Rattle.workbook.specs.State.{State}
 use Rattle.saved_sheets.specs.Saving.{columns_used, rows_used}
 use Rattle.saved_sheets.specs.Widths.{used_widths}

@@ -1,6 +1,6 @@
 // Which models have prices.
 ghost use Rattle.std.specs.Prelude.{◌≡◌, ◌↔◌, ℕ, IsTrue, true};
-ghost use Rattle.lin_model.specs.Kinds.{goal_of};
+ghost use Rattle.optimality.specs.Kinds.{goal_of};
 ghost use Rattle.linear_models.specs.Model.{is_whole_at};
 ghost use Rattle.model_prices.specs.Prices.{IsAim, IsContinuous};
 

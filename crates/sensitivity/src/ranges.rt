@@ -2,7 +2,7 @@
 ghost use Rattle.std.specs.Prelude.{◌≡◌, ◌≢◌, ◌<◌, ◌^◌, suc, length, MatchResult, Option};
 ghost use Rattle.fractions.specs.Rational.{zero_ℚ, neg_ℚ, ◌/ℚ◌};
 ghost use Rattle.frac128.specs.Narrow.{IsNarrow};
-ghost use Rattle.lin_model.specs.Kinds.{relation_of};
+ghost use Rattle.optimality.specs.Kinds.{relation_of};
 ghost use Rattle.price_laws.specs.Ranges.{greater as greater_of, lesser as lesser_of, low_of, high_of};
 ghost use Rattle.sensitivity.specs.Sums.{basic_at, basics_from, low_after, high_after, IsNarrowBasic, AreNarrowFrom};
 

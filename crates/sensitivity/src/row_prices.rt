@@ -1,7 +1,7 @@
 // The price of a row, with the range in which it holds.
 ghost use Rattle.std.specs.Prelude.{◌≡◌, ◌<◌, ◌+◌, ◌^◌, suc, length, MatchResult};
 ghost use Rattle.fractions.specs.Vectors.{at};
-ghost use Rattle.lin_model.specs.Kinds.{goal_of, relation_of};
+ghost use Rattle.optimality.specs.Kinds.{goal_of, relation_of};
 ghost use Rattle.model_prices.specs.Rows.{signs_of};
 ghost use Rattle.model_prices.specs.Prices.{turned};
 ghost use Rattle.model_prices.specs.Own.{relation_at, first_of, first_slack};

@@ -1,6 +1,6 @@
 // How the basic variables move with a row's right side.
 ghost use Rattle.std.specs.Prelude.{◌≡◌, ◌<◌, ◌+◌, ◌^◌, suc, length, MatchResult};
-ghost use Rattle.lin_model.specs.Kinds.{relation_of};
+ghost use Rattle.optimality.specs.Kinds.{relation_of};
 ghost use Rattle.price_laws.specs.Changes.{response as response_of};
 ghost use Rattle.model_prices.specs.Own.{signed_sum as signed_sum_of};
 ghost use Rattle.sensitivity.specs.Sums.{IsNarrowSigned, slope_at};

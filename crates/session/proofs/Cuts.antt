@@ -13,7 +13,8 @@ use Rattle.kept_book.specs.FromSheetSolving.{GoesFurther, Opened, Task, begun, t
 use Rattle.commands.specs.declared.answer.Answer.{Answer}
 use Rattle.commands.specs.declared.answer.Answer.TheVariants as answer
 use Rattle.commands.specs.Commands.{Slice, Spoken}
-use Rattle.commands.specs.Locating.{or_bad, or_unknown, units_in}
+use Rattle.commands.specs.Locating.{or_bad, or_unknown}
+use Rattle.cell_refs.specs.Units.{units_in}
 use Rattle.session.specs.Cuts.{Begins, Cut, IsUnderWay, Sliced, Slices, cut, cut_of, search_or, sheet_to_begin, sheet_to_stop}
 use Rattle.session.specs.Edits.{and_then}
 use Rattle.session.specs.Inner.{Spends, search_after}

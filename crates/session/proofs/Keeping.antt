@@ -5,8 +5,8 @@ use Rattle.cell_refs.specs.declared.cell.Cell.{Cell}
 use Rattle.recalculation.specs.Entries.{Book, entry}
 use Rattle.workbook.specs.Kinds.{book_of}
 use Rattle.workbook.specs.State.{State}
-use Rattle.workbook.specs.declared.place.Place.{Place}
-use Rattle.workbook.specs.declared.place.Place.TheVariants as place
+use Rattle.cell_refs.specs.declared.place.Place.{Place}
+use Rattle.cell_refs.specs.declared.place.Place.TheVariants as place
 use Rattle.kept_book.specs.FromTouchedPlaces.{DifferAt}
 use Rattle.kept_tables.specs.Commands as kept
 use Rattle.kept_tables.specs.FromKeptMarks.{AreForms}

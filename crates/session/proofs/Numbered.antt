@@ -4,13 +4,10 @@ use Rattle.std.specs.List.{list_any, position_or_len}
 use Rattle.std.proofs.Common.{◌+◌, ◌≡◌, ◌∙◌, ℕ, zero, suc, Bool, true, false, List, [], ◌∷◌, Some, None, ap, arith, refl, sym}
 use Rattle.cell_refs.specs.Cells.{is_same_cell}
 use Rattle.cell_refs.specs.declared.cell.Cell.{Cell}
+use Rattle.cell_refs.proofs.SameCells.{same_itself}
 use Rattle.sheet_linear_model.specs.FromFormExtraction.{numbered_in}
-use Rattle.std.proofs.lemmas.Bool.{eq-eqb}
 use Rattle.std.proofs.lemmas.Bool.Decides.{nat_tests}
-use Rattle.std.specs.Prelude.{◌&&◌, not}
-
-same_itself : (a : Cell) → is_same_cell a a ≡ true
-same_itself a = λ i. (eq-eqb a.sheet.0 a.sheet.0 refl i) && ((eq-eqb a.row a.row refl i) && (eq-eqb a.col a.col refl i))
+use Rattle.std.specs.Prelude.{not}
 
 -- ---- the first place of a cell
 zero_below : (n : ℕ) → true ≡ nat_lt 0 (suc n)

@@ -9,7 +9,8 @@ use Rattle.recalculation.specs.Entries.{Entry, no_overriding}
 use Rattle.recalculation.specs.Narrow.{entry_is_wide, is_wide, known}
 use Rattle.recalculation.specs.Walks.{is_circular}
 use Rattle.workbook.specs.Kinds.{book_of, says}
-use Rattle.workbook.specs.Listed.{IsListed, TextsAreListed}
+use Rattle.cell_refs.specs.Listed.{IsListed}
+use Rattle.workbook.specs.Listed.{TextsAreListed}
 use Rattle.workbook.specs.State.{State}
 
 has_text : (circular : Bool) (f : Cell → Option Value) (says : List ℕ → Entry) (o : Option (List ℕ)) → (not circular && entry_is_wide f (option_map says o)) ≡ true

@@ -7,8 +7,8 @@ use Rattle.commands.specs.declared.answer.Answer.{Answer}
 use Rattle.commands.specs.declared.answer.Answer.TheVariants as answer
 use Rattle.commands.specs.Commands.{Spoken, Begin, Slice, Stop}
 use Rattle.commands.specs.Lines.{is_refusal}
-use Rattle.commands.specs.Locating.{units_in}
-use Rattle.commands.specs.declared.units.TheConstants.{MOST_UNITS}
+use Rattle.cell_refs.specs.Units.{units_in}
+use Rattle.cell_refs.specs.declared.units.TheConstants.{MOST_UNITS}
 use Rattle.session.specs.declared.open_searches.TheConstants.{MOST_SEARCHES}
 use Rattle.session.specs.States.{SessionState, open_search}
 use Rattle.session.specs.Steps.{Step}

@@ -4,7 +4,7 @@ use Rattle.std.specs.Coded.{Coded, code_by, coded×, coded_list, coded_ℕ, code
 use Rattle.cell_refs.specs.declared.cell.Cell.{Cell}
 use Rattle.workbook.specs.State.{State}
 use Rattle.workbook.specs.Codes.{state_code}
-use Rattle.commands.specs.declared.units.TheConstants.{MOST_UNITS}
+use Rattle.cell_refs.specs.declared.units.TheConstants.{MOST_UNITS}
 use Rattle.sheet_linear_model.specs.FromKeptForms.{SheetKept}
 use Rattle.kept_book.specs.FromSheetSolving.{Opened}
 

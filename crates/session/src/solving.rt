@@ -20,7 +20,7 @@ ghost use Rattle.kept_book.specs.FromSheetSolving.{whole_task};
 ghost use Rattle.kept_book.specs.FromSheetSolving.{HasBudgetLeft};
 ghost use Rattle.solver_names.specs.Answers.{statement_of};
 ghost use Rattle.sheet_linear_model.specs.FromStatementLaws.{IsWhole};
-ghost use Rattle.workbook.specs.Listed.{IsListed};
+ghost use Rattle.cell_refs.specs.Listed.{IsListed};
 
 use crate::Session;
 use crate::models::answer_without_model;

@@ -8,8 +8,8 @@ use Rattle.linear_models.specs.Linear.{wide_row}
 use Rattle.recalculation.specs.Entries.{Book}
 use Rattle.workbook.specs.Kinds.{book_of}
 use Rattle.workbook.specs.State.{State}
-use Rattle.workbook.specs.declared.place.Place.{Place}
-use Rattle.workbook.specs.declared.place.Place.TheVariants as place
+use Rattle.cell_refs.specs.declared.place.Place.{Place}
+use Rattle.cell_refs.specs.declared.place.Place.TheVariants as place
 use Rattle.solver_names.specs.Sides.{sides_in}
 use Rattle.solver_names.specs.Statement.{RowOf, Statement}
 use Rattle.solver_names.specs.Stated.{statement_in}

@@ -8,8 +8,8 @@ use Rattle.optimality.specs.Problem.{Goal}
 use Rattle.affine_forms.specs.Assigned.{ReachTo}
 use Rattle.affine_forms.specs.Forms.{AffineForm}
 use Rattle.cell_refs.specs.declared.cell.Cell.{Cell}
-use Rattle.lin_model.specs.Kinds.{goal_of}
-use Rattle.lin_model.specs.declared.kinds.Goal.{Goal as Aim}
+use Rattle.optimality.specs.Kinds.{goal_of}
+use Rattle.optimality.specs.declared.kinds.Goal.{Goal as Aim}
 use Rattle.linear_models.specs.Agreement.{Fits, IsGroupIn}
 use Rattle.linear_models.specs.Bounds.{is_marked}
 use Rattle.linear_models.specs.Conditions.{objective_where}

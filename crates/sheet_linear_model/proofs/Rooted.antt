@@ -6,8 +6,8 @@ use Rattle.std.proofs.lemmas.List.Elements.{All-append, All-cons, All-from_recur
 use Rattle.cell_refs.specs.declared.cell.Cell.{Cell}
 use Rattle.workbook.specs.Kinds.{book_of}
 use Rattle.workbook.specs.State.{State}
-use Rattle.workbook.specs.declared.place.Place.{Place}
-use Rattle.workbook.specs.declared.place.Place.TheVariants as place
+use Rattle.cell_refs.specs.declared.place.Place.{Place}
+use Rattle.cell_refs.specs.declared.place.Place.TheVariants as place
 use Rattle.solver_names.specs.Answers.{row_of, statement_of}
 use Rattle.solver_names.specs.Sides.{sides_in}
 use Rattle.solver_names.specs.Statement.{RowOf, Statement}

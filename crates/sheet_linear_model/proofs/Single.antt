@@ -9,8 +9,8 @@ use Rattle.linear_models.specs.Statement as rows
 use Rattle.recalculation.specs.Entries.{Book}
 use Rattle.workbook.specs.Kinds.{book_of}
 use Rattle.workbook.specs.State.{State}
-use Rattle.workbook.specs.declared.place.Place.{Place}
-use Rattle.workbook.specs.declared.place.Place.TheVariants as place
+use Rattle.cell_refs.specs.declared.place.Place.{Place}
+use Rattle.cell_refs.specs.declared.place.Place.TheVariants as place
 use Rattle.commands.specs.declared.answer.Answer.{Answer}
 use Rattle.commands.specs.declared.answer.Answer.TheVariants as answer
 use Rattle.solver_names.specs.Sides.{sides_in}

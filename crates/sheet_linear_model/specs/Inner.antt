@@ -1,7 +1,7 @@
 -- What inner contracts cite.
 use Rattle.std.specs.Prelude.{◌≡◌, ◌<◌, ◌≤◌, ℕ, Bool, true, false, List, [], ◌∷◌, length, Option, Some, None, Result, Ok, Err, is_some, ⊤}
 use Rattle.std.specs.Option.{option_and_then}
-use Rattle.workbook.specs.declared.adj.TheConstants.{DECISIONS}
+use Rattle.cell_refs.specs.declared.adj.TheConstants.{DECISIONS}
 use Rattle.fractions.specs.Rational.{zero_ℚ}
 use Rattle.affine_forms.specs.Forms.{AffineForm, constant_form, decision_form}
 use Rattle.cell_refs.specs.declared.cell.Cell.{Cell}
@@ -11,8 +11,8 @@ use Rattle.workbook.specs.Kinds.{book_of}
 use Rattle.workbook.specs.State.{State}
 use Rattle.workbook.specs.declared.kind.Kind.{Kind}
 use Rattle.workbook.specs.declared.kind.Kind.TheVariants as kind
-use Rattle.workbook.specs.declared.place.Place.{Place}
-use Rattle.workbook.specs.declared.place.Place.TheVariants as place
+use Rattle.cell_refs.specs.declared.place.Place.{Place}
+use Rattle.cell_refs.specs.declared.place.Place.TheVariants as place
 use Rattle.form_extraction.specs.declared.forms.CellForm.{CellForm}
 use Rattle.form_extraction.specs.Places.{form_in, numbered_in}
 use Rattle.linear_models.specs.Linear.{linear, wide_row}

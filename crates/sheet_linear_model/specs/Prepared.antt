@@ -10,8 +10,8 @@ use Rattle.recalculation.specs.Recalculation.{val}
 use Rattle.workbook.specs.Contents.{tree_of as tree_said}
 use Rattle.workbook.specs.Kinds.{book_of}
 use Rattle.workbook.specs.State.{State}
-use Rattle.workbook.specs.declared.place.Place.{Place}
-use Rattle.workbook.specs.declared.place.Place.TheVariants as place
+use Rattle.cell_refs.specs.declared.place.Place.{Place}
+use Rattle.cell_refs.specs.declared.place.Place.TheVariants as place
 use Rattle.form_extraction.specs.Places.{numbered_in, overriding}
 use Rattle.form_extraction.specs.Refuted.{IsRefuted}
 use Rattle.form_extraction.specs.declared.forms.Why.{Why}

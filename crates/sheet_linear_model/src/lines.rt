@@ -1,7 +1,7 @@
 // What is printed of a sheet's linear model.
 ghost use Rattle.std.specs.Prelude.{◌≡◌, ◌++◌, ℕ, IfOk, OnOk, is_some, length, map, option_map};
 ghost use Rattle.form_extraction.specs.Places.{numbered_in};
-ghost use Rattle.lin_model.specs.Kinds.{goal_of};
+ghost use Rattle.optimality.specs.Kinds.{goal_of};
 ghost use Rattle.linear_models.specs.Bounds.{bounded_by};
 ghost use Rattle.linear_models.specs.Conditions.{constraints};
 ghost use Rattle.sheet_linear_model.specs.Answers.{prepared_of};

@@ -1,6 +1,6 @@
 // The linear model of a sheet.
 ghost use Rattle.std.specs.Prelude.{◌≤◌, ◌<◌, ◌-◌, IfErr, IfOk, length};
-ghost use Rattle.workbook.specs.declared.adj.TheConstants.{DECISIONS};
+ghost use Rattle.cell_refs.specs.declared.adj.TheConstants.{DECISIONS};
 ghost use Rattle.dep_table.specs.References.{AreReferencesOf};
 ghost use Rattle.linear_models.specs.Agreement.{Fits};
 ghost use Rattle.linear_models.specs.Conditions as conditions;

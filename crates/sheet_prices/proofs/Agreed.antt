@@ -15,9 +15,9 @@ use Rattle.model_prices.specs.Prices.{BestIs}
 use Rattle.model_prices.specs.Rows.{problem_against}
 use Rattle.model_prices.proofs.Against.{agrees}
 use Rattle.model_prices.proofs.Standards.{model_less}
-use Rattle.lin_model.specs.declared.kinds.Relation.{Relation as Kind}
+use Rattle.optimality.specs.declared.kinds.Relation.{Relation as Kind}
 use Rattle.workbook.specs.State.{State}
-use Rattle.workbook.specs.declared.place.Place.{Place}
+use Rattle.cell_refs.specs.declared.place.Place.{Place}
 use Rattle.solver_names.specs.Faults.{all_rows, faults, first}
 use Rattle.solver_names.specs.Read.{read_in}
 use Rattle.solver_names.specs.Statement.{Statement}

@@ -13,7 +13,7 @@ use Rattle.linear_models.specs.Worths.{form_at, worth_of}
 use Rattle.recalculation.specs.Entries.{Book}
 use Rattle.workbook.specs.Kinds.{book_of}
 use Rattle.workbook.specs.State.{State}
-use Rattle.workbook.specs.declared.place.Place.TheVariants as place
+use Rattle.cell_refs.specs.declared.place.Place.TheVariants as place
 use Rattle.solver_names.specs.Sides.{sides_in}
 use Rattle.solver_names.specs.Statement.{RowOf, Statement}
 use Rattle.sheet_problems.specs.Forms.{HasForms, HasSides, condition_of, conditions_of}

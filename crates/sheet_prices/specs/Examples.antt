@@ -4,8 +4,8 @@ use Rattle.std.specs.Prelude.{◌≡◌, ℕ, true, List, [], ◌∷◌, Option,
 use Rattle.std.specs.List.{AllByRecursion}
 use Rattle.fractions.specs.Rational.{ℚ, neg_ℚ}
 use Rattle.optimality.specs.Problem.{Assignment, at_most, greatest}
-use Rattle.workbook.specs.declared.place.Place.{Place}
-use Rattle.workbook.specs.declared.place.Place.TheVariants as place
+use Rattle.cell_refs.specs.declared.place.Place.{Place}
+use Rattle.cell_refs.specs.declared.place.Place.TheVariants as place
 use Rattle.solver_names.specs.Statement.{RowOf, Statement}
 use Rattle.sheet_problems.specs.Examples.{cell, decisions, sheet, sides, whole}
 use Rattle.sheet_prices.specs.Raised.{row_raised}

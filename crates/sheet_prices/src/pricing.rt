@@ -7,7 +7,7 @@ ghost use Rattle.sheet_linear_model.specs.Prepared.{IsPrepared};
 ghost use Rattle.sheet_prices.specs.Answers.{HasAim, Prices};
 ghost use Rattle.sheet_prices.specs.Prices.{IsTrueOf};
 ghost use Rattle.solver_names.specs.Answers.{statement_of};
-ghost use Rattle.workbook.specs.Listed.{IsListed};
+ghost use Rattle.cell_refs.specs.Listed.{IsListed};
 ghost use Rattle.workbook.specs.State.{State};
 
 use crate::questions::{first_whole, has_aim};

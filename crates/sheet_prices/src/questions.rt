@@ -1,6 +1,6 @@
 // What is asked of a sheet before its rows are priced.
 ghost use Rattle.std.specs.Prelude.{◌≡◌, ◌↔◌, IsTrue, length};
-ghost use Rattle.lin_model.specs.Kinds.{goal_of};
+ghost use Rattle.optimality.specs.Kinds.{goal_of};
 ghost use Rattle.model_prices.specs.Prices.{IsAim};
 ghost use Rattle.sheet_prices.specs.Answers.{HasAim};
 ghost use Rattle.sheet_prices.specs.Inner.{IsFirst};

@@ -17,8 +17,8 @@ use Rattle.form_extraction.specs.FromRecalculation.{Entry, Formula, Overriding}
 use Rattle.form_extraction.specs.FromRecalculation.{evaluated, cell_value}
 use Rattle.form_extraction.specs.FromRecalculation.{bounded_val, entry_value, number_or, val}
 use Rattle.form_extraction.specs.FromRecalculation.{has_walk, is_formula, refers, unfolded}
-use Rattle.workbook.specs.declared.place.Place.{Place}
-use Rattle.workbook.specs.declared.place.Place.TheVariants as place
+use Rattle.cell_refs.specs.declared.place.Place.{Place}
+use Rattle.cell_refs.specs.declared.place.Place.TheVariants as place
 use Rattle.sheet_problems.specs.Places.{number_in, put_over, tree_of, worth_at}
 use Rattle.sheet_problems.specs.Examples.{Example, Holds, WorthsHold, worths, cell, decisions, said_in, sheet, sides, texts}
 

@@ -9,14 +9,14 @@ use Rattle.optimality.specs.Problem.{Goal, greatest}
 use Rattle.cell_refs.specs.declared.cell.Cell.{Cell}
 use Rattle.affine_forms.specs.Assigned.{ReachTo}
 use Rattle.affine_forms.specs.Forms.{AffineForm, decision_form}
-use Rattle.solver_names.specs.FromLinModel.{Relation}
+use Rattle.optimality.specs.declared.kinds.Relation.{Relation}
 use Rattle.linear_models.specs.Agreement.{Fits, IsGroupIn, IsOwn, SidesReach}
 use Rattle.linear_models.specs.Conditions.{constraint_of, constraints, goal_or_greatest, objective_where}
 use Rattle.linear_models.specs.Statement.{IsOnce}
 use Rattle.form_extraction.specs.FromRecalculation.{Book}
 use Rattle.workbook.specs.Kinds.{book_of}
-use Rattle.workbook.specs.declared.place.Place.{Place}
-use Rattle.workbook.specs.declared.place.Place.TheVariants as place
+use Rattle.cell_refs.specs.declared.place.Place.{Place}
+use Rattle.cell_refs.specs.declared.place.Place.TheVariants as place
 use Rattle.form_extraction.specs.Places.{form_in, numbered_in}
 use Rattle.form_extraction.proofs.States.{decision_is_itself}
 use Rattle.solver_names.specs.Faults.{all_rows, decisions_of, faults, first}

@@ -9,7 +9,7 @@ use Rattle.linear_models.specs.Conditions.{constraint_of, constraints, goal_or_g
 use Rattle.linear_models.specs.Statement.{row_of_sides}
 use Rattle.linear_models.specs.Worths.{worth_of}
 use Rattle.form_extraction.specs.FromRecalculation.{Book}
-use Rattle.workbook.specs.declared.place.Place.TheVariants as place
+use Rattle.cell_refs.specs.declared.place.Place.TheVariants as place
 use Rattle.solver_names.specs.Statement.{RowOf, Statement}
 use Rattle.sheet_problems.specs.Forms.{HasForm, HasSides, condition_of}
 use Rattle.sheet_problems.specs.Laws.{FormsStateTheProblem}

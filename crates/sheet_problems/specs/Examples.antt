@@ -21,8 +21,8 @@ use Rattle.formula_ast.specs.Tree as tree
 use Rattle.formula_ast.specs.declared.func.Func.TheVariants as func
 use Rattle.sheet_model.specs.declared.value.Value.TheVariants.{Number, Text}
 use Rattle.form_extraction.specs.FromRecalculation.{Book, Entry, Constant, Formula, Malformed}
-use Rattle.workbook.specs.declared.place.Place.{Place}
-use Rattle.workbook.specs.declared.place.Place.TheVariants as place
+use Rattle.cell_refs.specs.declared.place.Place.{Place}
+use Rattle.cell_refs.specs.declared.place.Place.TheVariants as place
 use Rattle.sheet_problems.specs.Places.{Sides, worth_at}
 
 -- ---- the sheet

@@ -10,8 +10,8 @@ use Rattle.affine_forms.specs.Forms.{AffineForm, constant_form}
 use Rattle.form_values.specs.declared.abs.Abs.{Abs}
 use Rattle.form_values.specs.declared.abs.Abs.TheVariants.{Known, Affine}
 use Rattle.linear_models.specs.Conditions.{Condition, Conditions}
-use Rattle.workbook.specs.declared.place.Place.{Place}
-use Rattle.workbook.specs.declared.place.Place.TheVariants as place
+use Rattle.cell_refs.specs.declared.place.Place.{Place}
+use Rattle.cell_refs.specs.declared.place.Place.TheVariants as place
 use Rattle.form_extraction.specs.declared.forms.CellForm.{CellForm}
 use Rattle.form_extraction.specs.Places.{form_in, form_of, numbered_in}
 use Rattle.form_extraction.specs.Looked.{side_form}

@@ -15,8 +15,8 @@ use Rattle.linear_models.specs.Statement.{stated}
 use Rattle.form_extraction.specs.FromRecalculation.{Book, Overriding}
 use Rattle.workbook.specs.Kinds.{book_of}
 use Rattle.workbook.specs.State.{State}
-use Rattle.workbook.specs.declared.place.Place.{Place}
-use Rattle.workbook.specs.declared.place.Place.TheVariants as place
+use Rattle.cell_refs.specs.declared.place.Place.{Place}
+use Rattle.cell_refs.specs.declared.place.Place.TheVariants as place
 use Rattle.solver_names.specs.Sides.{sides_in}
 use Rattle.solver_names.specs.Statement.{Statement}
 use Rattle.solver_names.specs.Stated.{statement_in}

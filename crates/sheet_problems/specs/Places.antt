@@ -10,8 +10,8 @@ use Rattle.sheet_model.specs.declared.value.Value.TheVariants.{Number, Empty}
 use Rattle.form_extraction.specs.FromRecalculation.{Book, Overriding}
 use Rattle.form_extraction.specs.FromRecalculation.{val}
 use Rattle.affine_forms.specs.Assigned.{assigned}
-use Rattle.workbook.specs.declared.place.Place.{Place}
-use Rattle.workbook.specs.declared.place.Place.TheVariants as place
+use Rattle.cell_refs.specs.declared.place.Place.{Place}
+use Rattle.cell_refs.specs.declared.place.Place.TheVariants as place
 use Rattle.form_extraction.specs.Places.{numbered_in, overriding}
 use Rattle.form_extraction.specs.Looked.{side_value}
 

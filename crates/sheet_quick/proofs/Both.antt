@@ -7,7 +7,7 @@ use Rattle.cell_refs.specs.Cells.{is_same_cell}
 use Rattle.cell_refs.specs.declared.cell.Cell.{Cell}
 use Rattle.form_extraction.specs.Places.{numbered_in}
 use Rattle.named_cells.specs.FromStatementLaws.{AreDistinct}
-use Rattle.workbook.specs.declared.adj.TheConstants.{DECISIONS}
+use Rattle.cell_refs.specs.declared.adj.TheConstants.{DECISIONS}
 use Rattle.parameter_problems.proofs.Numbering.{first_or, position_both}
 use Rattle.sheet_quick.specs.Inner.{StandApart}
 use Rattle.sheet_quick.proofs.Cells.{at_place, own_number}

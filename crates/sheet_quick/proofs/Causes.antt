@@ -8,8 +8,8 @@ use Rattle.cell_refs.specs.declared.cell.Cell.{Cell}
 use Rattle.workbook.specs.Kinds.{book_of}
 use Rattle.workbook.specs.Listed.{TextsAreListed}
 use Rattle.workbook.specs.State.{State}
-use Rattle.workbook.specs.declared.place.Place.{Place}
-use Rattle.workbook.specs.declared.place.Place.TheVariants as place
+use Rattle.cell_refs.specs.declared.place.Place.{Place}
+use Rattle.cell_refs.specs.declared.place.Place.TheVariants as place
 use Rattle.solver_names.specs.Sides.{sides_in}
 use Rattle.solver_names.specs.Statement.{Statement}
 use Rattle.form_needs.specs.FromSheetProblems.{HasForm, HasSides, conditions_of}

@@ -11,7 +11,7 @@ use Rattle.recalculation.specs.Entries.{Book, entry}
 use Rattle.affine_forms.specs.Assigned.{assigned}
 use Rattle.workbook.specs.Contents.{kind_of}
 use Rattle.workbook.specs.Kinds.{book_of}
-use Rattle.workbook.specs.Listed.{IsListed}
+use Rattle.cell_refs.specs.Listed.{IsListed}
 use Rattle.workbook.specs.State.{State}
 use Rattle.form_extraction.specs.Places.{numbered_in}
 use Rattle.solver_names.specs.Texts.{cells_in}

@@ -15,8 +15,8 @@ use Rattle.optimality.specs.Optimal.{Has, IsNotNegative, IsWhole, IsZeroOrOne, M
 use Rattle.recalculation.specs.Entries.{no_overriding}
 use Rattle.workbook.specs.Kinds.{book_of}
 use Rattle.workbook.specs.State.{State}
-use Rattle.workbook.specs.declared.place.Place.{Place}
-use Rattle.workbook.specs.declared.place.Place.TheVariants as place
+use Rattle.cell_refs.specs.declared.place.Place.{Place}
+use Rattle.cell_refs.specs.declared.place.Place.TheVariants as place
 use Rattle.solver_names.specs.Sides.{sides_in}
 use Rattle.solver_names.specs.Statement.{RowOf, Statement}
 use Rattle.commands.specs.FromSheetProblems.{number_in, put_over, value_at, worth_at}

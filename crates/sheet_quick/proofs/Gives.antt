@@ -13,7 +13,7 @@ use Rattle.linear_models.specs.Conditions.{Conditions}
 use Rattle.linear_models.specs.Linear.{linear, wide_row}
 use Rattle.linear_models.specs.Model.{Model}
 use Rattle.workbook.specs.Edits.{after_set}
-use Rattle.workbook.specs.Listed.{IsListed}
+use Rattle.cell_refs.specs.Listed.{IsListed}
 use Rattle.workbook.specs.State.{State}
 use Rattle.form_extraction.specs.Places.{numbered_in}
 use Rattle.sheet_funcs.specs.Numerals.{number_spelled}

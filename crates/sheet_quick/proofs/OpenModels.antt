@@ -9,7 +9,7 @@ use Rattle.linear_models.specs.Linear.{linear}
 use Rattle.linear_models.specs.Statement as rows
 use Rattle.workbook.specs.Kinds.{book_of}
 use Rattle.workbook.specs.State.{State}
-use Rattle.workbook.specs.declared.place.Place.TheVariants as place
+use Rattle.cell_refs.specs.declared.place.Place.TheVariants as place
 use Rattle.solver_names.specs.Sides.{sides_in}
 use Rattle.solver_names.specs.Statement.{Statement}
 use Rattle.solver_names.specs.Stated.{statement_in}

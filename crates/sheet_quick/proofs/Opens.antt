@@ -7,7 +7,7 @@ use Rattle.affine_forms.specs.Forms.{AffineForm}
 use Rattle.linear_models.specs.Conditions.{Conditions}
 use Rattle.cell_refs.specs.declared.cell.Cell.{Cell}
 use Rattle.workbook.specs.Kinds.{book_of}
-use Rattle.workbook.specs.Listed.{IsListed}
+use Rattle.cell_refs.specs.Listed.{IsListed}
 use Rattle.workbook.specs.State.{State}
 use Rattle.form_extraction.specs.Places.{numbered_in}
 use Rattle.solver_names.specs.Answers.{Answers}

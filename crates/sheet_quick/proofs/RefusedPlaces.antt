@@ -7,10 +7,11 @@ use Rattle.cell_refs.specs.declared.cell.Cell.{Cell}
 use Rattle.cell_refs.specs.declared.span.Span.{Span}
 use Rattle.formula_ast.specs.Tree.{Tree}
 use Rattle.workbook.specs.Contents.{tree_of as tree_said}
-use Rattle.workbook.specs.Listed.{IsListed, TextsAreListed}
+use Rattle.cell_refs.specs.Listed.{IsListed}
+use Rattle.workbook.specs.Listed.{TextsAreListed}
 use Rattle.workbook.specs.State.{State}
-use Rattle.workbook.specs.declared.place.Place.{Place}
-use Rattle.workbook.specs.declared.place.Place.TheVariants as place
+use Rattle.cell_refs.specs.declared.place.Place.{Place}
+use Rattle.cell_refs.specs.declared.place.Place.TheVariants as place
 use Rattle.form_extraction.specs.declared.forms.CellForm.TheVariants.{Refused}
 use Rattle.form_extraction.specs.declared.forms.Why.{Why}
 use Rattle.form_extraction.specs.declared.forms.Why.TheVariants as why

@@ -13,7 +13,7 @@ use Rattle.searches.specs.Answers as answers
 use Rattle.workbook.specs.Edits.{after_set}
 use Rattle.workbook.specs.Kinds.{book_of}
 use Rattle.workbook.specs.State.{State}
-use Rattle.workbook.specs.declared.place.Place.{Place}
+use Rattle.cell_refs.specs.declared.place.Place.{Place}
 use Rattle.form_extraction.specs.Places.{numbered_in}
 use Rattle.solver_names.specs.Sides.{sides_in}
 use Rattle.solver_names.specs.Statement.{Statement}

@@ -9,7 +9,7 @@ use Rattle.cell_refs.specs.declared.cell.Cell.{Cell}
 use Rattle.recalculation.specs.Entries.{Book}
 use Rattle.workbook.specs.Kinds.{book_of}
 use Rattle.workbook.specs.State.{State}
-use Rattle.workbook.specs.declared.adj.TheConstants.{DECISIONS}
+use Rattle.cell_refs.specs.declared.adj.TheConstants.{DECISIONS}
 use Rattle.form_extraction.specs.Places.{numbered_in}
 use Rattle.solver_names.specs.Sides.{sides_in}
 use Rattle.solver_names.specs.Statement.{Statement}

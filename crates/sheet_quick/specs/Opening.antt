@@ -2,9 +2,9 @@
 use Rattle.std.specs.Prelude.{◌≡◌, ◌⊎◌, ◌<◌, ◌≤◌, ◌+◌, ◌++◌, ℕ, List, length, Some, None, Result, Ok, Err, ⊤}
 use Rattle.cell_refs.specs.declared.cell.Cell.{Cell}
 use Rattle.workbook.specs.Kinds.{book_of}
-use Rattle.workbook.specs.Listed.{IsListed}
+use Rattle.cell_refs.specs.Listed.{IsListed}
 use Rattle.workbook.specs.State.{State}
-use Rattle.workbook.specs.declared.adj.TheConstants.{DECISIONS}
+use Rattle.cell_refs.specs.declared.adj.TheConstants.{DECISIONS}
 use Rattle.commands.specs.Refusals.{FaultIsListed, RefusalIsListed}
 use Rattle.solver_names.specs.Sides.{sides_in}
 use Rattle.solver_names.specs.Statement.{Statement}

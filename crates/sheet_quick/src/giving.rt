@@ -10,7 +10,7 @@ ghost use Rattle.sheet_quick.specs.declared.stops.NoGiven.TheVariants as stops;
 ghost use Rattle.sheet_finding.specs.Finding.{CanBeFound};
 ghost use Rattle.sheet_finding.specs.FromSheetSolving.{whole_task};
 ghost use Rattle.workbook.specs.Edits.{after_set};
-ghost use Rattle.workbook.specs.Listed.{IsListed};
+ghost use Rattle.cell_refs.specs.Listed.{IsListed};
 ghost use Rattle.write_back.specs.Writing.{AreDistinct};
 
 use crate::quick::SheetQuick;

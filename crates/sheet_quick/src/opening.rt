@@ -11,7 +11,7 @@ ghost use Rattle.sheet_quick.specs.Opening.{CauseIsListed, MakesFew, Opens};
 ghost use Rattle.solver_names.specs.Answers.{statement_of};
 ghost use Rattle.solver_names.specs.Sides.{sides_in};
 ghost use Rattle.workbook.specs.Kinds.{book_of};
-ghost use Rattle.workbook.specs.declared.adj.TheConstants.{DECISIONS};
+ghost use Rattle.cell_refs.specs.declared.adj.TheConstants.{DECISIONS};
 
 use crate::forms::forms_over;
 use crate::parameters::{both, cells_named, parameters, values_in};

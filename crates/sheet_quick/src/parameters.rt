@@ -4,7 +4,7 @@ ghost use Rattle.cell_refs.specs.Areas.{cells_of};
 ghost use Rattle.sheet_quick.specs.Inner.{ParametersOr, StandApart};
 ghost use Rattle.sheet_quick.specs.Parameters.{can_be_parameter, cells_named, is_number, number_said, other_cell, values_in};
 ghost use Rattle.workbook.specs.Kinds.{book_of};
-ghost use Rattle.workbook.specs.declared.adj.TheConstants.{DECISIONS};
+ghost use Rattle.cell_refs.specs.declared.adj.TheConstants.{DECISIONS};
 
 use crate::stops::NoQuick;
 use cell_refs::{Area, Cell, SheetId, TEXT_BYTES};

@@ -18,7 +18,7 @@ use Rattle.branch_bound.specs.declared.progress.Progress.TheVariants as progress
 use Rattle.branch_bound.specs.declared.progress.SearchStop.{SearchStop}
 use Rattle.branch_bound.specs.declared.progress.SearchStop.TheVariants as stop
 use Rattle.recalculation.specs.Entries.{Contents}
-use Rattle.workbook.specs.Listed.{IsListed}
+use Rattle.cell_refs.specs.Listed.{IsListed}
 use Rattle.workbook.specs.Several.{first_without_room, is_too_much}
 use Rattle.workbook.specs.State.{State}
 use Rattle.std.specs.FinMap.{insert}

@@ -14,7 +14,7 @@ use Rattle.searches.specs.TrueTrees.{SplitTree, leaf, split_at, HasNode, IsTrueS
 use Rattle.searches.proofs.TrueTrees.{trees_are_true}
 use Rattle.search_paths.specs.Steps.{step_of}
 use Rattle.branch_bound.specs.Ends.{IsWideAt}
-use Rattle.workbook.specs.Listed.{IsListed}
+use Rattle.cell_refs.specs.Listed.{IsListed}
 use Rattle.commands.specs.Refusals.{StepIsListed}
 use Rattle.sheet_solving.specs.Solving.{by_cell, by_cells, no_cell}
 

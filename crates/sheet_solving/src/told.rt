@@ -2,10 +2,10 @@
 ghost use Rattle.std.specs.Prelude.{◌≡◌, All, IfOk, OnErr, length};
 ghost use Rattle.std.specs.Option.{option_map};
 ghost use Rattle.commands.specs.Lines.{CanBeSaid};
-ghost use Rattle.lin_model.specs.Kinds.{goal_of};
+ghost use Rattle.optimality.specs.Kinds.{goal_of};
 ghost use Rattle.sheet_solving.specs.Inner.{CanBeTold, Tells, Writes, value_told};
 ghost use Rattle.solver_names.specs.Answers.{statement_of};
-ghost use Rattle.workbook.specs.Listed.{IsListed};
+ghost use Rattle.cell_refs.specs.Listed.{IsListed};
 ghost use Rattle.write_back.specs.Writing.{AreDistinct};
 
 use branch_bound::Progress;

@@ -1,8 +1,8 @@
 // The folder over the working directory. It tells no content.
-ghost use Rattle.std.specs.Prelude.{◌≡◌, ◌≢◌, ◌≤◌, ◌↔◌, [], Err};
+ghost use Rattle.std.specs.Prelude.{◌≡◌, ◌≢◌, ◌≤◌, [], Err};
 ghost use Rattle.std.specs.IoError.{error_kind};
 ghost use Rattle.solver_io.specs.Bytes.{PutCause};
-ghost use Rattle.solver_io.specs.Files.{LeavesIn, ReadCause};
+ghost use Rattle.solver_io.specs.Files.{LeavesIn, ReadCause, unopened};
 ghost use Rattle.solver_io.specs.Memory.{count_after_put, count_after_read};
 
 use crate::transfers::{put_all, take_all};
@@ -93,13 +93,12 @@ fn read_file<R: Runtime>(rt: &R, name: &str, limit: usize, into: &mut Vec<u8>) -
     }
 }
 
-// How a read ends where the file does not open: the runtime finds none of this name, or it fails.
+// How a read ends where the file does not open: the runtime finds none of this name, also where its path leads through a file, or it fails.
 fn end_unopened(error: &Error) -> ReadEnd
-    ensures missing { (result ≡ ReadEnd.Missing) ↔ (error_kind error.now ≡ ErrorKind.NotFound) }
-    ensures failed { (result ≡ ReadEnd.Failed) ↔ (error_kind error.now ≢ ErrorKind.NotFound) }
+    ensures { result ≡ unopened (error_kind error.now) }
 {
     match error.kind() {
-        ErrorKind::NotFound => ReadEnd::Missing,
+        ErrorKind::NotFound | ErrorKind::NotADirectory => ReadEnd::Missing,
         _ => ReadEnd::Failed,
     }
 }

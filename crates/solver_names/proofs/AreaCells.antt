@@ -23,7 +23,8 @@ use Rattle.solver_names.specs.Faults.{other_cell}
 use Rattle.solver_names.specs.Texts.{with_cell}
 use Rattle.solver_names.proofs.CellLists.{other_from, other_later}
 use Rattle.solver_names.proofs.Counting.{AreBelow, IsBelow, all_counted, passing_same}
-use Rattle.solver_names.proofs.MarkedCells.{among_area, cells_more, same_itself}
+use Rattle.cell_refs.proofs.SameCells.{same_itself}
+use Rattle.solver_names.proofs.MarkedCells.{among_area, cells_more}
 use Rattle.solver_names.proofs.Sums.{sum_zero}
 
 abbrev pub all_cells : List Area → List Cell

@@ -9,7 +9,7 @@ use Rattle.cell_refs.specs.Cells.{is_same_cell}
 use Rattle.solver_names.specs.Constraints.{is_among}
 use Rattle.solver_names.specs.Texts.{with_cell}
 use Rattle.solver_names.specs.Counts.{bit, cell_of, sum_below}
-use Rattle.solver_names.proofs.MarkedCells.{same_is, same_itself}
+use Rattle.cell_refs.proofs.SameCells.{same_cells, same_itself}
 use Rattle.solver_names.proofs.Sums.{sum_add, sum_one, sum_zero}
 
 module _ (sheets columns rows : ℕ) where
@@ -85,7 +85,7 @@ module _ (sheets columns rows : ℕ) where
       new other =
           passing_both (is_among (cells ++ d ∷ [])) (is_among cells) (λ c. is_same_cell c d)
           (λ c. ap bit (list_any-append (is_same_cell c) cells (d ∷ []) ∙ ap (λ q. is_among cells c || q) (or-false (is_same_cell c d)))
-          ∙ either (is_among cells c) (is_same_cell c d) (λ there same. clash (sym (ap (is_among cells) (same_is c d same)) ∙ there) other))
+          ∙ either (is_among cells c) (is_same_cell c d) (λ there same. clash (sym (ap (is_among cells) (same_cells c d same)) ∙ there) other))
           ∙ ap₂ (λ m n. m + n) so_far (passing_one d below) ∙ sym (length-append cells (d ∷ []))
         where
           clash : is_among cells d ≡ true → is_among cells d ≡ false → ⊥

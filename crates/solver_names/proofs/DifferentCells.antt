@@ -11,7 +11,7 @@ use Rattle.std.proofs.lemmas.Option.{slice_get_read}
 use Rattle.cell_refs.specs.Areas.{Area, cell_at}
 use Rattle.cell_refs.specs.Cells.{is_same_cell}
 use Rattle.cell_refs.specs.declared.cell.Cell.{Cell}
-use Rattle.workbook.proofs.OpenLaws.{none_passes}
+use Rattle.cell_refs.proofs.Positions.{none_passes}
 use Rattle.solver_names.specs.Constraints.{is_among, left_cells}
 use Rattle.solver_names.specs.Faults.{first, is_mark, no_decision, other_cell}
 use Rattle.solver_names.specs.Stated.{different, different_cells, is_code, numbers_of}
@@ -22,7 +22,7 @@ use Rattle.solver_names.specs.declared.faults.Fault.{Fault}
 use Rattle.solver_names.specs.declared.said.Said.{Said}
 use Rattle.solver_names.specs.declared.said.Said.TheVariants.{Absent, Unformed, Says}
 use Rattle.solver_names.proofs.Firsts.{none_empty, none_first, none_later}
-use Rattle.solver_names.proofs.MarkedCells.{same_is}
+use Rattle.cell_refs.proofs.SameCells.{same_cells}
 
 -- ---- one more
 -- the number of one cell more is put
@@ -58,7 +58,7 @@ numbered : (ds : List Cell) (c : Cell) (o : Option ℕ) → position (is_same_ce
 numbered ds c None e there = let absent : list_any (is_same_cell c) ds ≡ false = none_passes (is_same_cell c) ds e in let both : true ≡ false = sym there ∙ absent in absurd cc
 numbered ds c (Some i) e there =
     let at = position-Some (is_same_cell c) ds i c e in
-    (i, refl, slice_get_read ds (length ds) i c refl at.0 (same_is c (get_or ds i c) at.1))
+    (i, refl, slice_get_read ds (length ds) i c refl at.0 (same_cells c (get_or ds i c) at.1))
 
 -- each cell is to be decided, so the numbers are those of all
 all_numbered : (ds cells : List Cell) → other_cell ds cells ≡ None → map (slice_get ds) (numbers_of ds cells) ≡ map Some cells

@@ -1,11 +1,11 @@
 -- The cells that stand on the left of constraints of a code.
-use Rattle.std.proofs.Common.{◌≡◌, ◌<◌, eq-eqb, subst, ◌+◌, ℕ, suc, Bool, true, false, cond, List, [], ◌∷◌, ◌++◌, get_or, length, take, refl, sym, ap, ap₂, ◌∙◌, arith, append-nil}
-use Rattle.std.specs.Prelude.{◌||◌, ◌&&◌, ◌==◌, fold, Contains}
+use Rattle.std.proofs.Common.{◌≡◌, ◌<◌, subst, ◌+◌, ℕ, suc, Bool, true, false, cond, List, [], ◌∷◌, ◌++◌, get_or, length, take, refl, sym, ap, ap₂, ◌∙◌, arith, append-nil}
+use Rattle.std.specs.Prelude.{◌||◌, ◌&&◌, fold, Contains}
 use Rattle.std.proofs.Math.Seq.{take-suc}
-use Rattle.std.proofs.lemmas.Bool.{eqb-true}
 use Rattle.std.proofs.lemmas.List.Folds.{list_any-append, list_any_at}
 use Rattle.std.proofs.lemmas.Map.Views.{Contains-from_any}
 use Rattle.cell_refs.specs.declared.cell.Cell.{Cell}
+use Rattle.cell_refs.proofs.SameCells.{same_cells, same_itself}
 use Rattle.cell_refs.specs.Areas.{Area, cells_of, within}
 use Rattle.cell_refs.specs.Cells.{is_same_cell}
 use Rattle.formula_ast.specs.Tree.{Listed}
@@ -18,26 +18,6 @@ use Rattle.solver_names.specs.declared.constraints.Code.{Code}
 use Rattle.solver_names.specs.declared.constraints.Constraint.{Constraint}
 use Rattle.solver_names.specs.declared.said.Said.TheVariants.{Says}
 
--- ---- one cell is the other
-first_true : (p q : Bool) → (p && q) ≡ true → p ≡ true
-first_true true q h = refl
-first_true false q h = absurd cc
-
-second_true : (p q : Bool) → (p && q) ≡ true → q ≡ true
-second_true true q h = h
-second_true false q h = absurd cc
-
-pub same_is : (a b : Cell) → is_same_cell a b ≡ true → a ≡ b
-same_is a b h =
-    let more = second_true (a.sheet.0 == b.sheet.0) ((a.row == b.row) && (a.col == b.col)) h in
-    let sheet : a.sheet.0 ≡ b.sheet.0 = eqb-true a.sheet.0 b.sheet.0 (first_true (a.sheet.0 == b.sheet.0) ((a.row == b.row) && (a.col == b.col)) h) in
-    let row : a.row ≡ b.row = eqb-true a.row b.row (first_true (a.row == b.row) (a.col == b.col) more) in
-    let col : a.col ≡ b.col = eqb-true a.col b.col (second_true (a.row == b.row) (a.col == b.col) more) in
-    λ i. record { sheet = record { 0 = sheet i }; row = row i; col = col i }
-
-pub same_itself : (a : Cell) → is_same_cell a a ≡ true
-same_itself a = ap₂ (λ x y. x && y) (eq-eqb a.sheet.0 a.sheet.0 refl) (ap₂ (λ x y. x && y) (eq-eqb a.row a.row refl) (eq-eqb a.col a.col refl))
-
 -- ---- the cells of an area are those within it
 same_truth : (p q : Bool) → (p ≡ true → q ≡ true) → (q ≡ true → p ≡ true) → p ≡ q
 same_truth true q h k = sym (h refl)
@@ -45,7 +25,7 @@ same_truth false true h k = k refl
 same_truth false false h k = refl
 
 there : (cells : List Cell) (c : Cell) → is_among cells c ≡ true → Contains cells c
-there cells c h = Contains-from_any same_is c cells h
+there cells c h = Contains-from_any same_cells c cells h
 
 among : (cells : List Cell) (c : Cell) → Contains cells c → is_among cells c ≡ true
 among cells c h = list_any_at (is_same_cell c) cells h.0 c h.1 (ap (is_same_cell c) h.2 ∙ same_itself c)
@@ -67,7 +47,7 @@ cell_more : (cells : List Cell) (d c : Cell) → is_among (with_cell cells d) c 
 cell_more cells d c = by_case (is_among cells d) refl
   where
     old : (q : Bool) → is_same_cell c d ≡ q → is_among cells d ≡ true → is_among cells c ≡ (is_among cells c || q)
-    old true same there = ap (is_among cells) (same_is c d same) ∙ there ∙ sym (ap (λ p. p || true) (ap (is_among cells) (same_is c d same) ∙ there))
+    old true same there = ap (is_among cells) (same_cells c d same) ∙ there ∙ sym (ap (λ p. p || true) (ap (is_among cells) (same_cells c d same) ∙ there))
     old false other there = sym (or_false (is_among cells c))
 
     by_case : (p : Bool) → is_among cells d ≡ p → is_among (cond p cells (cells ++ d ∷ [])) c ≡ (is_among cells c || is_same_cell c d)

@@ -3,10 +3,10 @@ use Rattle.std.proofs.Common.{◌≡◌, ◌≤◌, ◌+◌, ◌-◌, ℕ, List,
 use Rattle.std.specs.List.{range_with_len}
 use Rattle.std.proofs.lemmas.Nat.{mul-le}
 use Rattle.std.proofs.lemmas.List.FromFn.{length-map-range_with_len, map-range_with_len_more}
-use Rattle.lin_model.specs.declared.kinds.Relation.{Relation}
+use Rattle.optimality.specs.declared.kinds.Relation.{Relation}
 use Rattle.cell_refs.specs.declared.cell.Cell.{Cell}
 use Rattle.cell_refs.specs.Areas.{Area, IsOnSheet, area_height, area_len, area_width}
-use Rattle.workbook.specs.declared.place.Place.{Place}
+use Rattle.cell_refs.specs.declared.place.Place.{Place}
 use Rattle.solver_names.specs.declared.constraints.Code.TheVariants as code
 use Rattle.solver_names.specs.declared.constraints.Constraint.{Constraint}
 use Rattle.solver_names.specs.declared.said.Said.TheVariants.{Says}

@@ -1,7 +1,7 @@
 -- What is answered of the names of a sheet.
 use Rattle.std.specs.Prelude.{◌≡◌, ℕ, List, [], Result, Ok, Err, Vec, map, string_bytes, unwrap_or}
 use Rattle.std.specs.Global.{Global}
-use Rattle.lin_model.specs.Kinds.{goal_of, relation_of}
+use Rattle.optimality.specs.Kinds.{goal_of, relation_of}
 use Rattle.workbook.specs.State.{State}
 use Rattle.solver_names.specs.declared.fault.NamesFault.{NamesFault}
 use Rattle.solver_names.specs.declared.fault.NamesFault.TheVariants as told

@@ -2,13 +2,13 @@
 use Rattle.std.specs.Prelude.{ℕ, ◌==◌, Bool, true, false, List, [], map, if◌then◌else◌, Option, Some, None}
 use Rattle.std.specs.Option.{option_and_then}
 use Rattle.std.specs.List.{range_with_len, list_any}
-use Rattle.lin_model.specs.declared.kinds.Relation.TheVariants.{AtMost, Equal, AtLeast}
+use Rattle.optimality.specs.declared.kinds.Relation.TheVariants.{AtMost, Equal, AtLeast}
 use Rattle.cell_refs.specs.Areas.{Area, area_len, cell_at, cells_of}
 use Rattle.cell_refs.specs.Cells.{is_same_cell}
 use Rattle.cell_refs.specs.declared.cell.Cell.{Cell}
 use Rattle.workbook.specs.State.{State}
-use Rattle.workbook.specs.declared.place.Place.{Place}
-use Rattle.workbook.specs.declared.place.Place.TheVariants as place
+use Rattle.cell_refs.specs.declared.place.Place.{Place}
+use Rattle.cell_refs.specs.declared.place.Place.TheVariants as place
 use Rattle.solver_names.specs.declared.name.Name.TheVariants as name
 use Rattle.solver_names.specs.declared.said.Said.{Said}
 use Rattle.solver_names.specs.declared.said.Said.TheVariants.{Absent, Says}

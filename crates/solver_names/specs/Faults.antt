@@ -1,10 +1,10 @@
 -- The faults of what the names of a sheet say, in the order in which they are told: by their kinds, and then by constraint.
 use Rattle.std.specs.Prelude.{ℕ, ◌==◌, ◌&&◌, ◌||◌, ◌++◌, not, nat_lt, Bool, true, false, List, [], ◌∷◌, map, find, flat_map, length, if◌then◌else◌, Option, Some, None, option_to_list}
-use Rattle.lin_model.specs.declared.kinds.Relation.{Relation}
+use Rattle.optimality.specs.declared.kinds.Relation.{Relation}
 use Rattle.std.specs.List.{range_with_len}
 use Rattle.cell_refs.specs.Areas.{Area, area_len, cell_at}
 use Rattle.cell_refs.specs.declared.cell.Cell.{Cell}
-use Rattle.workbook.specs.declared.place.Place.{Place}
+use Rattle.cell_refs.specs.declared.place.Place.{Place}
 use Rattle.solver_names.specs.declared.limits.TheConstants.{MOST_DECISIONS, MOST_ROWS}
 use Rattle.solver_names.specs.declared.name.Name.TheVariants as name
 use Rattle.solver_names.specs.declared.faults.Fault.{Fault}

@@ -3,7 +3,6 @@ pub mod Constraints
 pub mod Counts
 pub mod Faults
 pub mod Fitting
-pub mod FromLinModel
 pub mod Read
 pub mod Sides
 pub mod Stated

@@ -6,11 +6,11 @@ use Rattle.optimality.specs.Problem.{Goal, greatest, least, reach}
 use Rattle.cell_refs.specs.Areas.{Area, within}
 use Rattle.cell_refs.specs.Cells.{is_same_cell}
 use Rattle.cell_refs.specs.declared.cell.Cell.{Cell}
-use Rattle.lin_model.specs.Kinds.{relation_of}
-use Rattle.lin_model.specs.declared.kinds.Relation.{Relation}
-use Rattle.lin_model.specs.declared.kinds.Relation.TheVariants.{AtLeast}
+use Rattle.optimality.specs.Kinds.{relation_of}
+use Rattle.optimality.specs.declared.kinds.Relation.{Relation}
+use Rattle.optimality.specs.declared.kinds.Relation.TheVariants.{AtLeast}
 use Rattle.workbook.specs.State.{State}
-use Rattle.workbook.specs.declared.place.Place.{Place}
+use Rattle.cell_refs.specs.declared.place.Place.{Place}
 use Rattle.solver_names.specs.declared.faults.Fault.{Fault}
 use Rattle.solver_names.specs.declared.said.Said.{Said}
 use Rattle.solver_names.specs.declared.said.Said.TheVariants.{Says}

@@ -2,7 +2,7 @@
 use Rattle.std.specs.Prelude.{ℕ, Bool, List, Option}
 use Rattle.optimality.specs.Problem.{Relation, Goal}
 use Rattle.cell_refs.specs.declared.cell.Cell.{Cell}
-use Rattle.workbook.specs.declared.place.Place.{Place}
+use Rattle.cell_refs.specs.declared.place.Place.{Place}
 
 -- an expanded row: its number from 1 on, and its two sides in a relation
 pub record RowOf : Type 0 where

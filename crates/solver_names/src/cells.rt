@@ -1,6 +1,6 @@
 // Cells that areas name, each once.
 ghost use Rattle.std.specs.Prelude.{◌≡◌, ◌≤◌, ◌<◌, ◌+◌, ◌-◌, ◌*◌, [], OnOk, IfOk, flat_map, fold, length};
-ghost use Rattle.workbook.specs.declared.adj.TheConstants.{DECISIONS};
+ghost use Rattle.cell_refs.specs.declared.adj.TheConstants.{DECISIONS};
 ghost use Rattle.cell_refs.specs.Areas.{area_width, bottom, cells_of};
 ghost use Rattle.solver_names.specs.Constraints.{is_among};
 ghost use Rattle.solver_names.specs.Counts.{numbered_sheets};

@@ -11,8 +11,8 @@ use crate::said::Said;
 use crate::texts::{reference_in, whole_in};
 use cell_refs::{Area, SheetId};
 use formula_ast::Expr;
-use lin_model::Relation;
 use memory::Memory;
+use optimality::Relation;
 use std::alloc::Global;
 use workbook::Workbook;
 

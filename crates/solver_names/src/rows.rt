@@ -13,8 +13,8 @@ use crate::constraints::{Code, Constraint, Side};
 use crate::said::Said;
 use crate::statements::RowOf;
 use cell_refs::{Area, Cell};
-use lin_model::Relation;
 use memory::Memory;
+use optimality::Relation;
 use std::alloc::Global;
 use workbook::Place;
 

@@ -1,9 +1,9 @@
 // The statement of a sheet's names.
 ghost use Rattle.std.specs.Prelude.{◌≡◌, ◌≤◌, ◌<◌, ◌==◌, ◌||◌, [], IfOk, None, length};
-ghost use Rattle.workbook.specs.declared.adj.TheConstants.{DECISIONS};
+ghost use Rattle.cell_refs.specs.declared.adj.TheConstants.{DECISIONS};
 ghost use Rattle.fractions.specs.Rational.{zero_ℚ};
 ghost use Rattle.cell_refs.specs.declared.cell.Cell.{Cell};
-ghost use Rattle.lin_model.specs.Kinds as kinds;
+ghost use Rattle.optimality.specs.Kinds as kinds;
 ghost use Rattle.solver_names.specs.Answers.{Answers, statement_of};
 ghost use Rattle.solver_names.specs.Constraints.{is_among};
 ghost use Rattle.solver_names.specs.Faults.{faults, first, most_decisions};
@@ -23,8 +23,8 @@ use crate::said::Said;
 use crate::statements::Statement;
 use cell_refs::{Cell, SheetId};
 use frac128::Frac;
-use lin_model::{Goal, Relation};
 use memory::Memory;
+use optimality::{Goal, Relation};
 use std::alloc::Global;
 use workbook::Workbook;
 

@@ -1,7 +1,7 @@
 // What the names of a sheet state.
 
 use cell_refs::{Cell, SheetId};
-use lin_model::{Goal, Relation};
+use optimality::{Goal, Relation};
 use workbook::{Adj, Place};
 
 /// An expanded row: its number from 1 on, and its two sides in a relation.

@@ -1,9 +1,10 @@
 -- Cells that are put at their first places alone.
-use Rattle.std.proofs.Common.{◌≡◌, ◌⊎◌, inl, inr, ℕ, zero, suc, Bool, true, false, cond, List, [], ◌∷◌, ◌++◌, length, Some, refl, sym, ap, ap₂, ◌∙◌, eq-eqb}
-use Rattle.std.specs.Prelude.{◌&&◌, ◌||◌, fold, slice_get}
+use Rattle.std.proofs.Common.{◌≡◌, ◌⊎◌, inl, inr, ℕ, zero, suc, Bool, true, false, cond, List, [], ◌∷◌, ◌++◌, length, Some, refl, sym, ap, ◌∙◌}
+use Rattle.std.specs.Prelude.{◌||◌, fold, slice_get}
 use Rattle.std.specs.List.{AllByRecursion, list_any}
 use Rattle.cell_refs.specs.Cells.{is_same_cell}
 use Rattle.cell_refs.specs.declared.cell.Cell.{Cell}
+use Rattle.cell_refs.proofs.SameCells.{same_itself}
 use Rattle.recalculation.proofs.Lists.{each_append}
 use Rattle.solver_names.specs.Texts.{distinct, with_cell}
 use Rattle.statement_laws.specs.Laws.{AreDistinct}
@@ -16,9 +17,6 @@ first_false false q h = refl
 second_false : (p q : Bool) → (p || q) ≡ false → q ≡ false
 second_false true q h = absurd cc
 second_false false q h = h
-
-same_itself : (a : Cell) → is_same_cell a a ≡ true
-same_itself a = ap₂ (λ x y. x && y) (eq-eqb a.sheet.0 a.sheet.0 refl) (ap₂ (λ x y. x && y) (eq-eqb a.row a.row refl) (eq-eqb a.col a.col refl))
 
 not_there : (cells : List Cell) (c : Cell) (k : ℕ) → list_any (is_same_cell c) cells ≡ false → slice_get cells k ≡ Some c → ⊥
 not_there [] c k h e = cc

@@ -24,7 +24,7 @@ use Rattle.formula_parser.specs.Leaves.{area_of}
 use Rattle.formula_parser.specs.TextTrees.{area_in, to_the_end, tokens_in}
 use Rattle.recalculation.proofs.GridCells.{each_below, each_map}
 use Rattle.recalculation.proofs.Lists.{each_weaker}
-use Rattle.workbook.specs.Listed.{IsListed}
+use Rattle.cell_refs.specs.Listed.{IsListed}
 
 -- the area lies on one of the sheets
 pub record Lies (sheets : List (List ℕ)) (a : Area) : Type 0 where

@@ -13,7 +13,7 @@ use Rattle.solver_names.specs.Read.{count_said, read_in}
 use Rattle.solver_names.specs.Stated.{said_objective}
 use Rattle.solver_names.specs.Texts.{all_of, area_on, cell_in, cells_in, distinct, only_cell, or_else, parts_from, reference_in}
 use Rattle.workbook.specs.Kinds.{behind_equals}
-use Rattle.workbook.specs.Listed.{IsListed}
+use Rattle.cell_refs.specs.Listed.{IsListed}
 use Rattle.workbook.specs.State.{State, text_of}
 use Rattle.statement_laws.specs.Laws.{AreDistinct}
 use Rattle.statement_laws.proofs.OnceEach.{distinct_held, once_each}

@@ -5,8 +5,8 @@ use Rattle.std.specs.List.{AllByRecursion, range_with_len}
 use Rattle.std.proofs.lemmas.Bool.{eqb-true}
 use Rattle.cell_refs.specs.Areas.{Area, area_len, cell_at}
 use Rattle.cell_refs.specs.declared.cell.Cell.{Cell}
-use Rattle.lin_model.specs.declared.kinds.Relation.{Relation}
-use Rattle.lin_model.specs.declared.kinds.Relation.TheVariants.{AtLeast, AtMost, Equal}
+use Rattle.optimality.specs.declared.kinds.Relation.{Relation}
+use Rattle.optimality.specs.declared.kinds.Relation.TheVariants.{AtLeast, AtMost, Equal}
 use Rattle.recalculation.proofs.GridCells.{each_below, each_map}
 use Rattle.recalculation.proofs.Lists.{each_append, each_weaker}
 use Rattle.sheet_problems.specs.Places.{Sides}
@@ -16,9 +16,9 @@ use Rattle.solver_names.specs.Read.{Read, read_in}
 use Rattle.solver_names.specs.Stated.{numbered}
 use Rattle.solver_names.specs.Texts.{by_form, is_absent, is_unformed}
 use Rattle.solver_names.proofs.Firsts.{none_empty, none_first, none_later}
-use Rattle.workbook.specs.Listed.{IsListed}
+use Rattle.cell_refs.specs.Listed.{IsListed}
 use Rattle.workbook.specs.State.{State}
-use Rattle.workbook.specs.declared.place.Place.{Place}
+use Rattle.cell_refs.specs.declared.place.Place.{Place}
 use Rattle.statement_laws.specs.Laws.{IsThere, RowIsThere}
 use Rattle.statement_laws.proofs.ReadAreas.{Lies, cell_listed}
 use Rattle.statement_laws.proofs.SaidKinds.{Code, Constraint, Fault, Said, Side, by_code, by_left, by_right}

@@ -13,7 +13,7 @@ use Rattle.solver_names.specs.Statement.{Statement}
 use Rattle.solver_names.specs.Stated.{stated, unless_fault}
 use Rattle.solver_names.specs.Texts.{by_form, is_absent, is_unformed}
 use Rattle.solver_names.specs.declared.fault.NamesFault.TheVariants as told
-use Rattle.workbook.specs.Listed.{IsListed}
+use Rattle.cell_refs.specs.Listed.{IsListed}
 use Rattle.workbook.specs.State.{State}
 use Rattle.statement_laws.specs.Laws.{FaultsAreListed}
 use Rattle.statement_laws.proofs.ReadAreas.{cells_listed}

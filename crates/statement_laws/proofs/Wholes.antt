@@ -12,7 +12,7 @@ use Rattle.solver_names.specs.Stated.{different, different_cells, numbered, stat
 use Rattle.solver_names.proofs.Faultless.{no_fault}
 use Rattle.solver_names.proofs.GroupLaws.{members_below, members_distinct}
 use Rattle.solver_names.proofs.NoFaults.{different_decided}
-use Rattle.workbook.specs.Listed.{IsListed}
+use Rattle.cell_refs.specs.Listed.{IsListed}
 use Rattle.workbook.specs.State.{State}
 use Rattle.statement_laws.specs.Laws.{GroupsAreLeftSides, IsWhole, RowIsThere, StandOnce, StatementsAreWhole}
 use Rattle.statement_laws.proofs.ReadNames.{count_in, decisions_chosen, objective_there}

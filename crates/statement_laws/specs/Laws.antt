@@ -2,10 +2,10 @@
 use Rattle.std.specs.Prelude.{◌≡◌, ◌<◌, ℕ, List, length, map, All, Some, IsSome, Ok, Err, slice_get}
 use Rattle.cell_refs.specs.declared.cell.Cell.{Cell}
 use Rattle.formula_ast.specs.Tree.{Tree}
-use Rattle.workbook.specs.Listed.{IsListed}
+use Rattle.cell_refs.specs.Listed.{IsListed}
 use Rattle.workbook.specs.State.{State}
-use Rattle.workbook.specs.declared.place.Place.{Place}
-use Rattle.workbook.specs.declared.place.Place.TheVariants as place
+use Rattle.cell_refs.specs.declared.place.Place.{Place}
+use Rattle.cell_refs.specs.declared.place.Place.TheVariants as place
 use Rattle.solver_names.specs.Answers.{Answers}
 use Rattle.solver_names.specs.Read.{read_in}
 use Rattle.solver_names.specs.Sides.{sides_in}

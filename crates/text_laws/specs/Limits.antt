@@ -1,7 +1,7 @@
 -- How large sheets, workbooks and files may be, as numbers.
 use Rattle.std.specs.Prelude.{◌≡◌}
 use Rattle.cell_refs.specs.declared.limits.TheConstants.{COLUMNS, FILE_BYTES, FORMULAS, NAMES, ROWS, SHEETS, TEXTS, TEXT_BYTES}
-use Rattle.workbook.specs.declared.adj.TheConstants.{DECISIONS}
+use Rattle.cell_refs.specs.declared.adj.TheConstants.{DECISIONS}
 
 -- the limits that definitions, code and printed lines share
 pub record LimitsAre : Type 0 where

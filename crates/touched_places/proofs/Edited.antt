@@ -13,8 +13,8 @@ use Rattle.formula_ast.specs.Tree.{Tree}
 use Rattle.column_strips.specs.Affected.{by_one, by_more}
 use Rattle.recalculation.specs.Entries.{Book, Formula, entry}
 use Rattle.recalculation.specs.Walks.{refers}
-use Rattle.workbook.specs.declared.place.Place.{Place}
-use Rattle.workbook.specs.declared.place.Place.TheVariants as place
+use Rattle.cell_refs.specs.declared.place.Place.{Place}
+use Rattle.cell_refs.specs.declared.place.Place.TheVariants as place
 use Rattle.form_extraction.specs.Places.{Decisions}
 use Rattle.form_extraction.specs.Looked.{side_form}
 use Rattle.touched_places.specs.Touched.{Expressions, Reaches, IsAtOrReaches, RefersToTouched, IsTouched}

@@ -1,5 +1,5 @@
 -- The test passes exactly the touched places.
-use Rattle.std.specs.Prelude.{◌↔◌, ◌==◌}
+use Rattle.std.specs.Prelude.{◌↔◌}
 use Rattle.std.proofs.Common.{◌≡◌, ◌⊎◌, inl, inr, refl, sym, ap, ◌∙◌, subst, Bool, true, false, ◌&&◌, List, [], ◌∷◌, Option, Some, None}
 use Rattle.std.specs.Prelude.{◌||◌}
 use Rattle.std.specs.List.{list_any}
@@ -7,9 +7,9 @@ use Rattle.std.specs.Ordering.{eq_by_cmp, is_eq}
 use Rattle.std.specs.FinMap.{keys, contains_key-keys}
 use Rattle.std.specs.declared.cmp.Ordering.{Ordering}
 use Rattle.std.specs.declared.cmp.Ordering.TheVariants.{Less, Equal, Greater}
-use Rattle.std.proofs.lemmas.Bool.{eq-eqb, eqb-true}
 use Rattle.cell_refs.specs.Cells.{cell_cmp, is_same_cell}
 use Rattle.cell_refs.specs.declared.cell.Cell.{Cell}
+use Rattle.cell_refs.proofs.SameCells.{same_cells, same_itself}
 use Rattle.cell_refs.proofs.Order.{exact_cells}
 use Rattle.formula_ast.specs.Tree.{Tree}
 use Rattle.column_strips.specs.Affected.{by_one, by_more}
@@ -18,7 +18,7 @@ use Rattle.recalculation.specs.Walks.{refers}
 use Rattle.recalculation.proofs.Lists.{both, first_true, second_true, either_first, either_second}
 use Rattle.recalculation.proofs.Circles.{found_text}
 use Rattle.recalculation.proofs.Reached.{passes}
-use Rattle.workbook.specs.declared.place.Place.TheVariants as place
+use Rattle.cell_refs.specs.declared.place.Place.TheVariants as place
 use Rattle.touched_places.specs.Touched.{Reaches, IsAtOrReaches, RefersToTouched}
 use Rattle.touched_places.specs.Tests.{leads_by, is_at_or_leads, side_leads, touches}
 use Rattle.touched_places.specs.Laws.{TouchesWhatIsTouched}
@@ -35,16 +35,6 @@ is_equal Equal h = refl
 is_equal Greater h = cc
 
 -- ---- cells
-same_cells : (a b : Cell) → is_same_cell a b ≡ true → a ≡ b
-same_cells a b h =
-    let s = first_true (a.sheet.0 == b.sheet.0) _ h in
-    let others = second_true (a.sheet.0 == b.sheet.0) _ h in
-    let r = first_true (a.row == b.row) _ others in
-    let c = second_true (a.row == b.row) _ others in
-    λ i. record { sheet = record { 0 = eqb-true a.sheet.0 b.sheet.0 s i }; row = eqb-true a.row b.row r i; col = eqb-true a.col b.col c i }
-
-same_itself : (a : Cell) → is_same_cell a a ≡ true
-same_itself a = λ i. (eq-eqb a.sheet.0 a.sheet.0 refl i) && ((eq-eqb a.row a.row refl i) && (eq-eqb a.col a.col refl i))
 
 -- ---- what leads somewhere
 module _ (said : Cell → Option Entry) where

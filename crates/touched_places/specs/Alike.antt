@@ -5,8 +5,8 @@ use Rattle.cell_refs.specs.declared.cell.Cell.{Cell}
 use Rattle.formula_ast.specs.Tree.{Tree}
 use Rattle.recalculation.specs.Entries.{Book, Contents, Formula, entry}
 use Rattle.recalculation.specs.Walks.{is_circular, refers}
-use Rattle.workbook.specs.declared.place.Place.{Place}
-use Rattle.workbook.specs.declared.place.Place.TheVariants as place
+use Rattle.cell_refs.specs.declared.place.Place.{Place}
+use Rattle.cell_refs.specs.declared.place.Place.TheVariants as place
 use Rattle.form_extraction.specs.declared.forms.CellForm.{CellForm}
 use Rattle.form_extraction.specs.Places.{Decisions, form_of}
 use Rattle.form_extraction.specs.Looked.{LooksFrom, forms_of, refers_to_circle, side_form}

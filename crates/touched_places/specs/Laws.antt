@@ -4,7 +4,7 @@ use Rattle.cell_refs.specs.declared.cell.Cell.{Cell}
 use Rattle.formula_ast.specs.Tree.{Tree}
 use Rattle.recalculation.specs.Entries.{Book, Formula}
 use Rattle.recalculation.specs.Walks.{refers}
-use Rattle.workbook.specs.declared.place.Place.{Place}
+use Rattle.cell_refs.specs.declared.place.Place.{Place}
 use Rattle.form_extraction.specs.Places.{Decisions, form_of}
 use Rattle.form_extraction.specs.Looked.{side_form}
 use Rattle.touched_places.specs.Touched.{Expressions, IsTouched}

@@ -5,8 +5,8 @@ use Rattle.formula_ast.specs.Tree.{Tree}
 use Rattle.column_strips.specs.Affected as lists
 use Rattle.recalculation.specs.Entries.{Book, Formula, entry}
 use Rattle.recalculation.specs.Walks.{refers}
-use Rattle.workbook.specs.declared.place.Place.{Place}
-use Rattle.workbook.specs.declared.place.Place.TheVariants as place
+use Rattle.cell_refs.specs.declared.place.Place.{Place}
+use Rattle.cell_refs.specs.declared.place.Place.TheVariants as place
 
 -- the expressions of right sides, by the numbers of their constraints
 abbrev pub Expressions : Type 0

@@ -5,7 +5,8 @@ use Rattle.std.specs.FinMap.{get}
 use Rattle.cell_refs.specs.declared.cell.Cell.{Cell}
 use Rattle.workbook.specs.declared.held.Held.{Held}
 use Rattle.workbook.specs.Held.{IsHeld, IsKept, contents_of, held_at}
-use Rattle.workbook.specs.Listed.{IsListed, TextsAreListed}
+use Rattle.cell_refs.specs.Listed.{IsListed}
+use Rattle.workbook.specs.Listed.{TextsAreListed}
 use Rattle.workbook.specs.State.{Name}
 use Rattle.workbook.proofs.Keeping.{HeldCells, get_text, text_held, the_state}
 

@@ -1,12 +1,12 @@
 -- Opening a workbook, step by step.
 use Rattle.std.proofs.Common.{◌≡◌, ◌+◌, ◌≤◌, ◌<◌, ℕ, suc, Bool, true, false, cond, List, [], ◌∷◌, ◌++◌, length, Option, Some, None, Err, refl, sym, ap, subst, ◌∙◌, arith}
 use Rattle.std.specs.Prelude.{◌||◌, if◌then◌else◌, All, not, position, nat_lt}
-use Rattle.std.specs.List.{list_any, position_or_len}
 use Rattle.std.specs.FinMap.{empty, entries, from_entries, len-empty, len-entries}
 use Rattle.std.proofs.lemmas.Bool.Decides.{nat_tests}
 use Rattle.std.proofs.lemmas.List.Elements.{All-append, All-cons, All-head, All-nil, All-push, All-tail}
 use Rattle.cell_refs.specs.declared.cell.Cell.{Cell}
 use Rattle.cell_refs.specs.Cells.{cell_cmp}
+use Rattle.cell_refs.proofs.Positions.{nowhere}
 use Rattle.sheet_csv.specs.Sheet.{Record, first_long, first_wide, is_long, sheet_records}
 use Rattle.sheet_csv.specs.declared.fault.SheetFault.TheVariants as sheet_fault
 use Rattle.recalculation.specs.Entries.{Contents}
@@ -27,32 +27,6 @@ abbrev pub Texts : Type 0
 Texts = List (Cell × List ℕ)
 
 -- ---- what is read fits
-is_past : (q n : ℕ) → cond (nat_lt q n) (Some q) None ≡ None → n ≤ q
-is_past q n e = by_case (nat_lt q n) refl e
-  where
-    by_case : (b : Bool) → nat_lt q n ≡ b → cond b (Some q) None ≡ None → n ≤ q
-    by_case true h k = absurd cc
-    by_case false h k = grind (arith, nat_tests)
-
-is_none : (q n : ℕ) → n ≤ q → cond (nat_lt q n) (Some q) None ≡ None
-is_none q n h = let e : nat_lt q n ≡ false = grind (arith, nat_tests) in ap (λ b. cond b (Some q) None) e
-
-nowhere : {A : Type 0} (p : A → Bool) (x : A) (xs : List A) → position p (x ∷ xs) ≡ None → (p x ≡ false) × (position p xs ≡ None)
-nowhere p x xs e = by_case (p x) refl (is_past (position_or_len p (x ∷ xs)) (suc (length xs)) e)
-  where
-    by_case : (b : Bool) → p x ≡ b → suc (length xs) ≤ position_or_len p (x ∷ xs) → (p x ≡ false) × (position p xs ≡ None)
-    by_case true h k =
-        let first : position_or_len p (x ∷ xs) ≡ 0 = ap (λ b. cond (not b) (1 + position_or_len p xs) 0) h in
-        absurd (omega arith)
-    by_case false h k =
-        let later : position_or_len p (x ∷ xs) ≡ 1 + position_or_len p xs = ap (λ b. cond (not b) (1 + position_or_len p xs) 0) h in
-        (h, is_none (position_or_len p xs) (length xs) (omega arith))
-
--- where no place passes, no element does
-pub none_passes : {A : Type 0} (p : A → Bool) (xs : List A) → position p xs ≡ None → list_any p xs ≡ false
-none_passes p [] e = refl
-none_passes p (x ∷ xs) e = let k = nowhere p x xs e in ap (λ b. b || list_any p xs) k.0 ∙ none_passes p xs k.1
-
 not_more : (m n : ℕ) → nat_lt m n ≡ false → n ≤ m
 not_more m n h = grind (arith, nat_tests)
 

@@ -14,7 +14,7 @@ use Rattle.workbook.specs.declared.held.Said.{Said}
 use Rattle.workbook.specs.declared.held.Said.TheVariants as variant
 use Rattle.workbook.specs.Held.{IsHeld, IsSoundly, SaysSpelled, entry_of}
 use Rattle.workbook.specs.Kinds.{formula_tree, meant, number_or_other, says, with_names}
-use Rattle.workbook.specs.Listed.{IsListed}
+use Rattle.cell_refs.specs.Listed.{IsListed}
 use Rattle.workbook.specs.State.{Name, is_formula_text}
 use Rattle.workbook.specs.Uses.{names_nothing, is_wanted, some_use}
 use Rattle.workbook.proofs.NamelessTrees.{nameless_stays, nameless_unused}

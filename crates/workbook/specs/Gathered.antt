@@ -6,7 +6,7 @@ use Rattle.cell_refs.specs.declared.limits.TheConstants.{COLUMNS, ROWS, TEXTS, T
 use Rattle.workbook.specs.declared.gather.Stop.{Stop}
 use Rattle.workbook.specs.declared.gather.Stop.TheVariants as stop
 use Rattle.workbook.specs.Files.{SheetFile, texts_in_records}
-use Rattle.workbook.specs.Listed.{IsListed}
+use Rattle.cell_refs.specs.Listed.{IsListed}
 
 -- the texts of sheets by their records, from a sheet on
 abbrev pub texts_in_sheets : ℕ → List (List Record) → List (Cell × List ℕ)

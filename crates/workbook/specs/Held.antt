@@ -16,7 +16,7 @@ use Rattle.workbook.specs.declared.held.Said.{Said}
 use Rattle.workbook.specs.declared.held.Said.TheVariants as said
 use Rattle.cell_refs.specs.declared.limits.TheConstants.{FORMULAS, TEXTS}
 use Rattle.workbook.specs.Kinds.{meant, says, with_names}
-use Rattle.workbook.specs.Listed.{IsListed}
+use Rattle.cell_refs.specs.Listed.{IsListed}
 use Rattle.workbook.specs.Scoped.{IsShort}
 use Rattle.workbook.specs.State.{Name, formula_count, text_count}
 

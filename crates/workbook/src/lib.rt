@@ -1,7 +1,6 @@
 //! Workbooks: the texts of cells, the names, and what the texts say.
 #![tactic(auto)]
 
-mod adj;
 mod asked;
 mod change;
 mod edited;
@@ -14,7 +13,6 @@ mod named;
 mod names;
 mod naming;
 mod open;
-mod place;
 mod renamed;
 mod renaming;
 mod say;
@@ -25,12 +23,11 @@ mod uses;
 mod words;
 mod workbook;
 
-pub use adj::{Adj, DECISIONS};
+pub use cell_refs::{Adj, DECISIONS, Place};
 pub use fault::{AllFault, EditFault, OpenFault};
 pub use file::File;
 pub use kind::Kind;
 pub use open::{files_open_in_one_way, names_are_saved_as_found, sheet_in};
-pub use place::Place;
 pub use renaming::unname_fault;
 pub use text_cell::TextCell;
 pub use words::behind_equals;

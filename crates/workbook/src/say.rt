@@ -4,7 +4,7 @@ ghost use Rattle.std.specs.Option.{option_map_or};
 ghost use Rattle.cell_refs.specs.declared.limits.TheConstants.{TEXT_BYTES};
 ghost use Rattle.recalculation.specs.Entries.{Formula, Malformed};
 ghost use Rattle.workbook.specs.Held.{IsHeld, IsSoundly, SaysSpelled, entry_of, spelled_tree};
-ghost use Rattle.workbook.specs.Listed.{IsListed};
+ghost use Rattle.cell_refs.specs.Listed.{IsListed};
 ghost use Rattle.workbook.specs.State.{is_formula_text};
 ghost use Rattle.workbook.specs.Kinds.{formula_tree, number_or_other};
 ghost use Rattle.frac128.specs.NumeralReading.{reading};

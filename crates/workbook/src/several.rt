@@ -2,7 +2,7 @@
 ghost use Rattle.std.specs.Prelude.{◌≡◌, ◌≢◌, [], All, None, OnErr, OnOk, map, string_bytes, zip};
 ghost use Rattle.workbook.specs.Filling.{AreHeldAlike, IsFilled};
 ghost use Rattle.workbook.specs.Held.{IsKept, contents_of};
-ghost use Rattle.workbook.specs.Listed.{IsListed};
+ghost use Rattle.cell_refs.specs.Listed.{IsListed};
 ghost use Rattle.workbook.specs.Scoped.{IsShort};
 ghost use Rattle.workbook.specs.Several.{IsField, first_without_room};
 ghost use Rattle.workbook.specs.State.{formula_count};

@@ -4,7 +4,7 @@ ghost use Rattle.std.specs.FinMap as finmap;
 ghost use Rattle.cell_refs.specs.declared.limits.TheConstants.{TEXT_BYTES};
 ghost use Rattle.workbook.specs.Contents.{content_of};
 ghost use Rattle.workbook.specs.Edits.{Sets, after_set, is_outside, set_fault};
-ghost use Rattle.workbook.specs.Listed.{IsListed};
+ghost use Rattle.cell_refs.specs.Listed.{IsListed};
 ghost use Rattle.workbook.specs.Known.{names_in};
 ghost use Rattle.workbook.specs.State.{formula_count, is_formula_text, text_count, with_text};
 ghost use Rattle.workbook.specs.Room.{HasRoom};

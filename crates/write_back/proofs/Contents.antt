@@ -1,16 +1,16 @@
 -- The texts of cells after texts were put into some of them.
 use Rattle.std.proofs.Common.{◌≡◌, ℕ, zero, suc, ◌+◌, Bool, true, false, cond, nat_lt, List, [], ◌∷◌, length, map, Option, Some, None, refl, sym, ap, ◌∙◌, arith}
-use Rattle.std.specs.Prelude.{not, ◌&&◌, ◌==◌, option_map, position, slice_get, zip}
+use Rattle.std.specs.Prelude.{not, ◌&&◌, option_map, position, slice_get, zip}
 use Rattle.std.specs.List.{prefix_len}
 use Rattle.std.specs.FinMap.{get, get-insert, insert}
 use Rattle.std.specs.Ordering.{eq_by_cmp, is_eq}
 use Rattle.std.specs.declared.cmp.Ordering.{Ordering}
 use Rattle.std.specs.declared.cmp.Ordering.TheVariants.{Less, Equal, Greater}
-use Rattle.std.proofs.lemmas.Bool.{eqb-true, eq-eqb}
 use Rattle.std.proofs.lemmas.Bool.Decides.{nat_tests}
 use Rattle.std.proofs.lemmas.Cmp.{tied_itself}
 use Rattle.fractions.specs.Rational.{ℚ}
 use Rattle.cell_refs.specs.declared.cell.Cell.{Cell}
+use Rattle.cell_refs.proofs.SameCells.{same_cells, same_itself}
 use Rattle.cell_refs.specs.Cells.{cell_cmp, is_same_cell}
 use Rattle.cell_refs.proofs.Order.{cells_total, exact_cells}
 use Rattle.affine_forms.specs.Assigned.{assigned}
@@ -19,19 +19,6 @@ use Rattle.workbook.specs.Several.{with_texts}
 use Rattle.write_back.specs.Writing.{AreDistinct}
 
 -- ---- cells
-both_true : (b c : Bool) → (b && c) ≡ true → (b ≡ true) × (c ≡ true)
-both_true true c h = (refl, h)
-both_true false c h = absurd cc
-
-same_cells : (a b : Cell) → is_same_cell a b ≡ true → a ≡ b
-same_cells a b h =
-    let sheets = both_true (a.sheet.0 == b.sheet.0) ((a.row == b.row) && (a.col == b.col)) h in
-    let others = both_true (a.row == b.row) (a.col == b.col) sheets.1 in
-    λ i. record { sheet = record { 0 = eqb-true a.sheet.0 b.sheet.0 sheets.0 i }; row = eqb-true a.row b.row others.0 i; col = eqb-true a.col b.col others.1 i }
-
-same_itself : (a : Cell) → is_same_cell a a ≡ true
-same_itself a = λ i. (eq-eqb a.sheet.0 a.sheet.0 refl i) && ((eq-eqb a.row a.row refl i) && (eq-eqb a.col a.col refl i))
-
 equal_of : (r : Ordering) → is_eq r ≡ true → r ≡ Equal
 equal_of Less e = absurd cc
 equal_of Equal e = refl

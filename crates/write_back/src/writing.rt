@@ -1,7 +1,7 @@
 // Numbers written into cells.
 ghost use Rattle.std.specs.Prelude.{◌≡◌, All, OnOk, length};
 ghost use Rattle.workbook.specs.Kinds.{book_of};
-ghost use Rattle.workbook.specs.Listed.{IsListed};
+ghost use Rattle.cell_refs.specs.Listed.{IsListed};
 ghost use Rattle.write_back.specs.Writing.{AreDistinct, KeepsSides, KeepsValues, Puts};
 
 use crate::texts::all_texts;

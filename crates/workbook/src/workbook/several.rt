@@ -2,15 +2,15 @@
 ghost use Rattle.std.specs.Prelude.{◌≡◌, All, MatchResult, None, Some, length, map, string_bytes, zip};
 ghost use Rattle.std.specs.List.{IsDistinct};
 ghost use Rattle.cell_refs.specs.Cells.{is_same_cell};
-ghost use Rattle.workbook.specs.Listed.{IsListed};
+ghost use Rattle.cell_refs.specs.Listed.{IsListed};
 ghost use Rattle.workbook.specs.Several.{IsField, SetsAll, first_without_room, with_texts};
 ghost use Rattle.workbook.specs.State.{formula_count};
 
 use super::{is_one_more, is_one_now};
 use crate::several::put_each;
 use crate::words::{is_formula, one};
-use crate::{Adj, AllFault, Workbook};
-use cell_refs::{Cell, FORMULAS, TEXTS};
+use crate::{AllFault, Workbook};
+use cell_refs::{Adj, Cell, FORMULAS, TEXTS};
 
 impl Workbook {
     /// Puts a text into each cell, in their order, once there is room for all of them. After a fault nothing has changed.

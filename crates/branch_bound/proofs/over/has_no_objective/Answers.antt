@@ -1,6 +1,6 @@
 use Rattle.std.proofs.Common.{◌≡◌, sym, ap, ◌∙◌}
 use Rattle.optimality.specs.Problem.{least}
-use Rattle.lin_model.specs.Kinds.{goal_of}
+use Rattle.optimality.specs.Kinds.{goal_of}
 use Rattle.branch_bound.proofs.Overs.{negated_is_zero, no_objective, has_objective}
 use Rattle.branch_bound.proofs.over.has_no_objective.Goals as goal
 

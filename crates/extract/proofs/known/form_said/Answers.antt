@@ -3,7 +3,7 @@ use Rattle.recalculation.specs.Entries.{entry}
 use Rattle.sheet_model.specs.declared.value.Value.TheVariants.{Text}
 use Rattle.form_values.specs.declared.abs.Abs.TheVariants.{Known}
 use Rattle.workbook.specs.Kinds.{book_of}
-use Rattle.workbook.specs.declared.place.Place.TheVariants as place
+use Rattle.cell_refs.specs.declared.place.Place.TheVariants as place
 use Rattle.extract.specs.Tables.{form_at}
 use Rattle.extract.proofs.Saying.{said_empty, said_formula, said_logical, said_malformed, said_number, said_plain}
 use Rattle.extract.proofs.known.form_said.Goals as goal

@@ -2,7 +2,7 @@ use Rattle.std.specs.Prelude.{if◌then◌else◌}
 use Rattle.std.proofs.Common.{◌≡◌, subst}
 use Rattle.std.proofs.lemmas.List.{take_all}
 use Rattle.needed_forms.specs.FromExtract.{without}
-use Rattle.workbook.specs.declared.place.Place.TheVariants as place
+use Rattle.cell_refs.specs.declared.place.Place.TheVariants as place
 use Rattle.extract_incr.specs.Marking.{have_one}
 use Rattle.extract_incr.specs.declared.marking.SideAreas.{SideAreas}
 use Rattle.extract_incr.proofs.Taken.{AreSidesTaken, no_sides_taken, one_side_taken}

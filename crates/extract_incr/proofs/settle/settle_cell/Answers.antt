@@ -4,7 +4,7 @@ use Rattle.needed_forms.specs.FromExtract.{form_at}
 use Rattle.needed_forms.specs.FromFormExtraction.{numbered_in}
 use Rattle.recalculation.specs.Entries.{entry}
 use Rattle.workbook.specs.Kinds.{book_of}
-use Rattle.workbook.specs.declared.place.Place.TheVariants as place
+use Rattle.cell_refs.specs.declared.place.Place.TheVariants as place
 use Rattle.extract_incr.proofs.Settling.{none_got, none_of, ready_forms, stale_cell, tree_entry}
 use Rattle.extract_incr.proofs.settle.settle_cell.Goals as goal
 

@@ -4,7 +4,7 @@ use Rattle.std.proofs.lemmas.Option.{slice_get-get_or}
 use Rattle.cell_refs.specs.declared.cell.Cell.{Cell}
 use Rattle.needed_forms.specs.FromExtract.{form_at}
 use Rattle.workbook.specs.Kinds.{book_of}
-use Rattle.workbook.specs.declared.place.Place.TheVariants as place
+use Rattle.cell_refs.specs.declared.place.Place.TheVariants as place
 use Rattle.extract_incr.specs.Settling.{kept_in}
 use Rattle.extract_incr.proofs.Counting.{before_or_at, none_before, there_below}
 use Rattle.extract_incr.proofs.Settling.{goes_itself, goes_on, still_some, the_same}

@@ -5,7 +5,7 @@ use Rattle.cell_refs.specs.declared.cell.Cell.{Cell}
 use Rattle.needed_forms.specs.FromExtract.{form_at}
 use Rattle.extract_incr.specs.Settling.{Goes, kept_in}
 use Rattle.workbook.specs.Kinds.{book_of}
-use Rattle.workbook.specs.declared.place.Place.TheVariants as place
+use Rattle.cell_refs.specs.declared.place.Place.TheVariants as place
 use Rattle.extract_incr.proofs.settle.settle_circular.Given as goal
 
 abbrev pub invariant-loop-cell : goal.invariant-loop-cell

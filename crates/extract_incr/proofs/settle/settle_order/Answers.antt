@@ -5,7 +5,7 @@ use Rattle.cell_refs.specs.declared.cell.Cell.{Cell}
 use Rattle.recalculation.specs.Entries.{entry}
 use Rattle.recalculation.specs.Walks.{refers}
 use Rattle.workbook.specs.Kinds.{book_of}
-use Rattle.workbook.specs.declared.place.Place.TheVariants as place
+use Rattle.cell_refs.specs.declared.place.Place.TheVariants as place
 use Rattle.extract_incr.specs.Settling.{IsThere, kept_in, unmade}
 use Rattle.extract_incr.proofs.Counting.{before_or_at, there_below}
 use Rattle.extract_incr.proofs.Settling.{goes_on, still_some, the_same, within_both}

@@ -4,7 +4,7 @@ use Rattle.std.specs.Prelude.{slice_get}
 use Rattle.cell_refs.specs.declared.cell.Cell.{Cell}
 use Rattle.extract_incr.specs.Settling.{Goes, IsThere, kept_in, unmade}
 use Rattle.workbook.specs.Kinds.{book_of}
-use Rattle.workbook.specs.declared.place.Place.TheVariants as place
+use Rattle.cell_refs.specs.declared.place.Place.TheVariants as place
 use Rattle.extract_incr.proofs.settle.settle_order.Given as goal
 
 abbrev pub invariant-loop-cell : goal.invariant-loop-cell

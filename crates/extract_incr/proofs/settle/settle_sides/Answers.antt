@@ -4,7 +4,7 @@ use Rattle.std.proofs.lemmas.Option.{slice_get-get_or}
 use Rattle.needed_forms.specs.FromExtract.{form_at}
 use Rattle.formula_ast.specs.Tree.{Tree}
 use Rattle.workbook.specs.Kinds.{book_of}
-use Rattle.workbook.specs.declared.place.Place.TheVariants as place
+use Rattle.cell_refs.specs.declared.place.Place.TheVariants as place
 use Rattle.extract_incr.specs.Settling.{kept_in, unmade}
 use Rattle.extract_incr.proofs.Counting.{before_or_at, there_below}
 use Rattle.extract_incr.proofs.Settling.{goes_on, still_some, the_same, tree_found, within_both}

@@ -4,7 +4,7 @@ use Rattle.linear_models.specs.Conditions.{goal_or_greatest, objective_where, st
 use Rattle.linear_models.specs.Model.{IsValid}
 use Rattle.linear_models.specs.Linear.{form_or_zero, linear, objective_left}
 use Rattle.linear_models.proofs.Valid.{linear_is_valid}
-use Rattle.lin_model.specs.Kinds.{goal_of}
+use Rattle.optimality.specs.Kinds.{goal_of}
 use Rattle.lin_model.specs.Lists.{lists_of}
 use Rattle.lin_model.proofs.RowsLeft.{all_sides, model_is, stated_objective}
 use Rattle.lin_model.proofs.building.put_together.Goals as goal

@@ -4,7 +4,7 @@ use Rattle.affine_forms.specs.Forms.{AffineForm}
 use Rattle.std.specs.Option.{option_map}
 use Rattle.calculations.proofs.CalculationLaws.{narrow-turned_into}
 use Rattle.affine_forms.specs.Steps.{subtracted}
-use Rattle.lin_model.specs.Kinds.{relation_of}
+use Rattle.optimality.specs.Kinds.{relation_of}
 use Rattle.lin_model.proofs.rows.push_difference.Goals as goal
 
 pub returns-in_ok-push-in-Ok : goal.returns-in_ok-push-in-Ok

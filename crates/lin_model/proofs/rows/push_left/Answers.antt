@@ -1,6 +1,6 @@
 use Rattle.std.proofs.Common.{sym, ◌∙◌, [], append-nil}
 use Rattle.linear_models.specs.Conditions.{constraint_of}
-use Rattle.lin_model.specs.Kinds.{relation_of}
+use Rattle.optimality.specs.Kinds.{relation_of}
 use Rattle.lin_model.proofs.RowsLeft.{left_bound, pushed_left}
 use Rattle.lin_model.proofs.rows.push_left.Goals as goal
 

@@ -5,7 +5,7 @@ use Rattle.affine_forms.specs.Forms.{AffineForm}
 use Rattle.affine_forms.specs.Steps.{subtracted}
 use Rattle.linear_models.specs.Linear.{reaching}
 use Rattle.lin_model.specs.Inner.{Pushed}
-use Rattle.lin_model.specs.Kinds.{goal_of}
+use Rattle.optimality.specs.Kinds.{goal_of}
 use Rattle.lin_model.proofs.rows.push_reaching.Goals as goal
 
 pub returns-in-Reach : goal.returns-in-Reach

@@ -7,7 +7,7 @@ use Rattle.model_lines.specs.Ended.{ended}
 use Rattle.model_lines.specs.Lines.{cell_lines, row_line}
 use Rattle.model_lines.proofs.Cells.{by_parts, rows_reach}
 use Rattle.model_lines.proofs.Ended.{put_together}
-use Rattle.workbook.specs.Listed.{IsListed}
+use Rattle.cell_refs.specs.Listed.{IsListed}
 use Rattle.model_lines.proofs.print.print_lines.Goals as goal
 
 pub print_rows-requires-clause-reach : goal.print_rows-requires-clause-reach

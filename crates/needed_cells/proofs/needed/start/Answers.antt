@@ -2,7 +2,7 @@ use Rattle.std.proofs.Common.{subst}
 use Rattle.std.proofs.lemmas.List.{take_all}
 use Rattle.std.specs.Prelude.{All}
 use Rattle.needed_cells.specs.Finding.{AreAdded, IsStarted, asked}
-use Rattle.workbook.specs.declared.place.Place.TheVariants as place
+use Rattle.cell_refs.specs.declared.place.Place.TheVariants as place
 use Rattle.needed_cells.proofs.Spreading.{one_started}
 use Rattle.needed_cells.proofs.needed.start.Goals as goal
 

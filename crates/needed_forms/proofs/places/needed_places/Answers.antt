@@ -2,7 +2,7 @@ use Rattle.std.proofs.Common.{◌∙◌, ◌++◌, ap, filter, subst, sym}
 use Rattle.std.specs.Prelude.{Contains, ◌↔◌}
 use Rattle.form_needs.specs.Needed.{Asked, IsNeeded}
 use Rattle.workbook.specs.Kinds.{book_of}
-use Rattle.workbook.specs.declared.place.Place.{Place}
+use Rattle.cell_refs.specs.declared.place.Place.{Place}
 use Rattle.needed_forms.specs.Firsts.{is_side}
 use Rattle.needed_forms.proofs.Needing.{cells_as_places, needed_places}
 use Rattle.needed_forms.proofs.places.needed_places.Goals as goal

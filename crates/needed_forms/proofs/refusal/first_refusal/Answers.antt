@@ -3,7 +3,7 @@ use Rattle.form_needs.specs.FirstRefusal.{IsRefusal}
 use Rattle.form_needs.specs.Needed.{Asked, IsNeeded}
 use Rattle.std.specs.Prelude.{Contains, ◌↔◌}
 use Rattle.workbook.specs.Kinds.{book_of}
-use Rattle.workbook.specs.declared.place.Place.{Place}
+use Rattle.cell_refs.specs.declared.place.Place.{Place}
 use Rattle.needed_forms.specs.Told.{told_refusal}
 use Rattle.needed_forms.proofs.First.{first_is_refusal}
 use Rattle.needed_forms.proofs.Telling.{refusal_is}

@@ -1,7 +1,7 @@
 use Rattle.std.proofs.Common.{ℕ, length, false, sym, subst}
 use Rattle.affine_forms.specs.Assigned.{ReachTo}
 use Rattle.affine_forms.specs.Forms.{AffineForm}
-use Rattle.lin_model.specs.Kinds.{goal_of}
+use Rattle.optimality.specs.Kinds.{goal_of}
 use Rattle.linear_models.proofs.Regular.{wanted_reach}
 use Rattle.optcheck_cli.proofs.Values.{judged_by}
 use Rattle.optcheck_cli.proofs.value.judge_point.Goals as goal

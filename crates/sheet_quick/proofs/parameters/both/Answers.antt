@@ -1,6 +1,6 @@
 use Rattle.std.proofs.Common.{◌≤◌, ◌+◌, List, length, subst, sym}
 use Rattle.cell_refs.specs.declared.cell.Cell.{Cell}
-use Rattle.workbook.specs.declared.adj.TheConstants.{DECISIONS}
+use Rattle.cell_refs.specs.declared.adj.TheConstants.{DECISIONS}
 use Rattle.sheet_quick.specs.Inner.{StandApart}
 use Rattle.sheet_quick.proofs.Both.{has_room, is_new, with_it}
 use Rattle.sheet_quick.proofs.parameters.both.Goals as goal

@@ -4,7 +4,7 @@ use Rattle.std.proofs.lemmas.List.Elements.{All-rest}
 use Rattle.cell_refs.specs.declared.cell.Cell.{Cell}
 use Rattle.workbook.specs.Filling.{IsFilled}
 use Rattle.workbook.specs.Held.{contents_of}
-use Rattle.workbook.specs.Listed.{IsListed}
+use Rattle.cell_refs.specs.Listed.{IsListed}
 use Rattle.workbook.specs.Several.{IsField, first_without_room}
 use Rattle.workbook.proofs.Covered.{covered_put}
 use Rattle.workbook.proofs.Severally.{all_filled, first_others, held_again, kept_first, room_later, zip_first}

@@ -5,7 +5,8 @@ use Rattle.cell_refs.specs.Cells.{is_same_cell}
 use Rattle.cell_refs.proofs.Order.{cells_total, exact_cells}
 use Rattle.std.specs.Prelude.{◌==◌}
 use Rattle.extract.specs.Tables.{Table, form_at}
-use Rattle.extract.proofs.Maps.{get_as, same_cells, same_itself, same_numbers, number_itself}
+use Rattle.cell_refs.proofs.SameCells.{same_cells, same_itself}
+use Rattle.extract.proofs.Maps.{get_as, same_numbers, number_itself}
 use Rattle.extract.proofs.table.FormTable.get.Goals as goal
 
 pub returns-in-Cell : goal.returns-in-Cell

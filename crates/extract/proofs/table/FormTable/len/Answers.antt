@@ -5,7 +5,8 @@ use Rattle.std.specs.Prelude.{◌==◌}
 use Rattle.cell_refs.specs.Cells.{is_same_cell}
 use Rattle.cell_refs.proofs.Order.{cells_total, exact_cells}
 use Rattle.extract.specs.Tables.{form_count}
-use Rattle.extract.proofs.Maps.{length_as, same_cells, same_itself, same_numbers, number_itself}
+use Rattle.cell_refs.proofs.SameCells.{same_cells, same_itself}
+use Rattle.extract.proofs.Maps.{length_as, same_numbers, number_itself}
 use Rattle.extract.proofs.table.FormTable.len.Goals as goal
 
 pub returns : goal.returns

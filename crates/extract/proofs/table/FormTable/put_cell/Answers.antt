@@ -2,9 +2,10 @@ use Rattle.std.proofs.Common.{◌∙◌, ap}
 use Rattle.std.specs.FinMap.{from_entries}
 use Rattle.cell_refs.specs.Cells.{is_same_cell}
 use Rattle.cell_refs.proofs.Order.{cells_total, exact_cells}
-use Rattle.workbook.specs.declared.place.Place.TheVariants as place
+use Rattle.cell_refs.specs.declared.place.Place.TheVariants as place
 use Rattle.extract.specs.Tables.{Table, with_form}
-use Rattle.extract.proofs.Maps.{put_as, same_cells, same_itself}
+use Rattle.cell_refs.proofs.SameCells.{same_cells, same_itself}
+use Rattle.extract.proofs.Maps.{put_as}
 use Rattle.extract.proofs.table.FormTable.put_cell.Goals as goal
 
 pub returns-clause-ok : goal.returns-clause-ok

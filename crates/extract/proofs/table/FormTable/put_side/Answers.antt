@@ -2,7 +2,7 @@ use Rattle.std.proofs.Common.{◌∙◌, ap}
 use Rattle.std.specs.Cmp.{nat_cmp_total}
 use Rattle.std.specs.FinMap.{from_entries, nat_cmp-IsAntisymmetric}
 use Rattle.std.specs.Prelude.{◌==◌}
-use Rattle.workbook.specs.declared.place.Place.TheVariants as place
+use Rattle.cell_refs.specs.declared.place.Place.TheVariants as place
 use Rattle.extract.specs.Tables.{Table, with_form}
 use Rattle.extract.proofs.Maps.{put_as, same_numbers, number_itself}
 use Rattle.extract.proofs.table.FormTable.put_side.Goals as goal

@@ -2,7 +2,7 @@ use Rattle.std.proofs.Common.{◌≡◌, ◌+◌, ◌-◌, ◌∙◌, ap, arith,
 use Rattle.std.specs.FinMap.{insert}
 use Rattle.workbook.specs.Contents.{content_of}
 use Rattle.workbook.specs.Held.{contents_of}
-use Rattle.workbook.specs.Listed.{IsListed}
+use Rattle.cell_refs.specs.Listed.{IsListed}
 use Rattle.workbook.specs.Room.{HasRoom}
 use Rattle.workbook.specs.State.{is_formula_text}
 use Rattle.workbook.specs.Users.{IsIndexed}

@@ -1,9 +1,9 @@
 -- Relations and goals of the code, as those of problems.
 use Rattle.optimality.specs.Problem.{Relation, at_most, equal, at_least, Goal, greatest, least, reach}
-use Rattle.lin_model.specs.declared.kinds.Relation.{Relation as Kind}
-use Rattle.lin_model.specs.declared.kinds.Relation.TheVariants as kinds
-use Rattle.lin_model.specs.declared.kinds.Goal.{Goal as Aim}
-use Rattle.lin_model.specs.declared.kinds.Goal.TheVariants as aims
+use Rattle.optimality.specs.declared.kinds.Relation.{Relation as Kind}
+use Rattle.optimality.specs.declared.kinds.Relation.TheVariants as kinds
+use Rattle.optimality.specs.declared.kinds.Goal.{Goal as Aim}
+use Rattle.optimality.specs.declared.kinds.Goal.TheVariants as aims
 
 -- each relation by its name
 abbrev pub relation_of : Kind → Relation

@@ -3,8 +3,8 @@ use Rattle.std.specs.Prelude.{if◌then◌else◌}
 use Rattle.std.specs.List.{list_any}
 use Rattle.indexmap.specs.IndexSet.{insert_key}
 use Rattle.cell_refs.specs.Cells.{is_same_cell}
-use Rattle.workbook.proofs.OpenLaws.{none_passes}
-use Rattle.workbook.proofs.adj.Adj.add.Goals as goal
+use Rattle.cell_refs.proofs.Positions.{none_passes}
+use Rattle.cell_refs.proofs.adj.Adj.add.Goals as goal
 
 pub returns-clause-ok : goal.returns-clause-ok
 returns-clause-ok c =

@@ -1,6 +1,6 @@
-// Numbers of units of a search.
+// Whole numbers that a text tells in digits, and how many units a search may spend.
 ghost use Rattle.std.specs.Prelude.{◌≡◌, ◌≤◌, IfSome};
-ghost use Rattle.commands.specs.Locating as read;
+ghost use Rattle.cell_refs.specs.Units as read;
 
 /// The greatest number of units that a search may spend.
 pub const MOST_UNITS: u64 = 1_000_000;

@@ -1,6 +1,6 @@
 use Rattle.std.proofs.Common.{◌≢◌, arith, get_or, rules}
-use Rattle.commands.proofs.Numbers.{no_number, number_read}
-use Rattle.commands.proofs.units.number_up_to.Goals as goal
+use Rattle.cell_refs.proofs.Numbers.{no_number, number_read}
+use Rattle.cell_refs.proofs.units.number_up_to.Goals as goal
 
 pub returns-then-number-most-clause-read : goal.returns-then-number-most-clause-read
 returns-then-number-most-clause-read c =

@@ -6,9 +6,11 @@ use Rattle.std.specs.declared.num.ParseIntError.{ParseIntError}
 use Rattle.std.specs.Str.Parse.{ParsesUnsigned, digits_value}
 use Rattle.std.proofs.lemmas.Bool.{cases_Bool, le-leb, leb-false, leb-true, lt-leb, lt-ltb, ltb-true}
 use Rattle.std.proofs.lemmas.Str.Parse.{IsNumeralModel, numerals_by_value, parse_plain, tells_all_ascii_digits}
-use Rattle.commands.specs.Addresses.{is_number}
-use Rattle.commands.specs.Locating.{number_up_to, within}
-use Rattle.commands.proofs.Spelled.{both}
+use Rattle.cell_refs.specs.Units.{is_number, number_up_to, within}
+
+both : (a b : Bool) → (a && b) ≡ true → (a ≡ true) × (b ≡ true)
+both true b h = (refl, h)
+both false b h = absurd (cc h)
 
 -- digits, and the number that they tell
 own : IsNumeralModel (λ ds. all_ascii_digits ds ≡ true) (digits_value 10)

@@ -2,9 +2,9 @@
 ghost use Rattle.std.specs.Prelude.{◌≡◌, ◌≤◌, ◌<◌, ◌++◌, [], ◌∷◌, IfOk, None, OnErr, OnOk, Some, length, position, slice_get};
 ghost use Rattle.std.specs.List.{IsDistinct};
 ghost use Rattle.cell_refs.specs.Cells.{is_same_cell};
-ghost use Rattle.workbook.specs.declared.adj.TheConstants.{DECISIONS};
+ghost use Rattle.cell_refs.specs.declared.adj.TheConstants.{DECISIONS};
 
-use cell_refs::Cell;
+use crate::Cell;
 use indexmap::IndexSet;
 use memory::Memory;
 use std::alloc::Global;
@@ -24,7 +24,7 @@ impl Model for Adj {
     ghost use Rattle.std.specs.Coded.{coded_list};
     ghost use Rattle.cell_refs.specs.declared.cell.Cell.{Cell};
     ghost use Rattle.cell_refs.specs.Cells.{coded_cell};
-    ghost use Rattle.workbook.specs.declared.adj.TheConstants.{DECISIONS};
+    ghost use Rattle.cell_refs.specs.declared.adj.TheConstants.{DECISIONS};
 
     ghost Value = { List Cell };
 
