@@ -8,6 +8,7 @@ pub mod Filled
 pub mod Filling
 pub mod Listing
 pub mod OpenLaws
+pub mod PartsLaws
 pub mod NameRows
 pub mod NextCells
 pub mod Widths

@@ -117,10 +117,10 @@ short_names sheets before (row ∷ rows) all h =
     let k = nowhere (is_long 8192) row rows h in
     short_names sheets (with_name before (name_in sheets row)) rows (short_row sheets before row all k.0) k.1
 
-no_texts : text_count empty ≡ 0
+pub no_texts : text_count empty ≡ 0
 no_texts = sym (len-entries (empty {X = List ℕ} {R = cell_cmp})) ∙ len-empty cell_cmp (List ℕ)
 
-no_formulas : formula_count empty ≡ 0
+pub no_formulas : formula_count empty ≡ 0
 no_formulas = let a = few_formulas (entries (empty {X = List ℕ} {R = cell_cmp})) in let b = no_texts in omega arith
 
 -- there is room for the texts in a workbook without texts

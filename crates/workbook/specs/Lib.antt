@@ -11,6 +11,7 @@ pub mod Scoped
 pub mod Room
 pub mod Gathered
 pub mod Opened
+pub mod Parts
 pub mod Listed
 pub mod Filled
 pub mod Determined

@@ -13,6 +13,7 @@ mod named;
 mod names;
 mod naming;
 mod open;
+mod parts;
 mod renamed;
 mod renaming;
 mod say;

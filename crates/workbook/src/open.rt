@@ -165,8 +165,8 @@ fn names_of(alloc: Global, sheets: &SheetNames, bytes: &[u8]) -> Result<Names, O
     Ok(names)
 }
 
-// The names of the records.
-fn names_in(alloc: Global, sheets: &SheetNames, rows: &Rows) -> Result<Names, OpenFault>
+/// The names of the records.
+pub(crate) fn names_in(alloc: Global, sheets: &SheetNames, rows: &Rows) -> Result<Names, OpenFault>
     requires { length rows.now < 4294967296 }
     ensures { PutsNames sheets.now rows.now result }
 {
@@ -253,8 +253,11 @@ pub fn sheet_in(sheets: &SheetNames, text: &str) -> Option<Option<SheetId>>
     }
 }
 
-// The workbook with all texts in their cells, the last of them first.
-fn with_texts(mut workbook: Workbook, mut texts: Vec<(Cell, Text)>) -> Result<Workbook, Memory>
+/// The workbook with all texts in their cells, the last of them first.
+pub(crate) fn with_texts(
+    mut workbook: Workbook,
+    mut texts: Vec<(Cell, Text)>,
+) -> Result<Workbook, Memory>
     requires { TextsFit workbook texts.items }
     ensures { IfOk result (λ w. w
         ≡ record workbook { contents = put_all texts.items workbook.contents }) }
