@@ -59,13 +59,18 @@ const SHEETS: &[(&str, &str)] = &[
     ("=B1+C1,=D1*2,5,=C1+1\n", "17"),
 ];
 
-// The value that the definition gives to the first cell of a sheet, as a text.
-fn text_by_definition(alloc: Global, sheet: &str) -> Result<String, Fail> {
-    let workbook = open_workbook(alloc, sheet, "", "")?;
-    let value = value_by_definition(alloc, &workbook)?;
+/// The value that the definition gives to the first cell, as a text.
+pub(crate) fn shown_by_definition(alloc: Global, workbook: &Workbook) -> Result<String, Fail> {
+    let value = value_by_definition(alloc, workbook)?;
     let mut text = String::new(alloc);
     show_found(&value, &mut text)?;
     Ok(text)
+}
+
+// What a sheet shows in its first cell.
+fn text_by_definition(alloc: Global, sheet: &str) -> Result<String, Fail> {
+    let workbook = open_workbook(alloc, sheet, "", "")?;
+    shown_by_definition(alloc, &workbook)
 }
 
 #[test]

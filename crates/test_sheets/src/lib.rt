@@ -6,6 +6,8 @@ mod books;
 #[cfg(test)]
 mod definition;
 #[cfg(test)]
+mod parts;
+#[cfg(test)]
 mod texts;
 #[cfg(test)]
 mod tours;
