@@ -24,7 +24,7 @@ module _ (sheets : List (List ℕ)) (texts : List (Cell × List ℕ)) where
   pub empty_room : (names : List Name) (copied : List (List ℕ)) (state : State) → state ≡ start copied names → copied ≡ sheets
       → AreFew texts → All (IsFieldText sheets) texts → TextsFit state texts
   empty_room names copied state is same few fields = subst (λ s. TextsFit s texts) (sym (is ∙ ap (λ l. start l names) same)) (record {
-    room = let a = no_texts in let b = few.texts in omega arith;
+    room = let a = no_texts in let b = few.cells in omega arith;
     formulas = let a = no_formulas in let b = few.formulas in omega arith;
     fields = fields;
   })

@@ -13,7 +13,7 @@ use Rattle.workbook.specs.State.{State}
 
 -- there are not too many texts and formulas
 pub record AreFew (texts : List (Cell × List ℕ)) : Type 0 where
-  pub texts : length texts ≤ TEXTS
+  pub cells : length texts ≤ TEXTS
   pub formulas : length (formulas_in texts) ≤ FORMULAS
 
 abbrev pub IsMadeOf : List (List ℕ) → List (Cell × List ℕ) → List Record → Result State OpenFault → Type 0

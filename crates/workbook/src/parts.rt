@@ -1,5 +1,5 @@
 // Making a workbook of its parts.
-ghost use Rattle.std.specs.Prelude.{◌≡◌, ◌<◌, All, None};
+ghost use Rattle.std.specs.Prelude.{◌≡◌, ◌<◌, All, None, length};
 ghost use Rattle.cell_refs.specs.declared.limits.TheConstants.{TEXT_BYTES};
 ghost use Rattle.sheet_csv.specs.Sheet.{first_long};
 ghost use Rattle.workbook.specs.Gathered.{IsFieldText};
