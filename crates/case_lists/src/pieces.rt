@@ -93,7 +93,7 @@ fn push_times(alloc: Global, text: &str, to: &mut Vec<u8>) -> Result<bool, Alloc
     Ok(is_spelled)
 }
 
-// The same, where each time its number, from 0, stands in the place of `#`.
+// Adds such bytes, where each time its number, from 0, stands in the place of `#` in the text.
 fn push_numbered(alloc: Global, text: &str, to: &mut Vec<u8>) -> Result<bool, AllocError> {
     let Some((count, text)) = counted(text) else {
         return Ok(false);

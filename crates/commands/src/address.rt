@@ -49,7 +49,7 @@ pub(crate) fn is_place(text: &str) -> bool
     has_letters_and_digits(text.as_bytes())
 }
 
-// The same of its bytes.
+// Whether the bytes are letters and digits, at least one of each, with dollar signs before them or none.
 fn has_letters_and_digits(text: &[u8]) -> bool
     ensures { result ≡ is_place text.now }
 {

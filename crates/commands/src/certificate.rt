@@ -12,6 +12,7 @@ pub(crate) fn say_certificate(cert: &Cert, to: &mut String) -> Result<(), Memory
         ≡ string_bytes to.old ++ certificate_text cert.now) }
     ensures reads_back { OnOk result (IsReadWhere cert.now) }
 {
+    // (this call lends the proof that the nodes list one tree)
     let _nodes = cert.tree.nodes();
     let mut text = String::new(*to.allocator());
     write_cert(&cert.tree, &cert.claim, cert.value, &mut text)?;

@@ -21,7 +21,7 @@ pub(crate) fn sheet_before(sheets: &SheetNames, text: &str) -> Option<Option<She
     sheet_in_quotes(sheets, name.as_bytes())
 }
 
-// The same of a text that is no word.
+// The sheet whose name stands in single quotes before an address.
 #[tactic(auto, using(crate::proofs::Naming::closed_name, crate::proofs::Naming::open_name, crate::proofs::Naming::no_quotes))]
 fn sheet_in_quotes(sheets: &SheetNames, text: &[u8]) -> Option<Option<SheetId>>
     ensures place { option_map (option_map (λ s. s.0)) result

@@ -136,7 +136,7 @@ impl Deps {
         Ok(tour)
     }
 
-    /// The same where those alone are wanted to which references lead from a cell. What else they lead to may be there as well.
+    /// A tour where those formula cells alone are wanted to which references lead from a cell. Others may be in it as well.
     pub fn tour_from(&self, leaves: &CellSet, from: Cell) -> Result<Tour, Memory>
         ensures circular { IfOk result (λ t. (book : Book) → AreReferencesOf self.now book
             → HasCircular book (set.contains leaves.now)

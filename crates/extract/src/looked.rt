@@ -41,7 +41,7 @@ pub fn looked_at(
     }
 }
 
-// The same of a formula cell that isn't to be decided, or of a side.
+// The cells at which a formula cell that isn't to be decided looks, or a side.
 fn looked_from(
     alloc: Global,
     book: &Workbook,

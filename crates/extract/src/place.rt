@@ -47,7 +47,7 @@ pub fn form_of<L: Ledger>(
     Ok(form)
 }
 
-// The same without a count.
+// The form of such a place, uncounted.
 #[tactic(auto, using(crate::proofs::Placing::decided_is))]
 fn place_form(
     alloc: Global,

@@ -21,7 +21,7 @@ pub(crate) struct SideAreas {
     pub(crate) areas: Vec<Area>,
 }
 
-/// Those of some sides.
+/// The areas to which some sides refer, with their numbers.
 pub(crate) fn areas_of(alloc: Global, sides: &[(u16, Expr)]) -> Result<Vec<SideAreas>, Memory>
     ensures { IfOk result (λ found. AreAreasOf found.items sides.now) }
 {
@@ -61,7 +61,7 @@ pub(crate) fn take_sides(sides: &[SideAreas], cells: &[Cell], table: &mut FormTa
     }
 }
 
-// Takes that of a side, if it refers to one of them.
+// Takes the form of a side out of a table, if it refers to one of some cells.
 fn take_side(side: &SideAreas, cells: &[Cell], table: &mut FormTable)
     ensures { table.new ≡ (if have_one side.now.areas.items cells.now
         then without table.old (place.Side side.now.number) else table.old) }

@@ -73,7 +73,7 @@ fn set_of(alloc: Global, cells: &[Cell]) -> Result<CellSet, Memory>
     Ok(found)
 }
 
-// The same by the circular cells, and an order of the others.
+// Makes the forms of all stale places, by the circular cells and an order of the others.
 fn settle_places<L: Ledger>(
     alloc: Global,
     book: &Workbook,
@@ -102,7 +102,7 @@ fn settle_places<L: Ledger>(
     Ok(())
 }
 
-// Those of the cells.
+// Makes the forms of all stale cells.
 fn settle_cells<L: Ledger>(
     alloc: Global,
     book: &Workbook,
@@ -134,7 +134,7 @@ fn settle_cells<L: Ledger>(
     Ok(())
 }
 
-// Those of circular cells, which are no steps.
+// Makes the forms of stale circular cells, which are no steps.
 fn settle_circular(
     book: &Workbook,
     adj: &Adj,
@@ -157,7 +157,7 @@ fn settle_circular(
     Ok(())
 }
 
-// That of a circular cell.
+// Makes the form of a circular cell, if it is stale.
 fn settle_circular_cell(
     book: &Workbook,
     adj: &Adj,
@@ -179,7 +179,7 @@ fn settle_circular_cell(
     keep(book, adj, sides, place, CellForm::Circular, table)
 }
 
-// Those of cells in an order.
+// Makes the forms of stale cells in an order.
 fn settle_order<L: Ledger>(
     alloc: Global,
     book: &Workbook,
@@ -209,7 +209,7 @@ fn settle_order<L: Ledger>(
     Ok(())
 }
 
-// That of a cell, where those have theirs to which it refers.
+// Makes the form of a cell, if it is stale, where those have theirs to which it refers.
 fn settle_cell<L: Ledger>(
     alloc: Global,
     book: &Workbook,
@@ -249,7 +249,7 @@ fn settle_cell<L: Ledger>(
     extract_stale(alloc, book, adj, sides, place, tree, table, steps)
 }
 
-// Those of sides, where all cells have theirs.
+// Makes the forms of stale sides, where all cells have theirs.
 fn settle_sides<L: Ledger>(
     alloc: Global,
     book: &Workbook,
@@ -282,7 +282,7 @@ fn settle_sides<L: Ledger>(
     Ok(())
 }
 
-// That of a side. One that refers to a circular cell is no step.
+// Makes the form of a side, if it is stale. One that refers to a circular cell is no step.
 fn settle_side<L: Ledger>(
     alloc: Global,
     book: &Workbook,

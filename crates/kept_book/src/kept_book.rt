@@ -96,6 +96,7 @@ impl KeptBook {
     pub fn forms_are_right(&self)
         ensures { AreRight (book_of self.now.book) (all_forms self.now.tables) }
     {
+        // (this reading lends the proof of what holds of all that is kept)
         let _book = self.book.sheets();
     }
 

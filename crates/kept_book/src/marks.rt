@@ -69,7 +69,7 @@ fn written<'a>(decisions: &'a [Cell], answer: &Answer) -> &'a [Cell]
     &[]
 }
 
-/// The same after a search, which has edited the cells to be decided where it has found an optimum, and else none.
+/// Follows what a search has edited: the cells to be decided where it has found an optimum, and else none.
 pub(crate) fn follow_answer(
     references: &mut Option<Deps>,
     tables: &mut FormTables,

@@ -84,6 +84,7 @@ impl FormTables {
     pub fn are_tables(&self)
         ensures { AreTables self.now }
     {
+        // (reading a field lends the proof of what holds of all such tables)
         let _count = self.tables.len();
     }
 

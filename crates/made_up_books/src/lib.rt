@@ -1,4 +1,9 @@
 //! Workbooks that are made up, of a size that is given.
+//! The main call is `made_up`. For a size from 1 to 12 it makes one sheet `gen`, on which so many suppliers send goods to as many places,
+//! and the names of Excel's Solver that ask for the least cost. `first_numbers` and `first_names` are examples.
+//! Below it stands `workbook`, whose `open`, `set` and `name` it calls. Above it stands `opensolver_cli`, which solves such a workbook.
+//! It is a transportation problem, a standard one of linear programming. The draws are those of the example of `rand` in the C standard,
+//! from seed 1; what is made of them is the program's own.
 #![tactic(auto)]
 
 mod cells;

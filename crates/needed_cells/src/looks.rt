@@ -36,7 +36,7 @@ pub(crate) fn looks_of(alloc: Global, sheet: &Sheet, place: Place) -> Result<Vec
     }
 }
 
-// Those of a place with this tree: of a plain one all cells to which it refers, which are known without its form.
+// The cells at which a place with this tree looks: of a plain one all to which it refers, which are known without its form.
 fn looks_through(
     alloc: Global,
     sheet: &Sheet,
@@ -57,7 +57,7 @@ fn looks_through(
     looks_from(alloc, sheet, place, tree)
 }
 
-// Those of a place with any tree.
+// The cells at which a place with any tree looks.
 fn looks_from(alloc: Global, sheet: &Sheet, place: Place, tree: &Expr) -> Result<Vec<Cell>, Memory>
     requires settled { IsSettled
         (book_of sheet.now.book.now) sheet.now.sides.now sheet.now.adj.now sheet.now.forms.now }
@@ -88,7 +88,7 @@ fn tree_at<'a>(sheet: &Sheet<'a>, place: Place) -> Option<&'a Expr>
     }
 }
 
-// That of a formula cell that isn't to be decided.
+// The tree of a formula cell that isn't to be decided.
 fn tree_in<'a>(book: &'a Workbook, adj: &Adj, cell: Cell) -> Option<&'a Expr>
     ensures { option_map (λ t. t.now) result
         ≡ unless_decided (numbered_in adj.now cell) (tree_said (entry (book_of book.now) cell)) }
@@ -99,7 +99,7 @@ fn tree_in<'a>(book: &'a Workbook, adj: &Adj, cell: Cell) -> Option<&'a Expr>
     }
 }
 
-// That of a side, the first of its number.
+// The tree of a side, the first of its number.
 fn tree_of(sides: &[(u16, Expr)], number: u16) -> Option<&Expr>
     ensures { option_map (λ t. t.now) result ≡ tree_of sides.now number }
 {

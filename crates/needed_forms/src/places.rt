@@ -46,7 +46,7 @@ fn places_of(alloc: Global, cells: &[Cell]) -> Result<Vec<Place>, Memory>
     Ok(cells.iter().map(|cell| Place::Cell(*cell)).collect(alloc)?)
 }
 
-// The same places and the sides among others.
+// These places, and behind them the sides among some others.
 fn with_sides(mut places: Vec<Place>, roots: &[Place]) -> Result<Vec<Place>, Memory>
     ensures { IfOk result (λ all. all.items ≡ places.items ++ filter is_side roots.now) }
 {

@@ -60,7 +60,7 @@ pub(crate) fn answer_records<F: Folder, K: Sink>(
     answer_counted::<F, K, Brand>(alloc, beginning, job, rows, folder, out, pick)
 }
 
-// The same with the counter's beginning.
+// Answers the records of a script, with what the counter of forms begins with.
 fn answer_counted<F: Folder, K: Sink, L: Ledger>(
     alloc: Global,
     of: Beginning,
@@ -172,7 +172,7 @@ fn answer_record<F: Folder, K: Sink, L: Ledger>(
     answer_command(alloc, session, job, &command, folder, out, pick)
 }
 
-// The same of the command that a record spells.
+// Does the command that a record spells, and prints the answer.
 fn answer_command<F: Folder, K: Sink, L: Ledger>(
     alloc: Global,
     session: &mut CountedSession<L>,

@@ -53,7 +53,7 @@ fn answer_to(alloc: Global, size: u8, pick: &mut Box<dyn Picker>) -> Result<(Str
     answer_counted::<Brand>(alloc, Blank::new(1), size, pick)
 }
 
-// The same with the counter's beginning.
+// The line and whether it is a refusal, with what the counter of forms begins with.
 fn answer_counted<L: Ledger>(
     alloc: Global,
     blank: Blank,
@@ -73,7 +73,7 @@ fn answer_counted<L: Ledger>(
     answer_over(alloc, size, &mut session, pick)
 }
 
-// The same over the session that was opened.
+// The line and whether it is a refusal, over the session that was opened.
 fn answer_over<L: Ledger>(
     alloc: Global,
     size: u8,
@@ -87,7 +87,7 @@ fn answer_over<L: Ledger>(
     answer_command(alloc, size, &command, session, pick)
 }
 
-// The same of the command to solve the sheet.
+// The line and whether it is a refusal, by the command to solve the sheet.
 fn answer_command<L: Ledger>(
     alloc: Global,
     size: u8,

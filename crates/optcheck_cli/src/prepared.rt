@@ -30,7 +30,7 @@ pub(crate) fn prepare_first(alloc: Global, book: &Workbook) -> Result<Prepared, 
     prepare_linked(alloc, &linked)
 }
 
-// The same with the references of the workbook.
+// The linear model of the first sheet, over the references of the workbook.
 fn prepare_linked(alloc: Global, linked: &Linked<'_>) -> Result<Prepared, NoModel>
     requires some { 0 < length linked.now.book.now.sheets }
     requires references { AreReferencesOf linked.now.deps.now (book_of linked.now.book.now) }
@@ -53,7 +53,7 @@ struct Counter {
     blank: Blank,
 }
 
-// The same with the counter's beginning.
+// The linear model of the first sheet, with what the counter of forms begins with.
 fn prepare_counted<L: Ledger>(counter: Counter, linked: &Linked<'_>) -> Result<Prepared, NoModel>
     requires name { counter.blank.name ≡ L.name }
     requires parts { counter.blank.parts ≡ L.parts }

@@ -97,7 +97,7 @@ fn yes_line(alloc: Global, claim: &Claim, value: Option<Frac>) -> Result<String,
     }
 }
 
-// The same of an optimal point.
+// `yes optimal`, and the value where there is one.
 fn optimal_line(alloc: Global, value: Option<Frac>) -> Result<String, Memory>
     ensures { IfOk result (λ t. (a : List ℚ) → string_bytes t ≡ yes_line (optimal a) value) }
 {

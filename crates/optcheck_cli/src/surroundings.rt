@@ -64,7 +64,7 @@ pub fn check_surroundings<R: Runtime + AllocGlobal>(
     real_surroundings(rt).map_err(|_| exit_code(CheckStatus::Memory))
 }
 
-// The same; an `Err` is want of memory.
+// The words and the real folder and output; an `Err` is want of memory.
 fn real_surroundings<R: Runtime + AllocGlobal>(
     rt: R,
 ) -> Result<CheckSurroundings<DirFolder<R>, OutSink<R>>, AllocError>

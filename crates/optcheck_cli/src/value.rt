@@ -29,7 +29,7 @@ pub(crate) fn judge_value(alloc: Global, of: &Prepared, cert: &Cert) -> Result<V
     }
 }
 
-// The same of an optimal point.
+// What is found of the value of a claimed optimal point.
 fn judge_point(
     alloc: Global,
     of: &Prepared,
@@ -40,6 +40,7 @@ fn judge_point(
     ensures { IfOk result (ValueJudged of.now.model of.now.statement.objective
         (goal_of of.now.statement.goal) (optimal point.now) value) }
 {
+    // (this call lends the proof that the model is valid)
     let _marks = of.model.whole();
     let wanted = of.model.greatest_form(alloc, false)?;
     match wanted.eval(point) {

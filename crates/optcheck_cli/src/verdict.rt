@@ -47,7 +47,7 @@ pub(crate) fn judge(alloc: Global, book: &Workbook, cert: &Cert) -> Result<Verdi
     }
 }
 
-// The same over the sheet's linear model.
+// What is found of a certificate over the sheet's linear model.
 fn judge_over(alloc: Global, of: &Prepared, cert: &Cert) -> Result<Verdict, Memory>
     ensures judges { IfOk result (λ v. (book : State) (c : Certificate)
         → IsPrepared book 0 (prepared_of of.now)

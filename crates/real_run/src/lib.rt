@@ -1,5 +1,10 @@
-//! The run of the program, with the pickers that it has, and the number in which the program ends: over surroundings that are made here, and
-//! over words and handles that are handed in.
+//! The run of the program, with the pickers that it has, and the number in which the program ends: over surroundings that are made here,
+//! and over words and handles that are handed in.
+//! `here` makes the `Surroundings`: the words of the command line, the working directory, standard input and standard output. `run_here`
+//! runs over such a value, and `run_for_real` over words and handles that are given.
+//! Below it stands `opensolver_cli`, whose `run` it calls with a picker of each rule. Above it stand the program `opensolver`, and
+//! `answers`, which runs cases.
+//! Which number tells which end is the program's own rule (docs/FORMATS.md).
 #![tactic(auto)]
 
 mod surroundings;

@@ -67,7 +67,7 @@ pub fn here<R: Runtime + AllocGlobal>(
     real_surroundings(rt).map_err(|_| exit_code(Status::Memory))
 }
 
-// The same; an `Err` is want of memory.
+// The words and the real folder, input and output; an `Err` is want of memory.
 fn real_surroundings<R: Runtime + AllocGlobal>(
     rt: R,
 ) -> Result<Surroundings<DirFolder<R>, InSource<R>, OutSink<R>>, AllocError>

@@ -68,7 +68,7 @@ impl Places {
     }
 }
 
-// The same of the cells of one sheet.
+// A number for each cell of one sheet, found by its row and its column.
 #[derive(Drop)]
 struct SheetPlaces {
     rows: Vec<RowPlaces>,
@@ -113,7 +113,7 @@ impl SheetPlaces {
     }
 }
 
-/// The same of the cells of one row.
+/// A number for each cell of one row, found by its column.
 #[derive(Drop)]
 pub(crate) struct RowPlaces {
     places: Vec<u32>,

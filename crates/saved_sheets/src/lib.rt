@@ -1,4 +1,8 @@
 //! The bytes under which the sheets and the names of a workbook are saved.
+//! `sheet_file` gives the bytes of a sheet's file, and `names_file` the bytes of the file of names. `sheet_rows` gives the records of a
+//! sheet. Both contracts say what comes of it when such a file is read back.
+//! Below it stands `workbook`, which has the texts and the names. Above it stands `session`, whose command to save asks for these bytes.
+//! A file is CSV as the `csv` crate reads it. Which empty fields are written is the program's own rule.
 #![tactic(auto)]
 
 ghost use Rattle.std.specs.Prelude.{◌≡◌, ◌<◌, IfOk, OnOk, length};

@@ -20,8 +20,10 @@ pub fn run_whole(
     ensures answered { IfOk result (IsAnswerOf search.new) }
     ensures rule { rule pick.new ≡ rule pick.old }
 {
+    // (this call lends the proof that the model is valid)
     let _valid = search.model().whole();
     let run = search.run(budget, pick);
+    // (this call lends the proof that units and state are those of a trail of the model)
     let _trail = search.units();
     run
 }

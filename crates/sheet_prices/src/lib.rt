@@ -1,5 +1,9 @@
-//! The prices of the rows of a sheet, and what they say of it: with the right side of one row moved within the range of its price, the
-//! best value moves by so many times the price (Chvátal, Linear Programming, chapters 5 and 10).
+//! The prices of the rows of a sheet, and what they say of it: with the right side of one row moved within the range of its price, the best
+//! value moves by so many times the price.
+//! The main call is `price_rows`, over what `prepare` of `sheet_linear_model` has made. It refuses a sheet without an objective that is to
+//! be greatest or least, and one with a cell that is to be whole. The laws say that prices of the model are prices of the sheet.
+//! Below it stand `sheet_linear_model` and `sensitivity`, which finds the prices of a model. Above it stands `session`.
+//! Chvátal, Linear Programming, has prices as dual variables in chapter 5, and their ranges in chapter 10.
 #![tactic(auto)]
 
 ghost use Rattle.sheet_prices.specs.Examples.{RaisedRightsHold};

@@ -1,5 +1,10 @@
 //! The problem that the names of a sheet state, as recalculation has it, and that it is the problem of the linear model of its forms.
-//! This crate has the definitions and their laws.
+//! This crate has the definitions and their laws, and no code that runs. `worth_laws` says that the numbers of the decision cells determine
+//! what each place is worth; `model_laws` says that the sheet and its linear model are one problem.
+//! Below it stand `solver_names` (the statement), `form_extraction` (what a form is) and `linear_models`. Above it stand `form_needs`,
+//! `statement_laws`, `model_building`, `kept_tables` and `parameter_problems`.
+//! What a row, a goal and an optimum are comes from `optimality`. How the names of Excel's Solver state a problem is written in
+//! docs/FORMATS.md.
 #![tactic(auto)]
 
 ghost use Rattle.sheet_problems.specs.Examples.{WorthsHold};

@@ -1,4 +1,10 @@
 //! The model of a sheet solved by a search, and its optimum written back.
+//! The main type is `OpenSearch`, a search that can be cut and gone on with. `slice` spends units of it, reads its end and writes an
+//! optimum; `solve` begins one and spends its whole budget.
+//! Below it stand `sheet_linear_model`, which makes the model, `branch_bound`, which searches, and `write_back`. Above it stand `kept_book`
+//! and `sheet_finding`.
+//! The search is branch and bound over the simplex method (Chvátal, Linear Programming, chapters 2 and 3). Units and budgets are the
+//! program's own.
 #![tactic(auto)]
 
 mod open_search;

@@ -46,8 +46,10 @@ fn go_on(
     ensures rule { rule pick.new ≡ rule pick.old }
 {
     search.set_budget(allowed.budget);
+    // (this call lends the proof that the model is valid)
     let _valid = search.model().whole();
     let run = search.run(allowed.units, pick);
+    // (this call lends the proof that units and state are those of a trail of the model)
     let _trail = search.units();
     match run {
         Ok(progress) => Ok(answer_in(progress)),
@@ -73,7 +75,9 @@ pub(crate) fn spend(
     ensures few { IsBounded search.old.model → search.new.units < enough_for search.old.model }
     ensures rule { rule pick.new ≡ rule pick.old }
 {
+    // (this call lends the proof that the model is valid)
     let _valid = search.model().whole();
+    // (this call lends the proof that units and state are those of a trail of the model)
     let _trail = search.units();
     match end {
         Some(answer) => Ok(Some(answer)),

@@ -102,6 +102,7 @@ impl Cells {
     {
         let mut areas = self.areas;
         let mut by_top = self.by_top;
+        // (this call lends the proof that the number of the area's sheet is below 256)
         let _sheet = sheet_number(area);
         let place = place_among(&by_top, area.top());
         areas.push(area)?;

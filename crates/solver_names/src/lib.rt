@@ -1,4 +1,10 @@
-//! What the Solver's names of a sheet state: the cells to be decided, what is wanted, and the rows.
+//! What the Solver's names of a sheet state: the cells to be decided, what is wanted of the objective, and the rows.
+//! The main call is `statement`. It reads the names of a sheet, and answers with the `Statement` that they make or with the first fault in
+//! them. Each row is a `RowOf`: a cell on the left, a relation, and a place on the right. `side_trees` gives the trees of the right sides
+//! that are expressions.
+//! Below it stand `workbook`, which has the names with their texts, and `optimality`, which has goals and relations. Above it stands
+//! `sheet_problems`.
+//! The names are those of Excel's Solver (docs/FORMATS.md). The order of faults and the limits are the program's own.
 #![tactic(auto)]
 
 mod cells;

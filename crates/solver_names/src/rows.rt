@@ -30,6 +30,7 @@ fn rows_in(constraint: &Constraint) -> u32
     let Said::Says(left) = &constraint.left else {
         return 0;
     };
+    // (this call lends the proof that the area lies within the rows and columns of a sheet)
     let _top = left.top();
     left.len()
 }

@@ -24,6 +24,7 @@ impl Workbook {
         ensures short { IfOk result (λ _. All IsShort self.now.names) }
     {
         let alloc = self.alloc();
+        // (this call lends the proof that the names are short)
         let _names = self.names();
         let given = Given {
             sheet_text: String::from_str(alloc, self.spelling(sheet))?,
@@ -53,6 +54,7 @@ impl Workbook {
             ≡ without (option_map (λ s. s.0) sheet) name.now self.now.names) }
         ensures short { IfOk result (λ _. All IsShort self.now.names) }
     {
+        // (this call lends the proof that the names are short)
         let _names = self.names();
         Ok(Change {
             sheet,

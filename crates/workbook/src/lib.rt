@@ -1,4 +1,11 @@
 //! Workbooks: the texts of cells, the names, and what the texts say.
+//! The main type is `Workbook`, which has the sheets, the texts of their cells, and the names. `Workbook::open` reads it from the files, or
+//! answers with the first fault in a stated order. `set`, `set_all` and `clear` edit cells, `name` and `unname` edit names; after a fault
+//! nothing has changed. `content`, `kind` and `tree` tell what a cell has, and `text_of` the text of a name.
+//! Below it stand `sheet_csv` (records of files), `formula_parser` (trees of formulas) and `recalculation` (what cells are worth). Above it
+//! stand `solver_names`, `dep_table`, `write_back`, `saved_sheets`, `made_up_books`, `run_inputs` and `text_laws`.
+//! Formulas are those of OpenFormula (OpenDocument 1.2 part 2, section 5), and files are CSV as the `csv` crate reads it. The file of
+//! names, the kinds of constants and the order of faults are the program's own (docs/FORMATS.md).
 #![tactic(auto)]
 
 mod asked;

@@ -86,7 +86,7 @@ fn text_of<'a>(
     text_in(alloc, scope.names, sheet, name)
 }
 
-// The same among some names.
+// The text of a name among some names, with no edit of them.
 fn text_in<'a>(
     alloc: Global,
     names: &'a Names,

@@ -261,6 +261,7 @@ fn remove_key(names: &mut IndexMap<Key, Name>, key: &Key)
     ensures entries { names.new.entries ≡ shift_remove_entry (is_key key.now) names.old.entries }
     ensures unique { IsDistinct is_key (keys_of names.old.entries) }
 {
+    // (this call lends the proof that the keys are distinct)
     let _count = names.len();
     drop(names.shift_remove(key));
 }

@@ -42,7 +42,7 @@ pub(crate) fn with_names(alloc: Global, scope: &Scope, expr: &Expr) -> Result<Op
     }
 }
 
-// The same in a box.
+// A formula with what names stand for in their places, in a box.
 #[cycle(naming)]
 fn box_with_names(alloc: Global, scope: &Scope, expr: &Expr) -> Result<Option<Box<Expr>>, Memory>
     requires listed { scope.now.home.0 < length scope.now.sheets.now }
@@ -59,7 +59,7 @@ fn box_with_names(alloc: Global, scope: &Scope, expr: &Expr) -> Result<Option<Bo
     Ok(Some(Box::new(alloc, made)?))
 }
 
-// The same of some parts.
+// Some parts, each with what names stand for in their places.
 #[cycle(naming)]
 fn all_named(
     alloc: Global,

@@ -101,7 +101,7 @@ fn resaid_at(
     }
 }
 
-// The same of a text.
+// What a text says after the edit, if that is something else.
 fn saying_after(alloc: Global, edit: &Edit, cell: Cell, held: &Held) -> Result<Option<Said>, Memory>
     requires held { IsHeld edit.now.sheets.now edit.now.before.now cell held.now }
     requires others { OthersStay edit.now.name.now edit.now.before.now (names_with edit.now) }

@@ -65,7 +65,7 @@ fn say(
     Ok((None, constant(text)))
 }
 
-// The same of a formula's text.
+// What a formula's text says, and its tree as it is spelled where names stand in it.
 fn formula(
     alloc: Global,
     scope: &Scope,

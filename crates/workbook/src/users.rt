@@ -100,7 +100,7 @@ fn add_uses(alloc: Global, users: &mut Users, expr: &Expr, cell: Cell) -> Result
     }
 }
 
-// The same of some parts.
+// Adds a cell to the users of each name that stands in some parts of a formula.
 #[cycle(adding)]
 fn add_all_uses(alloc: Global, users: &mut Users, exprs: &[Expr], cell: Cell) -> Result<(), Memory>
     ensures known { OnOk result (KnowsAllUses users.new cell (trees exprs.now)) }

@@ -21,7 +21,7 @@ pub(crate) fn uses(expr: &Expr, wanted: Option<&str>) -> bool
     }
 }
 
-// The same of some parts.
+// Whether the wanted name stands in one of some parts; of no wanted name, whether any stands there.
 #[cycle(using_names)]
 fn one_uses(exprs: &[Expr], wanted: Option<&str>) -> bool
     ensures { result
@@ -62,7 +62,7 @@ pub(crate) fn names_nothing(expr: &Expr) -> bool
     }
 }
 
-// The same of some parts.
+// Whether neither a name nor a call of an unknown function stands in any of some parts.
 #[cycle(naming_nothing)]
 fn name_nothing(exprs: &[Expr]) -> bool
     ensures { result ≡ name_nothing (trees exprs.now) }

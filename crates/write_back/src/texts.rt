@@ -32,6 +32,7 @@ fn text_of(alloc: Global, number: Frac) -> Result<String, Memory>
     ensures field { IfOk result (λ text. IsField (string_bytes text)) }
     ensures narrow { IsNarrow number }
 {
+    // (this call lends the proof that the number is narrow)
     let _num = number.num();
     let text = text_for_cell(alloc, number)?;
     Ok(text)

@@ -9,6 +9,7 @@ impl Workbook {
     pub fn texts_are_listed(&self)
         ensures { TextsAreListed self.now }
     {
+        // (reading a field lends the proof of what holds of every workbook)
         let _formulas = self.formulas;
     }
 
@@ -16,6 +17,7 @@ impl Workbook {
     pub fn texts_are_some(&self)
         ensures { TextsAreSome self.now }
     {
+        // (reading a field lends the proof of what holds of every workbook)
         let _formulas = self.formulas;
     }
 }
