@@ -1,6 +1,6 @@
 //! What is true of texts: of the token in front of one, of the area that one names, of what a cell's text and a name's say, and how large
 //! all may be.
-//! This crate has laws alone, each a function without a body whose contract is the law: `longest_token_is_cut`, `references_are_spelled`,
+//! This crate has laws alone, each a function with an empty body whose contract is the law: `longest_token_is_cut`, `references_are_spelled`,
 //! `texts_say`, `names_stand_for`, `limits_are` and others. They say by cases what the definitions of lower crates say step by step.
 //! Below it stands `workbook`. Nothing stands above it.
 //! Tokens, references and what texts say follow OpenFormula (OpenDocument 1.2 part 2, sections 3.2 and 5). The limits are the program's
